@@ -34,7 +34,7 @@ extern "C" {
 
 /* The version of this header: 10,000 times the major number, 100 times the minor one, and the patch. A library of the same major number and of this or a later
  * minor one has all that is declared here: see docs/C.md, "What stays". */
-#define BAC_VERSION 10400
+#define BAC_VERSION 10500
 
 /* The version of the library that is linked. */
 uint32_t bac_version(void);
@@ -87,14 +87,16 @@ typedef struct bac_settings {
                               true: a read whose reply is one APDU is performed each time that it comes, and takes no slot; another request ends the kept reply
                               and is performed. A write that equals the last request under its invoke ID, within 65,000 ms, is a repeat: it gets the old answer
                               and is not performed again */
-    uint8_t later[7];      /* 0: room for members of later versions */
+    uint8_t later[3];      /* 0: room for members of later versions */
+    uint32_t memory;       /* how many octets of requests and replies it keeps for those that ask it, 65,540 and more; 0: 67,108,864. A request needs room for
+                              65,539 octets beside its own: one for which there is none is not heard, and bac_on answers BAC_NO_MEMORY */
 } bac_settings;
 
 /* APDUs of 1476 octets, any number of segments, windows of 32, 64 slots at each end (64 asks in 135,000 ms, 64 requests in 65,000), at that link; clients may
- * not use an invoke ID again. */
+ * not use an invoke ID again, and it keeps up to 64 MiB. */
 #define BAC_SETTINGS(a, b, c, d, port_high, port_low) \
     { sizeof(bac_settings), { (uint8_t)(a), (uint8_t)(b), (uint8_t)(c), (uint8_t)(d), (uint8_t)(port_high), (uint8_t)(port_low) }, \
-      5, true, 7, 32, 64, 64, false, { 0 } }
+      5, true, 7, 32, 64, 64, false, { 0 }, 0 }
 
 /* Whom a node asks, and what that takes; codes as above. */
 typedef struct bac_target {

@@ -674,6 +674,27 @@ static int reuse_rows(bac_node *node)
     return 0;
 }
 
+/* a node that may keep just so many octets hears a request where there is room for its own 7 and for 65,539 beside them, and no other */
+static int memory_rows(bac_node *node)
+{
+    bac_settings s = BAC_SETTINGS(127, 0, 0, 1, 0xBA, 0xC0);
+    HOLDS(s.memory == 0);
+    s.memory = 65539;
+    CALL(BAC_OK, bac_open(node));
+    CALL(BAC_BAD_SETTINGS, bac_start_house(node, &s));
+    s.memory = 65545;
+    CALL(BAC_OK, bac_start_house(node, &s));
+    CALL(BAC_NO_MEMORY, bac_on(node, 1, THERE, QUESTION, sizeof QUESTION));
+    HOLDS(bac_live(node, 1) == 0);
+    bac_close(node);
+    s.memory = 65546;
+    CALL(BAC_OK, bac_open(node));
+    CALL(BAC_OK, bac_start_house(node, &s));
+    if (answers(node, QUESTION, sizeof QUESTION, FLOW, sizeof FLOW, 12)) { return 1; }
+    bac_close(node);
+    return 0;
+}
+
 /* the datagrams of a call go over, and what they are answered comes back, turn by turn, until the ask has ended */
 static int carry(bac_node *client, bac_node *server, uint64_t now)
 {
@@ -783,7 +804,7 @@ static int rows(bac_node *client, bac_node *server)
 {
     if (name_rows() || described_rows(client) || limited_rows(client)) { return 1; }
     if (allowed_rows(client) || refused_rows(client) || long_rows(client)) { return 1; }
-    if (edge_rows(client) || value_rows(client) || restarted_rows(client) || limit_rows(client) || reuse_rows(client)) { return 1; }
+    if (edge_rows(client) || value_rows(client) || restarted_rows(client) || limit_rows(client) || reuse_rows(client) || memory_rows(client)) { return 1; }
     if (closed_rows(client) || house_rows(client) || own_rows(server) || ask_rows(client, server)) { return 1; }
     bac_close(client);
     return closed_rows(client);

@@ -1,5 +1,5 @@
 -- How a node is started.
-use Rattle.std.specs.Prelude.{◌≡◌, ℕ, Bool, ◌==◌, ◌&&◌, IsTrue, List, [], ◌∷◌, Option, Some, MatchOption, map}
+use Rattle.std.specs.Prelude.{◌≡◌, ℕ, Bool, ◌==◌, ◌&&◌, ◌||◌, if◌then◌else◌, nat_le, IsTrue, List, [], ◌∷◌, Option, Some, MatchOption, map}
 use Rattle.std.specs.List.{list_all}
 use Rattle.bac_apdu.specs.Spelling.{codes_fit}
 use Rattle.bac_store.specs.Described.{AreDescribed, IsDescribedBy}
@@ -12,6 +12,7 @@ use Rattle.bac_store.specs.Views.{object_view}
 use Rattle.bac_world.specs.Node.{Node}
 use Rattle.bac_node.specs.Fresh.{fresh_node, large_slots_fit, made_node, window_fits}
 use Rattle.bac_node.specs.declared.config.Config.{Config}
+use Rattle.bac_node.specs.declared.memory.TheConstants.{MEMORY}
 use Rattle.bac_c.specs.Devices.{IsIdle}
 use Rattle.bac_c.specs.declared.device.Device.{Device}
 use Rattle.bac_c.specs.declared.records.Settings.{Settings}
@@ -28,9 +29,17 @@ IsBad objects = IsRefused objects store_fault.BadObject
 abbrev pub are_zeros : List ℕ → Bool
 are_zeros later = list_all (λ octet. octet == 0) later
 
+-- how many octets a node may keep by that member: 64 MiB where it is 0
+abbrev pub memory_of : (memory : ℕ) → ℕ
+memory_of memory = if memory == 0 then MEMORY else memory
+
+-- enough for a request, which needs room for 65,539 octets beside its own
+abbrev pub memory_fits : (memory : ℕ) → Bool
+memory_fits memory = (memory == 0) || nat_le 65540 memory
+
 -- the settings are of this version, and each number is in its range
 abbrev pub is_right : Settings → Bool
-is_right s = (s.size == settings.SETTINGS_SIZE) && are_zeros s.later && window_fits s.window && large_slots_fit s.client_slots && large_slots_fit s.reply_slots && codes_fit s.max_segments s.max_apdu
+is_right s = (s.size == settings.SETTINGS_SIZE) && are_zeros s.later && memory_fits s.memory && window_fits s.window && large_slots_fit s.client_slots && large_slots_fit s.reply_slots && codes_fit s.max_segments s.max_apdu
 
 -- the configuration says what the settings say
 pub record IsConfigOf (s : Settings) (c : Config) : Type 0 where
@@ -95,9 +104,9 @@ pub record IsHouseWith (s : Settings) (node : Option Node) : Type 0 where
 abbrev pub IsReady : Settings → Device → Type 0
 IsReady s d = IsIdle d × IsTrue (is_right s)
 
--- whether its clients may use invoke IDs again is as the settings say
+-- whether its clients may use invoke IDs again, and how much it may keep, is as the settings say
 abbrev pub IsSetBy : Settings → Device → Type 0
-IsSetBy s d = d.reuse_invoke_ids ≡ s.reuse_invoke_ids
+IsSetBy s d = (d.reuse_invoke_ids ≡ s.reuse_invoke_ids) × (d.memory ≡ memory_of s.memory)
 
 -- the node runs with the listed objects, as the settings say
 abbrev pub HasStarted : (List Object → Store → Type 0) → Settings → (restart : Option ℕ) → (old new : Option Device) → Type 0

@@ -4,17 +4,17 @@ ghost use Rattle.bac_node.specs.Calls.{IsNotHeard};
 ghost use Rattle.bac_node.specs.Waiting.{MovesAt, RestsUntil};
 ghost use Rattle.bac_requester.specs.Timers.{LAST_MOMENT};
 ghost use Rattle.bac_world.specs.Node.{NodeTick};
-ghost use Rattle.bac_c.specs.Devices.{Heard, IsIdle, IsQuiet, Ran, Runs};
+ghost use Rattle.bac_c.specs.Devices.{Heard, IsIdle, IsQuiet, KeepsSoMuch, Ran, Runs};
 ghost use Rattle.bac_c.specs.Statuses.{fault_number, NOT_STARTED};
 
 use crate::fault::Fault;
 use crate::kept::Kept;
-use bac_node::{Node, NodeFault, Outcome};
+use bac_node::{MEMORY, Node, NodeFault, Outcome};
 use bac_store::Object;
 use std::alloc::Global;
 
-/// The objects and the kept cells that are listed for a node, the node once it is started, whether its clients may use invoke IDs again, and what came of the
-/// last call that did something.
+/// The objects and the kept cells that are listed for a node, the node once it is started, whether its clients may use invoke IDs again, how many octets it
+/// may keep, and what came of the last call that did something.
 #[derive(Drop)]
 pub struct Device {
     pub listed: Vec<Object>,
@@ -22,6 +22,8 @@ pub struct Device {
     pub node: Option<Node>,
     /// As the settings of the start say; false before it.
     pub reuse_invoke_ids: bool,
+    /// How many octets its node may keep, as the settings of the start say; 64 MiB before it.
+    pub memory: usize,
     pub outcome: Outcome,
 }
 
@@ -53,6 +55,7 @@ impl Device {
             kept: Kept::new(alloc),
             node: None,
             reuse_invoke_ids: false,
+            memory: MEMORY,
             outcome: no_outcome(alloc),
         }
     }
@@ -60,6 +63,7 @@ impl Device {
     /// A datagram comes from a link, at a moment in milliseconds, to a node of its setting.
     pub fn on(&mut self, now: u64, from: [u8; 6], octets: &[u8]) -> Result<(), Fault>
         ensures went { OnOk result (Heard now from octets.now self.old self.new) }
+        ensures within { OnOk result (KeepsSoMuch self.old self.new) }
         ensures idle { IsErrOf result Fault.NotStarted ↔ IsIdle self.old }
         ensures early { IsErrOf result Fault.ClockBack ↔ Runs (λ n. now < n.latest) self.old }
         ensures dropped { IsErrOf result Fault.NoMemory → Runs (λ n. IsNotHeard n.link from octets.now → ⊥) self.old }
@@ -68,10 +72,11 @@ impl Device {
         ensures err { OnErr result (self.new ≡ self.old) }
     {
         let reuse = self.reuse_invoke_ids;
+        let memory = self.memory;
         let Some(node) = &mut self.node else {
             return Err(Fault::NotStarted);
         };
-        match node.hear(reuse, now, from, octets) {
+        match node.hear_within(reuse, memory, now, from, octets) {
             Ok(outcome) => {
                 self.outcome = outcome;
                 Ok(())

@@ -23,7 +23,9 @@ pub struct Settings {
     /// Whether clients may use an invoke ID again as soon as its transaction is over (clause 5.4).
     pub reuse_invoke_ids: bool,
     /// Zeros: room for members of later versions.
-    pub later: [u8; 7],
+    pub later: [u8; 3],
+    /// How many octets of service data it keeps for those that ask it: 65,540 and more, or 0 for 64 MiB.
+    pub memory: u32,
 }
 
 /// How an ask ended.

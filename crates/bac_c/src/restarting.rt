@@ -21,7 +21,7 @@ use crate::kept_fault::KeptFault;
 use crate::listed::copied_objects;
 use crate::records::Settings;
 use crate::rule::Rule;
-use crate::settings::config_of;
+use crate::settings::{config_of, memory_of};
 use crate::starting::node_of;
 use bac_node::{Config, Node};
 use bac_store::Store;
@@ -55,10 +55,10 @@ fn restored_node(
 }
 
 impl Device {
-    /// The node runs, with this setting, and nothing is listed any more.
-    fn run(&mut self, alloc: Global, node: Node, reuse_invoke_ids: bool)
+    /// The node runs, as the settings say, and nothing is listed any more.
+    fn run(&mut self, alloc: Global, node: Node, settings: &Settings)
         ensures node { self.new.node ≡ Some node }
-        ensures reuse { self.new.reuse_invoke_ids ≡ reuse_invoke_ids }
+        ensures reuse { IsSetBy settings.now self.new }
         ensures quiet { IsQuiet self.new }
         ensures unlisted { self.new.listed.items ≡ [] }
         ensures unkept { self.new.kept ≡ [] }
@@ -66,7 +66,8 @@ impl Device {
         self.listed = Vec::new(alloc);
         self.kept = Kept::new(alloc);
         self.node = Some(node);
-        self.reuse_invoke_ids = reuse_invoke_ids;
+        self.reuse_invoke_ids = settings.reuse_invoke_ids;
+        self.memory = memory_of(settings);
         self.outcome = no_outcome(alloc);
     }
 
@@ -106,7 +107,7 @@ impl Device {
         };
         let document = rule.store(alloc, objects)?;
         let node = restored_node(alloc, config, &document, &self.kept, now, place)?;
-        self.run(alloc, node, settings.reuse_invoke_ids);
+        self.run(alloc, node, settings);
         Ok(())
     }
 }

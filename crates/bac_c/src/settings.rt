@@ -1,12 +1,12 @@
 //! The settings of a node, as a C program says them.
 ghost use Rattle.std.specs.Prelude.{◌≡◌, true, IfOk, IsErrOf, IsTrue, OnErr};
 ghost use Rattle.bac_node.specs.Fresh.{has_large_slots, window_fits};
-ghost use Rattle.bac_c.specs.Starting.{IsConfigOf, are_zeros, is_right};
+ghost use Rattle.bac_c.specs.Starting.{IsConfigOf, are_zeros, is_right, memory_fits, memory_of};
 
 use crate::fault::Fault;
 use crate::records::Settings;
 use bac_apdu::Limits;
-use bac_node::Config;
+use bac_node::{Config, MEMORY};
 
 /// How many octets the settings of this version have.
 pub const SETTINGS_SIZE: usize = 48;
@@ -21,6 +21,27 @@ fn is_empty_room(later: &[u8]) -> bool
     later.iter().all(|octet| *octet == 0)
 }
 
+/// The least number of octets that a node may keep: a request needs room for 65,539 beside its own.
+const LEAST_MEMORY: u32 = 65_540;
+
+/// Whether a node may keep so many octets; 0 stands for 64 MiB.
+fn is_memory(memory: u32) -> bool
+    ensures { result ≡ memory_fits memory }
+{
+    memory == 0 || memory >= LEAST_MEMORY
+}
+
+/// How many octets a node may keep: 64 MiB where the settings say 0.
+pub fn memory_of(settings: &Settings) -> usize
+    ensures { result ≡ memory_of settings.now.memory }
+{
+    if settings.memory == 0 {
+        MEMORY
+    } else {
+        settings.memory as usize
+    }
+}
+
 /// The configuration of a node; `BadSettings` exactly where one is outside its range.
 pub fn config_of(settings: &Settings) -> Result<Config, Fault>
     ensures says { IfOk result (IsConfigOf settings.now) }
@@ -31,6 +52,9 @@ pub fn config_of(settings: &Settings) -> Result<Config, Fault>
     ensures bad { OnErr result (IsErrOf result Fault.BadSettings) }
 {
     if settings.size != SETTINGS_SIZE || !is_empty_room(&settings.later) {
+        return Err(Fault::BadSettings);
+    }
+    if !is_memory(settings.memory) {
         return Err(Fault::BadSettings);
     }
     if settings.window < 1 || settings.window > 64 {

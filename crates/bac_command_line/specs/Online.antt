@@ -3,6 +3,8 @@
 use Rattle.std.specs.Prelude.{◌≡◌, ℕ, Bool, true, false, List, Option, None, Some, IfSome, Result, Ok, Err, ⊤}
 use Rattle.std.specs.Io.KnownBytes.{Keeps}
 use Rattle.bac_protocol.specs.Service.{Octets}
+use Rattle.bac_node.specs.declared.reuse.Reuse.{Reuse}
+use Rattle.bac_node.specs.declared.reuse.Reuse.TheVariants as setting
 use Rattle.bac_driver.specs.Calls.{Calls}
 use Rattle.bac_driver.specs.Moments.{Told, with_moment}
 use Rattle.bac_driver.specs.Udp.{LOCAL_HOST}
@@ -68,8 +70,9 @@ Clocks = Told → Type 0
 abbrev pub FREE : ℕ
 FREE = 0
 
--- a node on a link at a port: that node, by its address, with that setting of whether it lets clients use an invoke ID again
-pub record IsAt (IsOn : Links) (host : Octets) (port : ℕ) (node_at : (address : Octets) → Node) (reuse : Bool) (bound_node : BoundNode) : Type 0 where
+-- a node on a link at a port: that node, by its address, with that setting of whether it lets clients use an invoke ID again, and for how long
+-- it then remembers a request
+pub record IsAt (IsOn : Links) (host : Octets) (port : ℕ) (node_at : (address : Octets) → Node) (reuse : Reuse) (bound_node : BoundNode) : Type 0 where
   pub address : Octets
   pub node : bound_node.node ≡ node_at address
   pub reuse_is : bound_node.reuse ≡ reuse
@@ -77,12 +80,12 @@ pub record IsAt (IsOn : Links) (host : Octets) (port : ℕ) (node_at : (address 
 
 -- one with the house store, to which nothing has happened, at any free port; its invoke IDs begin at that one
 abbrev pub IsHouseAt : Links → (host : Octets) → (first_id : ℕ) → BoundNode → Type 0
-IsHouseAt IsOn host first_id bound_node = IsAt IsOn host FREE (house_node first_id) false bound_node
+IsHouseAt IsOn host first_id bound_node = IsAt IsOn host FREE (house_node first_id) setting.Never bound_node
 
 -- one that asks for lists
 pub record IsClientAt (IsOn : Links) (host : Octets) (first_id : ℕ) (bound_node : BoundNode) : Type 0 where
   pub port : ℕ
-  pub at : IsAt IsOn host port (client_node first_id) false bound_node
+  pub at : IsAt IsOn host port (client_node first_id) setting.Never bound_node
 
 -- its invoke IDs begin anywhere
 pub record IsClient (IsOn : Links) (host : Octets) (bound_node : BoundNode) : Type 0 where

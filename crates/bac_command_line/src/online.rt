@@ -109,7 +109,7 @@ pub(crate) fn serve<M: Machine, O: Write, E: Write>(
         Err(NewNodeFault::BadSlots) => return complain(err, "bad slots", Status::CommandLine),
         Err(_) => return no_memory(err),
     };
-    bound_node.set_reuse(serving.reuse);
+    serving.set(&mut bound_node);
     print_listening(serving, address, objects, start, err);
     let mut station = Station {
         alloc,

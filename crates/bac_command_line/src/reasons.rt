@@ -3,6 +3,7 @@ ghost use Rattle.std.specs.Prelude.{◌≡◌};
 ghost use Rattle.bac_text.specs.declared.status.Status.TheVariants as status;
 
 use crate::address::{read_end, read_host, read_link, read_route};
+use crate::serving::{read_memory, remembers_in_vain};
 use bac_objects::{DocumentFault, document_findings};
 use bac_text::{Status, complain};
 use clap::ArgMatches;
@@ -84,13 +85,34 @@ fn print_bad_address<E: Write>(bad: Option<(&str, &'static str)>, err: &mut E) -
     status
 }
 
+/// Complains of what was given to `serve`: the address, the number of octets, or that it is to remember requests in vain.
+fn print_no_serving<E: Write>(given: &ArgMatches<'_>, err: &mut E) -> Status
+    ensures { result ≡ status.CommandLine }
+{
+    if remembers_in_vain(given) {
+        let status = complain(err, "bad remember", Status::CommandLine);
+        // if that fails too, only the status is left
+        let _ = err.writeln("--remember with --turns wants --reuse");
+        return status;
+    }
+    match given.get_str("memory") {
+        Some(text) if read_memory(text).is_none() => {
+            let status = complain(err, "bad memory", Status::CommandLine);
+            // if that fails too, only the status is left
+            let _ = writeln!(err, "\"{text}\" is no OCTETS, as 65540, 512K or 64M");
+            status
+        }
+        _ => print_bad_address(bad_host(given), err),
+    }
+}
+
 /// Complains of a command line that clap takes and that asks for nothing.
 pub(crate) fn print_no_task<E: Write>(matches: &ArgMatches<'_>, err: &mut E) -> Status
     ensures { result ≡ status.CommandLine }
 {
     match matches.subcommand() {
         Some(("explain", given)) => print_bad_address(bad_peer(given), err),
-        Some(("serve", given)) => print_bad_address(bad_host(given), err),
+        Some(("serve", given)) => print_no_serving(given, err),
         Some(("ask", given)) => print_bad_address(bad_node(given), err),
         _ => complain(err, "no command", Status::CommandLine),
     }

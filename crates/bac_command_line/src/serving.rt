@@ -8,13 +8,14 @@ ghost use Rattle.bac_text.specs.declared.status.Status.TheVariants as status;
 ghost use Rattle.bac_commands.specs.Kept.{EndsKept, IsKeptByStatus, RoundsText, Unseen, unwatched};
 ghost use Rattle.bac_commands.specs.Statuses.{ByStatus};
 ghost use Rattle.bac_command_line.specs.Keeping.{restarted_by};
-ghost use Rattle.bac_command_line.specs.Serving.{is_reusing, patience_of, restart_of, turns_of};
+ghost use Rattle.bac_command_line.specs.Serving.{is_reusing, patience_of, restart_of, reuse_of, turns_of};
 
 use crate::address::{BACNET_PORT, LOCAL_HOST, read_host};
 use crate::station::Station;
 use bac_commands::{KeptServer, ServeCommand, link_fault, serve_kept_logged};
-use bac_driver::{Clock, Link, NoObserver, RunLimit, WaitLimit};
+use bac_driver::{BoundNode, Clock, Link, NoObserver, RunLimit, WaitLimit};
 use bac_keep::Keeper;
+use bac_node::{MEMORY, Reuse};
 use bac_npdu::LinkAddress;
 use bac_text::Status;
 use clap::ArgMatches;
@@ -24,6 +25,12 @@ use std::io::Write;
 
 /// How many milliseconds after its restart a server serves again.
 const RESTED: u64 = 65_001;
+
+/// The least number of octets that a server may keep: a request needs room for 65,539 beside its own.
+const LEAST_MEMORY: usize = 65_540;
+
+/// The greatest number of octets that a server may keep: 1 TiB.
+const MOST_MEMORY: usize = 1_099_511_627_776;
 
 /// How a node is to serve.
 #[derive(Clone, Copy, Debug, PartialEq, Eq)]
@@ -40,8 +47,10 @@ pub(crate) struct Serving {
     pub slots: usize,
     /// Whether it served before, and lost what it remembered.
     pub restarted: bool,
-    /// Whether it lets clients use an invoke ID again as soon as its transaction is over.
-    pub reuse: bool,
+    /// Whether it lets clients use an invoke ID again as soon as its transaction is over, and for how long it then remembers a request.
+    pub reuse: Reuse,
+    /// How many octets of service data it keeps for those that ask it.
+    pub memory: usize,
     /// Whether its turns are logged.
     pub log: bool,
 }
@@ -86,6 +95,17 @@ impl Serving {
         Serving {
             restarted: self.restarted || !is_new,
             ..*self
+        }
+    }
+
+    /// A bound node is set as it says.
+    pub(crate) fn set<L: Link>(&self, bound_node: &mut BoundNode<L>)
+        ensures { bound_node.new ≡ record bound_node.old { reuse = self.now.reuse } }
+    {
+        bound_node.set_memory(self.memory);
+        match self.reuse {
+            Reuse::Never => bound_node.set_reuse(false),
+            Reuse::Remembering(remember) => bound_node.set_remember(remember),
         }
     }
 
@@ -237,14 +257,60 @@ fn is_reusing(turns: Option<u64>, is_told: bool, is_strict: bool) -> bool
     }
 }
 
-/// None where what is given is no address.
+/// The same, and for how long it then remembers a request, where that is given in seconds.
+fn reuse_of(is_reusing: bool, seconds: Option<u64>) -> Reuse
+    ensures { result ≡ reuse_of is_reusing seconds }
+{
+    match seconds {
+        Some(seconds) if is_reusing => Reuse::Remembering(seconds.saturating_mul(1_000)),
+        _ => Reuse::of(is_reusing),
+    }
+}
+
+/// How many octets a text as `65540`, `512K` or `64M` is, with K for 1,024 and M for 1,048,576; None where it is none that a server may keep.
+pub(crate) fn read_memory(text: &str) -> Option<usize> {
+    let (digits, unit) = match text.strip_suffix('M') {
+        Some(digits) => (digits, 1_048_576),
+        None => match text.strip_suffix('K') {
+            Some(digits) => (digits, 1_024),
+            None => (text, 1),
+        },
+    };
+    let count: usize = digits.parse().ok()?;
+    let octets = count.checked_mul(unit)?;
+    if octets < LEAST_MEMORY || octets > MOST_MEMORY {
+        return None;
+    }
+    Some(octets)
+}
+
+/// How many octets it keeps: 64 MiB where nothing is said; None where what is given is no number of octets.
+fn memory_of(given: &ArgMatches<'_>) -> Option<usize> {
+    match given.get_str("memory") {
+        Some(text) => read_memory(text),
+        None => Some(MEMORY),
+    }
+}
+
+/// Whether it is to remember requests for so many seconds, and lets no client use an invoke ID again.
+pub(crate) fn remembers_in_vain(given: &ArgMatches<'_>) -> bool {
+    let turns: Option<u64> = given.get_one("turns");
+    let is_told = given.get_flag("reuse");
+    given.get_str("remember").is_some() && !is_reusing(turns, is_told, given.get_flag("strict"))
+}
+
+/// None where what is given is no address or no number of octets, or it is to remember requests and lets no client use an invoke ID again.
 pub(crate) fn serving_of(given: &ArgMatches<'_>) -> Option<Serving> {
+    if remembers_in_vain(given) {
+        return None;
+    }
     let host = match given.get_str("at") {
         Some(text) => read_host(text)?,
         None => LOCAL_HOST,
     };
     let turns: Option<u64> = given.get_one("turns");
     let slots: Option<usize> = given.get_one("slots");
+    let is_reusing = is_reusing(turns, given.get_flag("reuse"), given.get_flag("strict"));
     Some(Serving {
         host,
         port: given.get_one("port").unwrap_or(BACNET_PORT),
@@ -252,7 +318,8 @@ pub(crate) fn serving_of(given: &ArgMatches<'_>) -> Option<Serving> {
         seconds: given.get_one("seconds"),
         slots: slots.unwrap_or(slots_without_word(turns)),
         restarted: given.get_flag("restarted"),
-        reuse: is_reusing(turns, given.get_flag("reuse"), given.get_flag("strict")),
+        reuse: reuse_of(is_reusing, given.get_one("remember")),
+        memory: memory_of(given)?,
         log: given.get_flag("log"),
     })
 }

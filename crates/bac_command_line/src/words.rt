@@ -348,6 +348,20 @@ const SERVE: &[Word] = &[
         help: "Lets clients use an invoke ID again at once, also with --turns; without --turns it does so unless it is --strict",
     },
     Word {
+        name: "remember",
+        form: WordForm::Number("S", 65),
+        need: Need::Never,
+        against: &["strict"],
+        help: "An equal request gets the old answer for S seconds, 1 to 65, and is then performed again: for clients that ask all under one invoke ID. 65 by default; with --turns only beside --reuse",
+    },
+    Word {
+        name: "memory",
+        form: WordForm::Text("OCTETS"),
+        need: Need::Never,
+        against: &[],
+        help: "How many octets of requests and answers it may keep, 65540 to 1099511627776, or as 512K or 64M; 64M by default. A request that may need more is not heard",
+    },
+    Word {
         name: "objects",
         form: WordForm::Text("FILE"),
         need: Need::Never,

@@ -8,7 +8,7 @@ use Rattle.bac_driver.specs.Rounds.{BreaksOff, IsKept, ServesRounds}
 use Rattle.bac_driver.specs.Runs.{Timed}
 use Rattle.bac_driver.specs.Seen.{Watcher}
 use Rattle.bac_driver.specs.declared.wait_limit.WaitLimit.{WaitLimit}
-use Rattle.bac_commands.specs.Logs.{Log, Logs}
+use Rattle.bac_commands.specs.Logs.{Log, Logs, NONE_AWAY}
 use Rattle.bac_commands.specs.Reports.{served_line}
 use Rattle.bac_commands.specs.Statuses.{ByStatus}
 
@@ -56,7 +56,7 @@ IsKeptByStatus s IsHonest IsOpen kept noted keeper store = ByStatus s (AllIsKept
 
 -- a log that is whole so far
 abbrev pub whole_log : (serves_from : ℕ) → (text : Option (List ℕ)) → Log
-whole_log serves_from text = record { serves_from = serves_from; whole = true; text = text }
+whole_log serves_from text = record { serves_from = serves_from; whole = true; tally = NONE_AWAY; text = text }
 
 -- the same, with a log that is so afterwards
 pub record LogsKept {K : Type 0} (s : Status) (p : WaitLimit) (rounds : ℕ) (IsHonest IsOpen : K → Type 0) (kept noted : K → Store)
@@ -65,7 +65,7 @@ pub record LogsKept {K : Type 0} (s : Status) (p : WaitLimit) (rounds : ℕ) (Is
   pub all : IsKeptByStatus s IsHonest IsOpen kept noted keeper after.bound_node.node.store
   pub ends : EndsKept Unseen p rounds IsHonest IsOpen kept noted may_find keeper (unwatched before) (unwatched after)
 
--- whatever its first moment to serve is then, which no one reads
+-- whatever its first moment to serve is then, and how many were turned away, which no one reads
 pub record IsLogged {K : Type 0} (s : Status) (whole : Bool) (serves_from : ℕ) (p : WaitLimit) (rounds : ℕ) (IsHonest IsOpen : K → Type 0)
     (kept noted : K → Store) (may_find : K → Store → Type 0) (keeper : K) (before after : Timed) (from to old new : Option (List ℕ)) : Type 0 where
   pub last : Log

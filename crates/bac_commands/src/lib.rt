@@ -15,6 +15,7 @@ mod lines;
 mod log;
 mod online;
 mod serving;
+mod turned_away;
 
 pub use answering::{CLIENT, answer_datagram, answer_over};
 pub use facts::{

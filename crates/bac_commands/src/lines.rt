@@ -27,7 +27,7 @@ use std::io::ErrorKind;
 // ---- a datagram
 
 /// Whether each slot of the reply table is live.
-fn is_full(now: u64, node: &Node) -> bool
+pub(crate) fn is_full(now: u64, node: &Node) -> bool
     ensures { result ≡ is_full now node.now.servers }
 {
     node.reply_slots() <= node.live(now)

@@ -4,10 +4,10 @@ ghost use Rattle.bac_driver.specs.Kept.{keeper_of};
 ghost use Rattle.bac_driver.specs.Rounds.{IsKept};
 ghost use Rattle.bac_driver.specs.Runs.{timed};
 ghost use Rattle.bac_commands.specs.Kept.{IsLogged};
-ghost use Rattle.bac_commands.specs.Reports.{ReportsServing, ServingIsWatched};
-ghost use Rattle.bac_commands.specs.Logs.{Prints};
+ghost use Rattle.bac_commands.specs.Reports.{ReportsServing};
+ghost use Rattle.bac_commands.specs.Logs.{ServingIsLogged};
 
-use crate::log::Log;
+use crate::log::{Log, Tally};
 use crate::online::KeptServer;
 use bac_driver::{BoundNode, Clock, Link, RunLimit};
 use bac_keep::Keeper;
@@ -33,7 +33,7 @@ pub struct Logged {
 }
 
 /// Serves as `serve` of bac_commands does, and logs each turn on `err`: a line for the datagram that came, with what was done, and one for each thing else
-/// that the turn gave.
+/// that the turn gave. At most once in 1,000 ms it also says how many requests were turned away since the table was full, and when the next slot gets free.
 ///
 /// Where a line cannot be written, or finds no memory, no further one is, and serving goes on.
 pub fn serve_logged<L: Link, C: Clock, O: Write, E: Write>(
@@ -46,13 +46,14 @@ pub fn serve_logged<L: Link, C: Clock, O: Write, E: Write>(
 ) -> Logged
     ensures printed { ReportsServing result.status command.now.limit.wait_limit command.now.limit.turns
         (timed bound_node.old (C.told clock.old)) (timed bound_node.new (C.told clock.new)) (O.contents out.old) (O.contents out.new) }
-    ensures logged { IsTrue result.whole → ServingIsWatched result.status (Prints command.now.serves_from) command.now.limit.wait_limit command.now.limit.turns
+    ensures logged { IsTrue result.whole → ServingIsLogged result.status command.now.serves_from command.now.limit.wait_limit command.now.limit.turns
         (timed bound_node.old (C.told clock.old)) (timed bound_node.new (C.told clock.new)) (E.contents err.old) (E.contents err.new) }
 {
     let mut log = Log {
         alloc,
         serves_from: command.serves_from,
         whole: true,
+        tally: Tally::NONE_AWAY,
     };
     let status = crate::serve(bound_node, clock, &command.limit, &mut log, out, err);
     Logged {
@@ -81,6 +82,7 @@ pub fn serve_kept_logged<L: Link, C: Clock, K: Keeper, O: Write, E: Write>(
         alloc,
         serves_from: command.serves_from,
         whole: true,
+        tally: Tally::NONE_AWAY,
     };
     let status = crate::serve_kept(server, &command.limit, &mut log, out, err);
     Logged {

@@ -6,7 +6,9 @@ use Rattle.bac_protocol.specs.Wire.{is_from_client}
 use Rattle.bac_store.specs.Stores.{Store}
 use Rattle.bac_transaction.specs.Ends.{Act}
 use Rattle.bac_world.specs.Node.{IsHeardBy, Node, NodeOn, Outcome}
-use Rattle.bac_world.specs.ReusingNodes.{IsHeardReusingBy, NodeHears, NodeReusing}
+use Rattle.bac_node.specs.Remembering.{IsHeardRememberingBy, NodeHearsBy, NodeRemembering}
+use Rattle.bac_node.specs.declared.reuse.Reuse.{Reuse}
+use Rattle.bac_node.specs.declared.reuse.Reuse.TheVariants as reuse_of
 use Rattle.bac_world.specs.Services.{ArePerformed, Performed, store_after}
 use Rattle.bac_driver.specs.Rounds.{HoldsTurnFrom, IsReplied}
 use Rattle.bac_driver.specs.Runs.{Timed}
@@ -33,21 +35,21 @@ store_on now from octets old new o (inr z) = go (is_from_client z.apdu) z.heard
     go true turn = ap (λ (n : Node). n.store) turn.node
     go false turn = ap (λ (n : Node). n.store) turn.node ∙ sym (ap (store_after old.store) turn.performed)
 
-store_reusing : (now : ℕ) (from octets : Octets) (old new : Node) (o : Outcome) → NodeReusing now from octets old new o
+store_reusing : (remember now : ℕ) (from octets : Octets) (old new : Node) (o : Outcome) → NodeRemembering remember now from octets old new o
     → new.store ≡ store_after old.store o.performed
-store_reusing now from octets old new o (inl d) =
+store_reusing remember now from octets old new o (inl d) =
     ap (λ (n : Node). n.store) d.node ∙ sym (ap (λ (x : Outcome). store_after old.store x.performed) d.outcome)
-store_reusing now from octets old new o (inr z) = go (is_from_client z.apdu) z.heard
+store_reusing remember now from octets old new o (inr z) = go (is_from_client z.apdu) z.heard
   where
-    go : (server : Bool) → IsHeardReusingBy server z.peer z.apdu now old new o → new.store ≡ store_after old.store o.performed
+    go : (server : Bool) → IsHeardRememberingBy remember server z.peer z.apdu now old new o → new.store ≡ store_after old.store o.performed
     go true turn = ap (λ (n : Node). n.store) turn.node
     go false turn = ap (λ (n : Node). n.store) turn.node ∙ sym (ap (store_after old.store) turn.performed)
 
--- of a node of either setting
-store_hears : (reuse : Bool) (now : ℕ) (from octets : Octets) (old new : Node) (o : Outcome) → NodeHears reuse now from octets old new o
+-- of a node of any setting
+store_hears : (reuse : Reuse) (now : ℕ) (from octets : Octets) (old new : Node) (o : Outcome) → NodeHearsBy reuse now from octets old new o
     → new.store ≡ store_after old.store o.performed
-store_hears true now from octets old new o hears = store_reusing now from octets old new o hears
-store_hears false now from octets old new o hears = store_on now from octets old new o hears
+store_hears (reuse_of.Remembering remember) now from octets old new o hears = store_reusing remember now from octets old new o hears
+store_hears reuse_of.Never now from octets old new o hears = store_on now from octets old new o hears
 
 replied_on : (now : ℕ) (from octets : Octets) (old new : Node) (o : Outcome) → NodeOn now from octets old new o → IfSome o.performed (IsReplied old.store)
 replied_on now from octets old new o (inl d) = none_replied old.store o.performed (ap (λ (x : Outcome). x.performed) d.outcome)
@@ -57,30 +59,30 @@ replied_on now from octets old new o (inr z) = go (is_from_client z.apdu) z.hear
     go true turn = are_replied old.store _ o.performed turn.performed
     go false turn = none_replied old.store o.performed turn.performed
 
-replied_reusing : (now : ℕ) (from octets : Octets) (old new : Node) (o : Outcome) → NodeReusing now from octets old new o
+replied_reusing : (remember now : ℕ) (from octets : Octets) (old new : Node) (o : Outcome) → NodeRemembering remember now from octets old new o
     → IfSome o.performed (IsReplied old.store)
-replied_reusing now from octets old new o (inl d) = none_replied old.store o.performed (ap (λ (x : Outcome). x.performed) d.outcome)
-replied_reusing now from octets old new o (inr z) = go (is_from_client z.apdu) z.heard
+replied_reusing remember now from octets old new o (inl d) = none_replied old.store o.performed (ap (λ (x : Outcome). x.performed) d.outcome)
+replied_reusing remember now from octets old new o (inr z) = go (is_from_client z.apdu) z.heard
   where
-    go : (server : Bool) → IsHeardReusingBy server z.peer z.apdu now old new o → IfSome o.performed (IsReplied old.store)
+    go : (server : Bool) → IsHeardRememberingBy remember server z.peer z.apdu now old new o → IfSome o.performed (IsReplied old.store)
     go true turn = are_replied old.store _ o.performed turn.performed
     go false turn = none_replied old.store o.performed turn.performed
 
-replied_hears : (reuse : Bool) (now : ℕ) (from octets : Octets) (old new : Node) (o : Outcome) → NodeHears reuse now from octets old new o
+replied_hears : (reuse : Reuse) (now : ℕ) (from octets : Octets) (old new : Node) (o : Outcome) → NodeHearsBy reuse now from octets old new o
     → IfSome o.performed (IsReplied old.store)
-replied_hears true now from octets old new o hears = replied_reusing now from octets old new o hears
-replied_hears false now from octets old new o hears = replied_on now from octets old new o hears
+replied_hears (reuse_of.Remembering remember) now from octets old new o hears = replied_reusing remember now from octets old new o hears
+replied_hears reuse_of.Never now from octets old new o hears = replied_on now from octets old new o hears
 
 -- ---- both steps
 
-store_heard : (reuse : Bool) (now : ℕ) (buffer : Octets) (came : Option (Octets × ℕ)) (old new : Node) (heard : Option Outcome)
+store_heard : (reuse : Reuse) (now : ℕ) (buffer : Octets) (came : Option (Octets × ℕ)) (old new : Node) (heard : Option Outcome)
     → Hears reuse now buffer came old new heard → new.store ≡ store_after old.store (performed_of heard)
 store_heard reuse now buffer None old new heard hears =
     ap (λ (n : Node). n.store) hears.1 ∙ sym (ap (λ (h : Option Outcome). store_after old.store (performed_of h)) hears.0)
 store_heard reuse now buffer (Some d) old new None hears = ap (λ (n : Node). n.store) hears.same
 store_heard reuse now buffer (Some d) old new (Some o) hears = store_hears reuse now d.0 (take d.1 buffer) old new o hears
 
-replied_heard : (reuse : Bool) (now : ℕ) (buffer : Octets) (came : Option (Octets × ℕ)) (old new : Node) (heard : Option Outcome)
+replied_heard : (reuse : Reuse) (now : ℕ) (buffer : Octets) (came : Option (Octets × ℕ)) (old new : Node) (heard : Option Outcome)
     → Hears reuse now buffer came old new heard → IfSome (performed_of heard) (IsReplied old.store)
 replied_heard reuse now buffer None old new heard hears = none_replied old.store (performed_of heard) (ap performed_of hears.0)
 replied_heard reuse now buffer (Some d) old new None hears = tt

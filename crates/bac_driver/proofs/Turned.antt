@@ -5,7 +5,9 @@ use Rattle.std.proofs.lemmas.List.{append-nil, map-append, take_more}
 use Rattle.bac_protocol.specs.Service.{Octets}
 use Rattle.bac_protocol.specs.Wire.{is_from_client}
 use Rattle.bac_world.specs.Node.{IsHeardBy, Node, NodeOn, Outcome}
-use Rattle.bac_world.specs.ReusingNodes.{IsHeardReusingBy, NodeHears, NodeReusing}
+use Rattle.bac_node.specs.Remembering.{IsHeardRememberingBy, NodeHearsBy, NodeRemembering}
+use Rattle.bac_node.specs.declared.reuse.Reuse.{Reuse}
+use Rattle.bac_node.specs.declared.reuse.Reuse.TheVariants as reuse_of
 use Rattle.bac_transaction.specs.Sends.{Datagram}
 use Rattle.bac_driver.specs.Calls.{Calls, MOST}
 use Rattle.bac_driver.specs.BoundNodes.{BoundNode}
@@ -23,18 +25,18 @@ on_in_time now from octets old new o (inr z) = go (is_from_client z.apdu) z.hear
     go false turn = subst (λ (n : Node). n.latest ≤ now) (sym turn.node) (omega arith)
 
 -- nor where clients may use invoke IDs again
-reusing_in_time : (now : ℕ) (from octets : Octets) (old new : Node) (o : Outcome) → NodeReusing now from octets old new o → new.latest ≤ now
-reusing_in_time now from octets old new o (inl d) = subst (λ (n : Node). n.latest ≤ now) (sym d.node) (omega arith)
-reusing_in_time now from octets old new o (inr z) = go (is_from_client z.apdu) z.heard
+reusing_in_time : (remember now : ℕ) (from octets : Octets) (old new : Node) (o : Outcome) → NodeRemembering remember now from octets old new o → new.latest ≤ now
+reusing_in_time remember now from octets old new o (inl d) = subst (λ (n : Node). n.latest ≤ now) (sym d.node) (omega arith)
+reusing_in_time remember now from octets old new o (inr z) = go (is_from_client z.apdu) z.heard
   where
-    go : (server : Bool) → IsHeardReusingBy server z.peer z.apdu now old new o → new.latest ≤ now
+    go : (server : Bool) → IsHeardRememberingBy remember server z.peer z.apdu now old new o → new.latest ≤ now
     go true turn = subst (λ (n : Node). n.latest ≤ now) (sym turn.node) (omega arith)
     go false turn = subst (λ (n : Node). n.latest ≤ now) (sym turn.node) (omega arith)
 
-pub heard_in_time : (reuse : Bool) (now : ℕ) (from octets : Octets) (old new : Node) (o : Outcome) → NodeHears reuse now from octets old new o
+pub heard_in_time : (reuse : Reuse) (now : ℕ) (from octets : Octets) (old new : Node) (o : Outcome) → NodeHearsBy reuse now from octets old new o
     → new.latest ≤ now
-heard_in_time true now from octets old new o hears = reusing_in_time now from octets old new o hears
-heard_in_time false now from octets old new o hears = on_in_time now from octets old new o hears
+heard_in_time (reuse_of.Remembering remember) now from octets old new o hears = reusing_in_time remember now from octets old new o hears
+heard_in_time reuse_of.Never now from octets old new o hears = on_in_time now from octets old new o hears
 
 -- what a step sends goes to the link
 pub record IsSentBy (sends : List Datagram) (lost : ℕ) (failures after : ℕ) (calls calls_after : Calls) : Type 0 where

@@ -1,5 +1,5 @@
 -- One turn of a node on a link: it takes the datagram that has come, does all that is due, and sends what both return.
-use Rattle.std.specs.Prelude.{◌≡◌, ℕ, zero, suc, ◌+◌, ◌≤◌, ◌<◌, Bool, List, [], ◌++◌, map, length, take, Option, Some, None, Ok, IfSome}
+use Rattle.std.specs.Prelude.{◌≡◌, ℕ, zero, suc, ◌+◌, ◌≤◌, ◌<◌, List, [], ◌++◌, map, length, take, Option, Some, None, Ok, IfSome}
 use Rattle.std.specs.Option.{option_map}
 use Rattle.bac_protocol.specs.Service.{Octets}
 use Rattle.bac_transaction.specs.Sends.{Datagram}
@@ -9,7 +9,8 @@ use Rattle.bac_driver.specs.Calls.Call.{Send}
 use Rattle.bac_world.specs.Node.{Cause, Node, Outcome, NodeTick}
 use Rattle.bac_world.specs.Services.{Performed}
 use Rattle.bac_node.specs.Calls.{IsForNoneOpen, IsNotHeard}
-use Rattle.bac_world.specs.ReusingNodes.{NodeHears}
+use Rattle.bac_node.specs.Remembering.{NodeHearsBy}
+use Rattle.bac_node.specs.declared.reuse.Reuse.{Reuse}
 use Rattle.bac_node.specs.Waiting.{IsDueBy}
 use Rattle.bac_requester.specs.Timers.{LAST_MOMENT}
 use Rattle.bac_driver.specs.BoundNodes.{BoundNode}
@@ -67,12 +68,12 @@ pub record IsUnheard (from octets : Octets) (old new : Node) : Type 0 where
   pub same : new ≡ old
 
 -- the node takes a datagram, or drops it
-abbrev pub HearsOne : (reuse : Bool) → (now : ℕ) → (from octets : Octets) → (old new : Node) → (heard : Option Outcome) → Type 0
+abbrev pub HearsOne : (reuse : Reuse) → (now : ℕ) → (from octets : Octets) → (old new : Node) → (heard : Option Outcome) → Type 0
 HearsOne reuse now from octets old new None = IsUnheard from octets old new
-HearsOne reuse now from octets old new (Some o) = NodeHears reuse now from octets old new o
+HearsOne reuse now from octets old new (Some o) = NodeHearsBy reuse now from octets old new o
 
 -- the one that came, if one did; its octets are the first of the buffer
-abbrev pub Hears : (reuse : Bool) → (now : ℕ) → (buffer : Octets) → (came : Option (Octets × ℕ)) → (old new : Node) → (heard : Option Outcome) → Type 0
+abbrev pub Hears : (reuse : Reuse) → (now : ℕ) → (buffer : Octets) → (came : Option (Octets × ℕ)) → (old new : Node) → (heard : Option Outcome) → Type 0
 Hears reuse now buffer None old new heard = (heard ≡ None) × (new ≡ old)
 Hears reuse now buffer (Some d) old new heard = HearsOne reuse now d.0 (take d.1 buffer) old new heard
 

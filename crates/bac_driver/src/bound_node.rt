@@ -1,10 +1,13 @@
 //! A bound node: a node on its link, with a buffer for what comes, and one turn of it.
 //!
 //! Programs, `serving`, `asking` and `pairing` call it. The methods and their contracts are the interface; the fields and the private methods may change.
-ghost use Rattle.std.specs.Prelude.{◌≡◌, ◌↔◌, ◌<◌, ◌≤◌, false, length, map, IfOk, IfErr, IfSome, IsErrOf, OnErr};
+ghost use Rattle.std.specs.Prelude.{◌≡◌, ◌↔◌, ℕ, ◌<◌, ◌≤◌, count_by, length, map, IfOk, IfErr, IfSome, IsErrOf, OnErr};
+ghost use Rattle.bac_requester.specs.Timers.{LAST_MOMENT};
+ghost use Rattle.bac_transaction.specs.Ends.{is_slot_live};
 ghost use Rattle.bac_driver.specs.Calls.{one_more, with_call};
 ghost use Rattle.bac_driver.specs.Calls.Call.{FailedReceive};
 ghost use Rattle.bac_node.specs.Calls.{Refuses};
+ghost use Rattle.bac_node.specs.Remembering.{as_ever, is_reusing};
 ghost use Rattle.bac_driver.specs.BoundNodes.{BUFFER};
 ghost use Rattle.bac_driver.specs.Rounds.{IsTaken, OnlyReceives, sends_of_all};
 ghost use Rattle.bac_driver.specs.Turns.{Acts, IsCarried, IsTurn, Receives};
@@ -20,7 +23,7 @@ use crate::step::{on_due, on_received};
 use crate::turn::{Received, Turn};
 use crate::wait_limit::{WaitLimit, wait_until};
 use crate::{Clock, Link};
-use bac_node::Node;
+use bac_node::{MEMORY, Node, Reuse};
 use bac_requester::AskFault;
 use bac_value::NoMemory;
 use std::alloc::Global;
@@ -39,7 +42,9 @@ pub struct BoundNode<L: Link> {
     node: Node,
     link: L,
     buffer: Vec<u8>,
-    reuse: bool,
+    reuse: Reuse,
+    // how many octets its server's end may keep; contracts see nothing of it
+    memory: usize,
 }
 
 impl<L: Link> Model for BoundNode<L> {
@@ -60,7 +65,7 @@ impl<L: Link> BoundNode<L> {
         ensures node { IfOk result (λ s. s.node ≡ node) }
         ensures failures { IfOk result (λ s. s.failures ≡ L.failures link) }
         ensures calls { IfOk result (λ s. s.calls ≡ L.calls link) }
-        ensures reuse { IfOk result (λ s. s.reuse ≡ false) }
+        ensures reuse { IfOk result (λ s. s.reuse ≡ Reuse.Never) }
     {
         let mut buffer = Vec::new(alloc);
         buffer.resize(BUFFER, 0)?;
@@ -68,7 +73,8 @@ impl<L: Link> BoundNode<L> {
             node,
             link,
             buffer,
-            reuse: false,
+            reuse: Reuse::Never,
+            memory: MEMORY,
         })
     }
 
@@ -76,16 +82,34 @@ impl<L: Link> BoundNode<L> {
     /// [`Node::on_reusing`](bac_node::Node::on_reusing) does, otherwise as [`Node::on`](bac_node::Node::on). Call it before the first turn, and keep the
     /// setting: a node takes all its datagrams one way.
     pub fn set_reuse(&mut self, reuse: bool)
-        ensures { self.new ≡ record self.old { reuse = reuse } }
+        ensures { self.new ≡ record self.old { reuse = as_ever reuse } }
     {
-        self.reuse = reuse;
+        self.reuse = Reuse::of(reuse);
+    }
+
+    /// As `set_reuse` of true, of a node that remembers a request no longer than so many milliseconds from its beginning on, once it is over: an equal one gets
+    /// the kept reply only so long, and is then performed again. It is for clients that ask everything under one invoke ID. No request is remembered for more than
+    /// 65,000 ms, which is what `set_reuse` sets.
+    pub fn set_remember(&mut self, remember: u64)
+        ensures { self.new ≡ record self.old { reuse = Reuse.Remembering remember } }
+    {
+        self.reuse = Reuse::Remembering(remember);
     }
 
     /// Whether its node lets clients use invoke IDs again.
     pub fn reuse(&self) -> bool
-        ensures { result ≡ self.now.reuse }
+        ensures { result ≡ is_reusing self.now.reuse }
     {
-        self.reuse
+        self.reuse.is_reusing()
+    }
+
+    /// Sets how many octets of service data its server's end may keep, in place of [`MEMORY`](bac_node::MEMORY): 64 MiB. A datagram that might make it keep more
+    /// is lost as where memory runs out, and the turn has heard nothing ([`Node::hear_within`](bac_node::Node::hear_within)); each request needs room for 65,539
+    /// octets beside its own. What is kept already stays.
+    pub fn set_memory(&mut self, memory: usize)
+        ensures { self.new ≡ self.old }
+    {
+        self.memory = memory;
     }
 
     /// Its node.
@@ -93,6 +117,17 @@ impl<L: Link> BoundNode<L> {
         ensures { result.now ≡ self.now.node }
     {
         &self.node
+    }
+
+    /// The first moment, in milliseconds, looked at from a moment on, at which not all slots of its node's reply table have a live entry, as
+    /// [`Node::next_free`](bac_node::Node::next_free) tells it.
+    pub fn next_free(&self, from: u64) -> u64
+        ensures from { from ≤ result }
+        ensures full { (moment : ℕ) → from ≤ moment → moment < result
+            → self.now.node.servers.capacity ≤ count_by (is_slot_live moment) self.now.node.servers.slots }
+        ensures free { result < LAST_MOMENT → count_by (is_slot_live result) self.now.node.servers.slots < self.now.node.servers.capacity }
+    {
+        self.node.next_free(from)
     }
 
     /// Its link.
@@ -150,7 +185,14 @@ impl<L: Link> BoundNode<L> {
         ensures taken { IsTaken now self.old (turn_view result) self.new }
         ensures received { result.received ≡ received }
     {
-        let heard = on_received(&mut self.node, self.reuse, now, received, &self.buffer);
+        let heard = on_received(
+            &mut self.node,
+            self.reuse,
+            self.memory,
+            now,
+            received,
+            &self.buffer,
+        );
         let ticked = on_due(&mut self.node, now);
         Turn {
             at: now,

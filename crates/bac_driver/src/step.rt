@@ -5,14 +5,15 @@ ghost use Rattle.bac_node.specs.Views.{outcome_view};
 ghost use Rattle.bac_driver.specs.Turns.{Hears, Ticks};
 
 use crate::turn::Received;
-use bac_node::{Node, NodeFault, Outcome};
+use bac_node::{Node, NodeFault, Outcome, Reuse};
 
-/// The node takes the datagram that has come, the first octets of the buffer. None where none has come, or where taking it fails to allocate: then nothing has
-/// changed.
+/// The node takes the datagram that has come, the first octets of the buffer. None where none has come, where taking it fails to allocate, or where its server's
+/// end might keep more than `memory` octets then: in each case nothing has changed.
 #[tactic(auto, using(crate::proofs::Turned::heard_in_time))]
 pub(crate) fn on_received(
     node: &mut Node,
-    reuse: bool,
+    reuse: Reuse,
+    memory: usize,
     now: u64,
     received: Received,
     buffer: &[u8],
@@ -24,7 +25,7 @@ pub(crate) fn on_received(
 {
     let datagram = received?;
     let from = datagram.0;
-    match node.hear(reuse, now, from, &buffer[..datagram.1]) {
+    match node.hear_by(reuse, memory, now, from, &buffer[..datagram.1]) {
         Ok(outcome) => Some(outcome),
         Err(NodeFault::NoMemory) => None,
         Err(NodeFault::ClockBack) => unreachable!(),

@@ -5,7 +5,7 @@ use Rattle.bac_npdu.specs.Peers.{PeerView}
 use Rattle.bac_protocol.specs.Context.{Settings}
 use Rattle.bac_store.specs.Stores.{Store}
 use Rattle.bac_transaction.specs.Ends.{ServerEnd, responder_on_apdu}
-use Rattle.bac_transaction.specs.Reuse.{responder_reusing}
+use Rattle.bac_transaction.specs.Remembering.{responder_remembering}
 use Rattle.bac_transaction.specs.Services.{service_of}
 use Rattle.bac_responder.specs.Kept.{HasShortReplies, StaysWithin, kept_octets}
 use Rattle.bac_world.specs.Node.{Node}
@@ -22,7 +22,7 @@ module _ (memory now : ℕ) (peer : PeerView) (a : Apdu) (c : Settings) (s : Sto
       (subst (λ (e : ServerEnd). kept_octets (responder_on_apdu c now (service_of s) peer a e).end.slots ≤ max (kept_octets old.slots) memory) (sym same)
       (stays.on c s short))
 
-  pub served_within_reusing : new ≡ (responder_reusing c now (service_of s) peer a at).end → kept_octets new.slots ≤ max (kept_octets old.slots) memory
-  served_within_reusing is = subst (λ (v : ServerEnd). kept_octets v.slots ≤ max (kept_octets old.slots) memory) (sym is)
-      (subst (λ (e : ServerEnd). kept_octets (responder_reusing c now (service_of s) peer a e).end.slots ≤ max (kept_octets old.slots) memory) (sym same)
-      (stays.on_reusing c s short))
+  pub served_within_reusing : (remember : ℕ) → new ≡ (responder_remembering remember c now (service_of s) peer a at).end → kept_octets new.slots ≤ max (kept_octets old.slots) memory
+  served_within_reusing remember is = subst (λ (v : ServerEnd). kept_octets v.slots ≤ max (kept_octets old.slots) memory) (sym is)
+      (subst (λ (e : ServerEnd). kept_octets (responder_remembering remember c now (service_of s) peer a e).end.slots ≤ max (kept_octets old.slots) memory) (sym same)
+      (stays.on_reusing remember c s short))

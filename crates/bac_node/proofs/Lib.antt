@@ -3,3 +3,4 @@ pub mod Asks
 pub mod Capacities
 pub mod Waits
 pub mod Kept
+pub mod Remembering

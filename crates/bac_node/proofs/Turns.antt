@@ -6,7 +6,7 @@ use Rattle.bac_npdu.specs.Peers.{PeerView}
 use Rattle.bac_store.specs.Stores.{Store}
 use Rattle.bac_transaction.specs.Ends as ends
 use Rattle.bac_transaction.specs.Ends.{ServerEnd, ServerTurn, requester_tick, responder_on_apdu, responder_tick}
-use Rattle.bac_transaction.specs.Reuse.{responder_reusing}
+use Rattle.bac_transaction.specs.Remembering.{responder_remembering}
 use Rattle.bac_transaction.specs.Meanings.{EndedView, IsEndedView}
 use Rattle.bac_transaction.specs.Sends.{Datagram, IsSent, Pairwise}
 use Rattle.bac_transaction.specs.Services as server
@@ -21,7 +21,7 @@ use Rattle.bac_world.specs.Node.{Node, Outcome, IsHeardBy, IsServerTurn}
 use Rattle.bac_world.specs.Services.{ArePerformed, store_after}
 use Rattle.bac_world.proofs.Pairs.{pairwise_join}
 use Rattle.bac_node.specs.Calls.{IsTickOfBoth}
-use Rattle.bac_world.specs.ReusingNodes.{IsHeardReusingBy}
+use Rattle.bac_node.specs.Remembering.{IsHeardRememberingBy}
 use Rattle.bac_node.specs.Views.{performed_view}
 
 -- The server's end.
@@ -57,11 +57,11 @@ pub server_turned : (now : ℕ) (old : Node) (v : ServerEnd) (t : Store) (peer :
     → IsHeardBy true peer a now old (record old { latest = now; servers = v; store = t }) o
 server_turned now old v t peer a = server_turned_by (responder_on_apdu old.settings now (service_of old.store) peer a old.servers) now old v t
 
-pub server_turned_reusing : (now : ℕ) (old : Node) (v : ServerEnd) (t : Store) (peer : PeerView) (a : Apdu) (sent : List Datagram) (x : Option Act) (o : Outcome)
-    → IsServed (responder_reusing old.settings now (service_of old.store) peer a old.servers) old.store sent (acted_view x) v t
+pub server_turned_reusing : (remember now : ℕ) (old : Node) (v : ServerEnd) (t : Store) (peer : PeerView) (a : Apdu) (sent : List Datagram) (x : Option Act) (o : Outcome)
+    → IsServed (responder_remembering remember old.settings now (service_of old.store) peer a old.servers) old.store sent (acted_view x) v t
     → o.sends ≡ sent → o.ended ≡ [] → o.performed ≡ option_map performed_view x → o.dropped ≡ None
-    → IsHeardReusingBy true peer a now old (record old { latest = now; servers = v; store = t }) o
-server_turned_reusing now old v t peer a = server_turned_by (responder_reusing old.settings now (service_of old.store) peer a old.servers) now old v t
+    → IsHeardRememberingBy remember true peer a now old (record old { latest = now; servers = v; store = t }) o
+server_turned_reusing remember now old v t peer a = server_turned_by (responder_remembering remember old.settings now (service_of old.store) peer a old.servers) now old v t
 
 -- The same of an end that is as that of the node.
 
@@ -72,12 +72,12 @@ pub server_turned_from : (now : ℕ) (old : Node) (at v : ServerEnd) (t : Store)
 server_turned_from now old at v t peer a sent x o same did = server_turned now old v t peer a sent x o
     (subst (λ (e : ServerEnd). IsServed (responder_on_apdu old.settings now (service_of old.store) peer a e) old.store sent (acted_view x) v t) same did)
 
-pub server_turned_reusing_from : (now : ℕ) (old : Node) (at v : ServerEnd) (t : Store) (peer : PeerView) (a : Apdu) (sent : List Datagram) (x : Option Act) (o : Outcome)
-    → at ≡ old.servers → IsServed (responder_reusing old.settings now (service_of old.store) peer a at) old.store sent (acted_view x) v t
+pub server_turned_reusing_from : (remember now : ℕ) (old : Node) (at v : ServerEnd) (t : Store) (peer : PeerView) (a : Apdu) (sent : List Datagram) (x : Option Act) (o : Outcome)
+    → at ≡ old.servers → IsServed (responder_remembering remember old.settings now (service_of old.store) peer a at) old.store sent (acted_view x) v t
     → o.sends ≡ sent → o.ended ≡ [] → o.performed ≡ option_map performed_view x → o.dropped ≡ None
-    → IsHeardReusingBy true peer a now old (record old { latest = now; servers = v; store = t }) o
-server_turned_reusing_from now old at v t peer a sent x o same did = server_turned_reusing now old v t peer a sent x o
-    (subst (λ (e : ServerEnd). IsServed (responder_reusing old.settings now (service_of old.store) peer a e) old.store sent (acted_view x) v t) same did)
+    → IsHeardRememberingBy remember true peer a now old (record old { latest = now; servers = v; store = t }) o
+server_turned_reusing_from remember now old at v t peer a sent x o same did = server_turned_reusing remember now old v t peer a sent x o
+    (subst (λ (e : ServerEnd). IsServed (responder_remembering remember old.settings now (service_of old.store) peer a e) old.store sent (acted_view x) v t) same did)
 
 -- A tick.
 

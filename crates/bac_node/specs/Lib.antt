@@ -5,4 +5,5 @@ pub mod Calls
 pub mod Capacities
 pub mod Waiting
 pub mod Reuse
+pub mod Remembering
 pub mod Memory

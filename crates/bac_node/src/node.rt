@@ -27,11 +27,11 @@ ghost use Rattle.bac_requester.specs.Short.{AreRepliesShort};
 ghost use Rattle.bac_responder.specs.Short.{AreRequestsShort};
 ghost use Rattle.bac_world.specs.Keys.{HasKeysApart};
 ghost use Rattle.bac_world.specs.Node.{NodeOn, NodeTick, IsHeardBy, restarted, store_after_restart, with_change};
-ghost use Rattle.bac_world.specs.ReusingNodes.{IsHeardReusingBy, NodeHears, NodeReusing};
+ghost use Rattle.bac_world.specs.ReusingNodes.{NodeHears, NodeReusing};
 ghost use Rattle.bac_node.specs.Calls.{Dispatches, IsAsked, IsForNoneOpen, IsNotHeard, IsTickOfBoth, Refuses, ticked};
 ghost use Rattle.bac_node.specs.Fresh.{fresh_node, has_large_slots, has_slots, has_slots_within, made_node, slots_within, window_fits, with_first_id};
 ghost use Rattle.bac_node.specs.Memory.{KeepsWithin, kept_octets};
-ghost use Rattle.bac_node.specs.Reuse.{DispatchesReusing};
+ghost use Rattle.bac_node.specs.Remembering.{DispatchesRemembering, IsHeardRememberingBy, NodeHearsBy};
 ghost use Rattle.bac_node.specs.Views.{outcome_view, settings_of};
 ghost use Rattle.bac_node.specs.Waiting.{IsDueBy, MovesAt, RestsUntil};
 ghost use Rattle.bac_requester.specs.Timers.{LAST_MOMENT};
@@ -41,10 +41,11 @@ use crate::fault::{NewNodeFault, NodeFault};
 use crate::memory::MEMORY;
 use crate::outcome::Outcome;
 use crate::reading::{is_from_client, read_from};
+use crate::reuse::Reuse;
 use bac_apdu::{Apdu, Limits, Window};
 use bac_npdu::{LinkAddress, Peer};
 use bac_requester::{AskFault, Asked, Client, Reaction, Requester};
-use bac_responder::{Responder, Served, ServerTransaction};
+use bac_responder::{Responder, ReuseRules, Served, ServerTransaction};
 use bac_service::OwnedRequest;
 use bac_slots::IndexSlots;
 use bac_store::{Change, ChangeFault, Store, replies_can_be_sent};
@@ -294,6 +295,17 @@ impl Node {
         self.servers.live(now)
     }
 
+    /// The first moment, in milliseconds, looked at from a moment on, at which not all slots of its reply table have a live entry; the last moment of all where
+    /// that is not before it. Until then a request that needs a slot gets an Abort of reason 0. It looks at each slot where all are in use.
+    pub fn next_free(&self, from: u64) -> u64
+        ensures from { from ≤ result }
+        ensures full { (moment : ℕ) → from ≤ moment → moment < result
+            → self.now.servers.capacity ≤ count_by (is_slot_live moment) self.now.servers.slots }
+        ensures free { result < LAST_MOMENT → count_by (is_slot_live result) self.now.servers.slots < self.now.servers.capacity }
+    {
+        self.servers.next_free(from)
+    }
+
     /// When the entry of its reply table for a request began, in milliseconds, by the peer that asked and the invoke ID; None where it keeps none for them. Call
     /// it to tell one performance for a peer from the next under the same invoke ID: their entries began more than 65,000 ms apart.
     pub fn entry_begin(&self, key: &PeerKey) -> Option<u64>
@@ -354,7 +366,7 @@ impl Node {
         ensures within { OnOk result (KeepsWithin 67108864 self.old self.new) }
         ensures err { OnErr result (self.new ≡ self.old) }
     {
-        self.hear_within(false, MEMORY, now, from, octets)
+        self.hear_by(Reuse::Never, MEMORY, now, from, octets)
     }
 
     /// As `on`, of a node that lets clients use an invoke ID again as soon as its transaction is over (clause 5.4). Call one of both for all datagrams.
@@ -401,7 +413,6 @@ impl Node {
     /// As `hear`, with another bound than [`MEMORY`](crate::MEMORY) on the octets of service data that the server's end keeps. `NoMemory` also where an APDU might
     /// make it keep more than `memory`: a request is taken to need room for its own octets, and for the longest reply and the place of a segment, 65,539 octets.
     /// What is kept already stays, but for entries that are not live, whose place a new one takes.
-    #[tactic(auto, using(crate::proofs::Kept::same_kept))]
     pub fn hear_within(
         &mut self,
         reuse: bool,
@@ -417,17 +428,44 @@ impl Node {
         ensures within { OnOk result (KeepsWithin memory self.old self.new) }
         ensures err { OnErr result (self.new ≡ self.old) }
     {
+        self.hear_by(Reuse::of(reuse), memory, now, from, octets)
+    }
+
+    /// As `hear_within`, of a node that remembers a request no longer than `reuse` says: an equal one gets the kept reply only so long, and is then performed
+    /// again. With [`Reuse::of`](crate::Reuse::of) it is as `hear_within`. Call it in the same way for all datagrams.
+    #[tactic(auto, using(crate::proofs::Kept::same_kept))]
+    pub fn hear_by(
+        &mut self,
+        reuse: Reuse,
+        memory: usize,
+        now: u64,
+        from: LinkAddress,
+        octets: &[u8],
+    ) -> Result<Outcome, NodeFault>
+        ensures went { IfOk result (λ o. NodeHearsBy reuse now from octets.now self.old self.new (outcome_view o)) }
+        ensures early { IsErrOf result NodeFault.ClockBack ↔ (now < self.old.latest) }
+        ensures dropped { IsNotHeard self.old.link from octets.now → IsErrOf result NodeFault.NoMemory → ⊥ }
+        ensures none_open { IsForNoneOpen from octets.now self.old.clients → IsErrOf result NodeFault.NoMemory → ⊥ }
+        ensures within { OnOk result (KeepsWithin memory self.old self.new) }
+        ensures err { OnErr result (self.new ≡ self.old) }
+    {
         if self.is_before(now) {
             return Err(NodeFault::ClockBack);
         }
-        match read_from(self.link, from, octets) {
+        let (peer, apdu) = match read_from(self.link, from, octets) {
+            Ok(read) => read,
             Err(cause) => {
                 self.latest = now;
-                Ok(Outcome::dropped(self.alloc, cause))
+                return Ok(Outcome::dropped(self.alloc, cause));
             }
-            Ok((peer, apdu)) if reuse => Ok(self.dispatch_reusing(memory, now, &peer, &apdu)?),
-            Ok((peer, apdu)) => Ok(self.dispatch(memory, now, &peer, &apdu)?),
-        }
+        };
+        let heard = match reuse {
+            Reuse::Never => self.dispatch(memory, now, &peer, &apdu),
+            Reuse::Remembering(remember) => self.dispatch_reusing(
+                remember, memory, now, &peer, &apdu,
+            ),
+        };
+        Ok(heard?)
     }
 
     /// Gives an APDU to the end that it is for: to the server's where the client of a transaction sends such, otherwise to the client's.
@@ -455,18 +493,19 @@ impl Node {
     #[tactic(auto, using(crate::proofs::Kept::same_kept))]
     fn dispatch_reusing(
         &mut self,
+        remember: u64,
         memory: usize,
         now: u64,
         peer: &Peer,
         apdu: &Apdu<'_>,
     ) -> Result<Outcome, NoMemory>
         ensures within { OnOk result (KeepsWithin memory self.old self.new) }
-        ensures dispatches { DispatchesReusing now (peer_view peer.now) (apdu_view apdu.now) self.old result self.new }
+        ensures dispatches { DispatchesRemembering remember now (peer_view peer.now) (apdu_view apdu.now) self.old result self.new }
         ensures none_open { is_from_client (apdu_view apdu.now) ≡ false
             → HasNoneOpen self.old.clients (key_of (peer_view peer.now) (apdu_view apdu.now)) → IsErr result → ⊥ }
     {
         if is_from_client(apdu) {
-            self.responder_reusing(memory, now, peer, apdu)
+            self.responder_reusing(remember, memory, now, peer, apdu)
         } else {
             self.requester_on_apdu(now, peer, apdu)
         }
@@ -508,27 +547,27 @@ impl Node {
     /// An APDU for the server's end, where invoke IDs may be used again.
     fn responder_reusing(
         &mut self,
+        remember: u64,
         memory: usize,
         now: u64,
         peer: &Peer,
         apdu: &Apdu<'_>,
     ) -> Result<Outcome, NoMemory>
         ensures within { OnOk result (KeepsWithin memory self.old self.new) }
-        ensures heard { IfOk result (λ o. IsHeardReusingBy true (peer_view peer.now) (apdu_view apdu.now) now self.old self.new (outcome_view o)) }
+        ensures heard { IfOk result (λ o. IsHeardRememberingBy remember true (peer_view peer.now) (apdu_view apdu.now) now self.old self.new (outcome_view o)) }
         ensures err { OnErr result (self.new ≡ self.old) }
     {
         replies_can_be_sent(&self.store);
         if !self.servers.has_room_for(now, peer, apdu, memory) {
             return Err(NoMemory);
         }
-        let Served { sends, act: effect } = self.servers.on_reusing(
-            self.alloc,
-            &self.settings,
-            now,
-            peer,
-            apdu,
-            &mut self.store,
-        )?;
+        let rules = ReuseRules {
+            settings: self.settings,
+            remember,
+        };
+        let Served { sends, act: effect } = self
+            .servers
+            .on_reusing(self.alloc, &rules, now, peer, apdu, &mut self.store)?;
         self.latest = now;
         Ok(Outcome {
             sends,

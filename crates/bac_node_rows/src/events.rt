@@ -1,15 +1,15 @@
 //! What a line of a row does to a node. A line is a moment, a verb and its words.
 //!
-//! `from PEER HEX`: an APDU arrives in a plain frame; `reuse PEER HEX`: one arrives at a node that lets invoke IDs be used again. `hear PEER HEX`: a datagram
-//! arrives. `ask PEER LIMITS REQUEST`, `tick`, `prepare` (a tick that is only prepared), `begin ID` (where invoke IDs begin), `restart`,
-//! `set OBJECT PROPERTY HEX` and `file OBJECT HEX` are calls of the node. `due` prints when something is next due, `count` how many slots are held and how many
-//! entries live, and `compare` whether the node and its store are as new.
+//! `from PEER HEX`: an APDU arrives in a plain frame; `reuse PEER HEX`: one arrives at a node that lets invoke IDs be used again, `remember MS PEER HEX`: at one
+//! that then remembers a request no longer than so, and `memory OCTETS PEER HEX`: at one that keeps no more than so. `hear PEER HEX`: a datagram arrives. `ask PEER LIMITS REQUEST`, `tick`, `prepare` (a tick that is only prepared), `begin ID` (where invoke IDs begin), `restart`,
+//! `set OBJECT PROPERTY HEX` and `file OBJECT HEX` are calls of the node. `due` prints when something is next due, `free` when a slot for a request is,
+//! `count` how many slots are held and how many entries live, and `compare` whether the node and its store are as new.
 use crate::scene::{limits_of, link, nodes_of};
 use crate::telling::{framed, print_outcome, print_sends};
 use crate::words::{change_of, first, octets_of, request_of};
 use bac_apdu::read;
 use bac_commands::{print_asked, print_refused};
-use bac_node::{Node, NodeFault, Outcome};
+use bac_node::{MEMORY, Node, NodeFault, Outcome, Reuse};
 use bac_npdu::Peer;
 use bac_requester::{AskFault, Asked};
 use bac_store::ChangeFault;
@@ -78,6 +78,49 @@ fn hears(
     let from = link(peer.parse::<u8>().ok()?);
     let octets = datagram_of(alloc, verb, digits)?;
     told(alloc, node.hear(verb == "reuse", now, from, &octets), out)
+}
+
+/// The sender and the datagram of the words `PEER HEX`, where HEX is an APDU.
+fn sent_in(alloc: Global, words: &str) -> Option<([u8; 6], Vec<u8>)> {
+    let (peer, digits) = words.split_once(' ')?;
+    let from = link(peer.parse::<u8>().ok()?);
+    Some((from, datagram_of(alloc, "from", digits)?))
+}
+
+fn remembers(
+    alloc: Global,
+    node: &mut Node,
+    now: u64,
+    words: &str,
+    out: &mut Vec<u8>,
+) -> Option<Came> {
+    let (milliseconds, words) = first(words);
+    let reuse = Reuse::Remembering(milliseconds.parse::<u64>().ok()?);
+    let (from, octets) = sent_in(alloc, words)?;
+    told(alloc, node.hear_by(reuse, MEMORY, now, from, &octets), out)
+}
+
+fn hears_within(
+    alloc: Global,
+    node: &mut Node,
+    now: u64,
+    words: &str,
+    out: &mut Vec<u8>,
+) -> Option<Came> {
+    let (memory, words) = first(words);
+    let memory = memory.parse::<usize>().ok()?;
+    let (from, octets) = sent_in(alloc, words)?;
+    match told(
+        alloc,
+        node.hear_within(false, memory, now, from, &octets),
+        out,
+    )? {
+        Came::NoMemory => {
+            out.write_all(b"no room\n").ok()?;
+            Some(Came::Refused)
+        }
+        came => Some(came),
+    }
 }
 
 fn prepares(alloc: Global, node: &Node, now: u64, out: &mut Vec<u8>) -> Option<Came> {
@@ -173,6 +216,7 @@ fn tells(
 ) -> Option<Came> {
     match verb.as_bytes() {
         b"due" => print_due(node, out)?,
+        b"free" => writeln!(out, "free {}", node.next_free(now)).ok()?,
         b"count" => writeln!(out, "held {} live {}", node.held(now), node.live(now)).ok()?,
         b"compare" => compare(alloc, node, scene, out)?,
         _ => return None,
@@ -193,6 +237,8 @@ pub(crate) fn happens(
     let (verb, words) = first(line);
     match verb.as_bytes() {
         b"from" | b"hear" | b"reuse" => hears(alloc, node, now, verb, words, out),
+        b"remember" => remembers(alloc, node, now, words, out),
+        b"memory" => hears_within(alloc, node, now, words, out),
         b"tick" => told(alloc, node.tick(now), out),
         b"prepare" => prepares(alloc, node, now, out),
         b"ask" => asks(alloc, node, now, words, out),

@@ -15,6 +15,7 @@ use Rattle.bac_world.specs.World.{Copy, Delivers, DeliversIf, Hears, IsDelivered
 use Rattle.bac_world.proofs.Answered.{ACCEPTED, ANSWER, ASK, ASKED_NODE, LAST, SECOND, THIRD, answer_delivered, answered_run, ask_copied, asks}
 use Rattle.bac_world.proofs.Answered.{copy, datagram, request_delivered}
 use Rattle.bac_node.specs.Waiting.{MovesAt, RestsUntil}
+use Rattle.bac_node.specs.declared.reuse.Reuse.TheVariants as setting
 use Rattle.bac_driver.specs.Asking.{IsBegun}
 use Rattle.bac_driver.specs.BoundNodes.{BoundNode}
 use Rattle.bac_driver.specs.Rounds.{sends_of_all}
@@ -64,7 +65,7 @@ asked_due = record { rests = asked_rests; moves = asked_moves }
 -- The ask.
 
 abbrev ASKED : BoundNode
-ASKED = record { node = ASKED_NODE; failures = 0; calls = with_calls (Some []) (map call_of (datagram (link 1) ASK ∷ [])); buffer = []; reuse = false }
+ASKED = record { node = ASKED_NODE; failures = 0; calls = with_calls (Some []) (map call_of (datagram (link 1) ASK ∷ [])); buffer = []; reuse = setting.Never }
 
 abbrev begun : IsBegun 0 (question (peer_at (link 1)) LIMITS REQUEST) (station 0) 0 ASKED
 begun = record {

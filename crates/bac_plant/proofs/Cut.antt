@@ -66,14 +66,14 @@ step_alone : (overtake : ℕ) (step : Step) (old new : Plant) → PlantStep over
     → HasNoChange new.log
 step_alone overtake (Passes by own) old new s k h = log_is new _ s h
 step_alone overtake (Takes i source turn) old new s k h =
-    log_is new _ s.happens.is (enters_alone s.before.reuse old i s.takes.is.acts.middle turn s.happens.log s.happens.entered h)
+    log_is new _ s.happens.is (enters_alone s.reuse old i s.takes.is.acts.middle turn s.happens.log s.happens.entered h)
 step_alone overtake (FailsToReceive i) old new s k h = log_is new _ s.is h
 step_alone overtake (Begins i server limits r) old new s k h = log_is new _ s.is h
 step_alone overtake (BeginsAway i peer limits r) old new s k h = log_is new _ s.is h
 step_alone overtake (Changes i change) old new s k h = absurd k
 step_alone overtake (Restarts i exact store) old new s k h = log_is new _ s.is (k.0, h)
 step_alone overtake (Holds i source turn) old new s k h =
-    log_is new _ s.happens.is (enters_alone s.before.reuse old i s.holds.takes.middle turn s.happens.log s.happens.entered h)
+    log_is new _ s.happens.is (enters_alone s.reuse old i s.holds.takes.middle turn s.happens.log s.happens.entered h)
 step_alone overtake (SendsHeld i turns) old new s k h = log_is new _ s.is h
 
 keeps_both : (step : Step) (before : List Step) → KeepStores (step ∷ before) → KeepStores (step ∷ []) × KeepStores before

@@ -1,6 +1,6 @@
 -- Whatever a call promises after a run can be the next step.
 use Rattle.std.proofs.Common.{◌≡◌, ℕ, Bool, false, List, [], ◌∷◌, ◌++◌, ◌⊎◌, length, take, Option, Some, None, slice_get, slice_set}
-use Rattle.std.proofs.Common.{refl, sym, subst, inl, inr, ◌∙◌}
+use Rattle.std.proofs.Common.{true, refl, sym, subst, inl, inr, ◌∙◌}
 use Rattle.std.proofs.lemmas.Option.{slice_get_within}
 use Rattle.bac_apdu.specs.Apdu.{Limits}
 use Rattle.bac_service.specs.Values.{Request}
@@ -17,6 +17,9 @@ use Rattle.bac_world.specs.World.{ending_fact, is_away, link_at, peer_at, told, 
 use Rattle.bac_journal.specs.Entering.{AreOfPeer, CanBeCopied, CanEnter, CanGoOn, CanLeave, Every, IsNoted, IsOfClient, IsOfStranger}
 use Rattle.bac_journal.proofs.GoingOn.{runs_can_go_on}
 use Rattle.bac_journal.proofs.Lists.{get_set}
+use Rattle.bac_node.specs.Remembering.{as_ever, is_reusing}
+use Rattle.bac_node.specs.declared.reuse.Reuse.{Reuse}
+use Rattle.bac_node.specs.declared.reuse.Reuse.TheVariants as setting
 use Rattle.bac_driver.specs.Asking.{IsBegun}
 use Rattle.bac_driver.specs.BoundNodes.{BoundNode}
 use Rattle.bac_driver.specs.Turns as turns
@@ -24,7 +27,7 @@ use Rattle.bac_driver.specs.Turns.{Turn, ended_of, performed_of, sends_of}
 use Rattle.bac_plant.specs.Network.{HandsOver, IsOfStation, Source}
 use Rattle.bac_plant.specs.Network.Source.{Noise, Nowhere, Station, Stranger}
 use Rattle.bac_plant.specs.NextSteps.{AsksGoOn, ChangesGoOn, FailuresGoOn, HeldSendsGoOn, HeldTurnsGoOn, IsReached, LeadsTo, RestartsGoOn, StrangersAskedGoOn, TurnsGoOn}
-use Rattle.bac_plant.specs.Plants.{Plant, nodes_of, shows, world_of}
+use Rattle.bac_plant.specs.Plants.{IsSetTo, Plant, nodes_of, shows, world_of}
 use Rattle.bac_plant.specs.Steps.{HappensAt, HoldsSomeTurn, IsSomeTurn, away_note, note_of, question, with_station}
 use Rattle.bac_plant.specs.Steps.Step.{Begins, Holds, Takes}
 use Rattle.bac_plant.specs.Events.{events_of, heard_events}
@@ -119,7 +122,7 @@ module _ (W overtake : ℕ) (p : Plant) (on : CanGoOn W overtake (world_of p)) (
   came_enters (Noise sender octets) d buffer (Some o) h from =
       outside_enters sender octets d.0 (take d.1 buffer) o from.link_is from.whole (inr from.meaningless) h
 
-  heard_enters : (source : Source) (came : Option (Octets × ℕ)) (buffer : Octets) (heard : Option Outcome) → turns.Hears false (shows p i) buffer came a b heard
+  heard_enters : (source : Source) (came : Option (Octets × ℕ)) (buffer : Octets) (heard : Option Outcome) → turns.Hears (as_ever false) (shows p i) buffer came a b heard
       → HandsOver overtake p i source came buffer → MayEnter (world_of p) i b heard
   heard_enters source (Some d) buffer heard h from = came_enters source d buffer heard h from
   heard_enters source None buffer None h from = tt
@@ -131,6 +134,13 @@ tick_enters W overtake w on i a b at None t = tt
 tick_enters W overtake w on i a b at (Some o) t = on.ticks i a b o at t
 
 -- Reached plants go on.
+
+not_reusing : (reuse : Reuse) → is_reusing reuse ≡ false → reuse ≡ as_ever false
+not_reusing (setting.Remembering remember) is = absurd (other is)
+  where
+    other : true ≡ false → ⊥
+    other e = cc
+not_reusing setting.Never is = refl
 
 reached_world : (W overtake : ℕ) (p : Plant) → IsReached W overtake p → (es : List Event) (w : World) → WorldRunSo overtake NONE (world_of p) es w
     → CanGoOn W overtake w
@@ -150,7 +160,7 @@ module _ (W overtake : ℕ) (p : Plant) (r : IsReached W overtake p) (i : ℕ) (
   stands after = get_set p.stations i after (slice_get_within p.stations i before at)
 
   -- a turn, whose node is the middle one between hearing and the tick
-  module _ (turn : Turn) (after : BoundNode) (middle : Node) (hears : turns.Hears false (shows p i) after.buffer turn.received before.node middle turn.heard)
+  module _ (turn : Turn) (after : BoundNode) (middle : Node) (hears : turns.Hears (as_ever false) (shows p i) after.buffer turn.received before.node middle turn.heard)
       (ticks : turns.Ticks (shows p i) middle after.node turn.ticked) (source : Source) (from : HandsOver overtake p i source turn.received after.buffer) where
     first : MayEnter (world_of p) i middle turn.heard
     first = heard_enters W overtake p goes_on i before.node middle first_at source turn.received after.buffer turn.heard hears from
@@ -180,7 +190,7 @@ module _ (W overtake : ℕ) (p : Plant) (r : IsReached W overtake p) (i : ℕ) (
 
     linked : (j : ℕ) → link_at (nodes_of p.stations) j ≡ link_at Middle.nodes j
     linked j = sym (set_links (nodes_of p.stations) i before.node middle first_at
-        (hears_link false (shows p i) after.buffer turn.received before.node middle turn.heard hears) j)
+        (hears_link (as_ever false) (shows p i) after.buffer turn.received before.node middle turn.heard hears) j)
 
     abbrev later_sends : (cs : List Copy) × AreCopied Middle.nodes p.time.now i (sends_of turn.ticked) cs
     later_sends = may_send Middle i after.node turn.ticked second
@@ -203,22 +213,28 @@ module _ (W overtake : ℕ) (p : Plant) (r : IsReached W overtake p) (i : ℕ) (
       stands after,
     )
 
-  off : before.reuse ≡ false
-  off = sym (setting_at p i before at) ∙ run_settings overtake r.steps r.first p r.run i ∙ r.without i
+  off : IsSetTo false before
+  off = not_reusing before.reuse (sym (setting_at p i before at) ∙ run_settings overtake r.steps r.first p r.run i ∙ r.without i)
 
   turn_leads : (turn : Turn) (after : BoundNode) → IsSomeTurn (shows p i) before turn after → (source : Source)
       → HandsOver overtake p i source turn.received after.buffer → LeadsTo overtake p (Takes i source turn) i after
   turn_leads turn after t source from =
-      let m = may_happen turn after t.is.acts.middle (turn_hears false (shows p i) before turn after t off) t.is.acts.ticks source from in
-      let happens = subst (λ (u : Bool). HappensAt u overtake p i source turn t.is.acts.middle after m.0) (sym off) m.1 in
-      record { new = m.0; goes = record { before = before; at = at; after = after; takes = t; happens = happens }; there = m.2 }
+      let m = may_happen turn after t.is.acts.middle (turn_hears (as_ever false) (shows p i) before turn after t off) t.is.acts.ticks source from in
+      record {
+        new = m.0;
+        goes = record { before = before; at = at; after = after; takes = t; reuse = false; set = off; happens = m.1 };
+        there = m.2;
+      }
 
   held_leads : (turn : Turn) (after : BoundNode) → HoldsSomeTurn (shows p i) before turn after → (source : Source)
       → HandsOver overtake p i source turn.received after.buffer → LeadsTo overtake p (Holds i source turn) i after
   held_leads turn after t source from =
-      let m = may_happen turn after t.takes.middle (held_hears false (shows p i) before turn after t off) t.takes.ticks source from in
-      let happens = subst (λ (u : Bool). HappensAt u overtake p i source turn t.takes.middle after m.0) (sym off) m.1 in
-      record { new = m.0; goes = record { before = before; at = at; after = after; holds = t; happens = happens }; there = m.2 }
+      let m = may_happen turn after t.takes.middle (held_hears (as_ever false) (shows p i) before turn after t off) t.takes.ticks source from in
+      record {
+        new = m.0;
+        goes = record { before = before; at = at; after = after; holds = t; reuse = false; set = off; happens = m.1 };
+        there = m.2;
+      }
 
   ask_leads : (server : ℕ) (link : Octets) → link_at (nodes_of p.stations) server ≡ Some link → (limits : Limits) (request : Request) (ticket : ℕ)
       (after : BoundNode) → IsBegun (shows p i) (question (peer_at link) limits request) before ticket after

@@ -14,7 +14,8 @@ use Rattle.bac_world.specs.Node.{Node, NodeOn, NodeTick, Outcome}
 use Rattle.bac_world.specs.ReusingWorlds.{AreLoggedSo}
 use Rattle.bac_world.specs.World.{Hears, World}
 use Rattle.bac_world.proofs.Pairs.{append_none, pairwise_none}
-use Rattle.bac_world.specs.ReusingNodes.{NodeHears}
+use Rattle.bac_node.specs.Remembering.{NodeHearsBy}
+use Rattle.bac_node.specs.declared.reuse.Reuse.{Reuse}
 use Rattle.bac_node.specs.Waiting.{RestsUntil}
 use Rattle.bac_driver.specs.BoundNodes.{BoundNode}
 use Rattle.bac_driver.specs.Calls.{received, with_call}
@@ -22,7 +23,7 @@ use Rattle.bac_driver.specs.Turns.{Receives, Turn, call_of, with_calls}
 use Rattle.bac_driver.specs.Waits.{AT_ONCE, IsDue, IsWait, wait_until}
 use Rattle.bac_plant.specs.Network.{HandsOver, IsOfStation}
 use Rattle.bac_plant.specs.Network.Source.{Nowhere, Station}
-use Rattle.bac_plant.specs.Plants.{Plant, nodes_of, shows, world_of}
+use Rattle.bac_plant.specs.Plants.{IsSetTo, Plant, nodes_of, shows, world_of}
 use Rattle.bac_plant.specs.Steps.{HappensAt, HoldsSomeTurn, HoldsTurnAt, IsSomeTurn, TakesTurnAt, with_station}
 use Rattle.bac_plant.proofs.Turned.{copied_join, node_at, one_there}
 
@@ -109,13 +110,13 @@ receives_it : (now : ℕ) (b : BoundNode) (due : Option ℕ) → IsDue b.node du
 receives_it now b due is from octets =
     record { within = omega arith; wait = 0; waits = waits_not now b.node due is; told = refl; count = refl; node = refl; reuse = refl }
 
-hears_it : (now : ℕ) (b : BoundNode) → b.reuse ≡ false → (from octets : Octets) (n : Node) (o : Outcome) → NodeOn now from octets b.node n o
-    → NodeHears b.reuse now from (take (length octets) octets) b.node n o
+hears_it : (now : ℕ) (b : BoundNode) → IsSetTo false b → (from octets : Octets) (n : Node) (o : Outcome) → NodeOn now from octets b.node n o
+    → NodeHearsBy b.reuse now from (take (length octets) octets) b.node n o
 hears_it now b off from octets n o on =
-    subst (λ (r : Bool). NodeHears r now from (take (length octets) octets) b.node n o) (sym off)
+    subst (λ (r : Reuse). NodeHearsBy r now from (take (length octets) octets) b.node n o) (sym off)
     (subst (λ os. NodeOn now from os b.node n o) (sym (take-length octets)) on)
 
-takes_turn : (now : ℕ) (b : BoundNode) → b.reuse ≡ false → (due : Option ℕ) → IsDue b.node due → (from octets : Octets) (n : Node) (o : Outcome)
+takes_turn : (now : ℕ) (b : BoundNode) → IsSetTo false b → (due : Option ℕ) → IsDue b.node due → (from octets : Octets) (n : Node) (o : Outcome)
     → NodeOn now from octets b.node n o → IsCalm now n → IsSomeTurn now b (turn_by now from octets o) (after_turn now b from octets n o)
 takes_turn now b off due is from octets n o on calm = record {
   limit = AT_ONCE;
@@ -135,7 +136,7 @@ takes_turn now b off due is from octets n o on calm = record {
   };
 }
 
-holds_turn : (now : ℕ) (b : BoundNode) → b.reuse ≡ false → (due : Option ℕ) → IsDue b.node due → (from octets : Octets) (n : Node) (o : Outcome)
+holds_turn : (now : ℕ) (b : BoundNode) → IsSetTo false b → (due : Option ℕ) → IsDue b.node due → (from octets : Octets) (n : Node) (o : Outcome)
     → NodeOn now from octets b.node n o → IsCalm now n → HoldsSomeTurn now b (turn_by now from octets o) (after_held now b from octets n)
 holds_turn now b off due is from octets n o on calm = record {
   limit = AT_ONCE;
@@ -186,7 +187,7 @@ abbrev pub next_plant : Plant → ℕ → BoundNode → World → Plant
 next_plant p i b w = record (with_station p i b) { copies = w.copies; log = w.log }
 
 -- what a node hears in the world is a turn of its station
-module _ (overtake : ℕ) (old : Plant) (i : ℕ) (b : BoundNode) (at : slice_get old.stations i ≡ Some b) (off : b.reuse ≡ false) (due : Option ℕ)
+module _ (overtake : ℕ) (old : Plant) (i : ℕ) (b : BoundNode) (at : slice_get old.stations i ≡ Some b) (off : IsSetTo false b) (due : Option ℕ)
     (is : IsDue b.node due) where
   module _ (number : ℕ) (from octets : Octets) (comes : IsOfStation overtake old i number from octets) (w : World) (h : Hears (world_of old) i from octets w)
       (n : Node) (same : h.after ≡ n) (calm : IsCalm (shows old i) n) where
@@ -198,7 +199,7 @@ module _ (overtake : ℕ) (old : Plant) (i : ℕ) (b : BoundNode) (at : slice_ge
 
     -- what happens to the plant, whatever became of the link
     happens : (after : BoundNode) → after.buffer ≡ octets
-        → HappensAt b.reuse overtake old i (Station number) (turn_by (shows old i) from octets h.outcome) n after (next_plant old i after w)
+        → HappensAt false overtake old i (Station number) (turn_by (shows old i) from octets h.outcome) n after (next_plant old i after w)
     happens after buffer = record {
       comes = subst (λ os. IsOfStation overtake old i number from os) (sym (ap (take (length octets)) buffer ∙ take-length octets)) comes;
       sent = h.acts.sent ++ [];
@@ -208,8 +209,7 @@ module _ (overtake : ℕ) (old : Plant) (i : ℕ) (b : BoundNode) (at : slice_ge
         ended = h.acts.between;
         performed = w.log;
         ends = h.acts.ended;
-        performs = subst (λ (u : Bool). AreLoggedSo u (nodes_of old.stations) old.notes i n h.outcome.performed h.acts.between w.log) (sym off)
-            (subst (λ x. AreLoggedSo false (nodes_of old.stations) old.notes i x h.outcome.performed h.acts.between w.log) same h.acts.logged);
+        performs = subst (λ x. AreLoggedSo false (nodes_of old.stations) old.notes i x h.outcome.performed h.acts.between w.log) same h.acts.logged;
         gives_up = refl;
       };
       is = ap (λ l. record (with_station old i after) { copies = l; log = w.log })
@@ -224,6 +224,8 @@ module _ (overtake : ℕ) (old : Plant) (i : ℕ) (b : BoundNode) (at : slice_ge
       at = at;
       after = after_turn (shows old i) b from octets n h.outcome;
       takes = takes_turn (shows old i) b off due is from octets n h.outcome on calm;
+      reuse = false;
+      set = off;
       happens = happens (after_turn (shows old i) b from octets n h.outcome) refl;
     }
 
@@ -241,6 +243,8 @@ module _ (overtake : ℕ) (old : Plant) (i : ℕ) (b : BoundNode) (at : slice_ge
       at = at;
       after = after_held (shows old i) b from octets n;
       holds = holds_now;
+      reuse = false;
+      set = off;
       happens = happens (after_held (shows old i) b from octets n) refl;
     }
 
@@ -252,6 +256,8 @@ module _ (overtake : ℕ) (old : Plant) (i : ℕ) (b : BoundNode) (at : slice_ge
     at = at;
     after = after_none (shows old i) b;
     takes = takes_none (shows old i) b due is calm;
+    reuse = false;
+    set = off;
     happens = record {
       comes = refl;
       sent = [];
@@ -261,7 +267,7 @@ module _ (overtake : ℕ) (old : Plant) (i : ℕ) (b : BoundNode) (at : slice_ge
         ended = old.log;
         performed = old.log;
         ends = refl;
-        performs = subst (λ (u : Bool). AreLoggedSo u (nodes_of old.stations) old.notes i b.node None old.log old.log) (sym off) refl;
+        performs = refl;
         gives_up = refl;
       };
       is = ap (λ l. record (with_station old i (after_none (shows old i) b)) { copies = l }) (sym (append_none old.copies));

@@ -3,6 +3,7 @@ use Rattle.std.proofs.Common.{◌≡◌, ℕ, Bool, true, false, List, [], ◌�
 use Rattle.std.proofs.lemmas.Bool.Decides.{nat_tests}
 use Rattle.std.proofs.lemmas.Option.{slice_get_within}
 use Rattle.bac_journal.proofs.Lists.{get_set, get_set_other}
+use Rattle.bac_node.specs.Remembering.{is_reusing}
 use Rattle.bac_driver.specs.BoundNodes.{BoundNode}
 use Rattle.bac_plant.specs.Plants.{Plant, reuse_of, settings_of}
 use Rattle.bac_plant.specs.Steps.{PlantRun, PlantStep, RestartsAt, Step}
@@ -16,7 +17,7 @@ set_settings xs i a b at same j = go (nat_eq j i) refl
     go : (t : Bool) → nat_eq j i ≡ t → reuse_of (slice_get (slice_set xs i b) j) ≡ reuse_of (slice_get xs j)
     go true e =
         let is : j ≡ i = grind (arith, nat_tests) in
-        ap (λ k. reuse_of (slice_get (slice_set xs i b) k)) is ∙ ap reuse_of (get_set xs i b (slice_get_within xs i a at)) ∙ same
+        ap (λ k. reuse_of (slice_get (slice_set xs i b) k)) is ∙ ap reuse_of (get_set xs i b (slice_get_within xs i a at)) ∙ ap is_reusing same
         ∙ sym (ap (λ k. reuse_of (slice_get xs k)) is ∙ ap reuse_of at)
     go false e = ap reuse_of (get_set_other xs i j b (λ is. grind (arith, nat_tests)))
 

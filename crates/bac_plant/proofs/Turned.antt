@@ -10,7 +10,10 @@ use Rattle.bac_protocol.specs.Wire.{is_from_client}
 use Rattle.bac_transaction.specs.Sends.{Datagram}
 use Rattle.bac_world.specs.Node.{Node, NodeOn, Outcome, IsHeardBy}
 use Rattle.bac_world.specs.ReusingLogs.{Reuses}
-use Rattle.bac_world.specs.ReusingNodes.{IsHeardReusingBy, NodeHears}
+use Rattle.bac_node.specs.Remembering.{IsHeardRememberingBy, NodeHearsBy, as_ever, is_reusing}
+use Rattle.bac_node.specs.declared.reuse.Reuse.{Reuse}
+use Rattle.bac_node.specs.declared.reuse.Reuse.TheVariants as setting
+use Rattle.bac_node.proofs.Remembering.{as_heard}
 use Rattle.bac_world.specs.ReusingWorlds.{ActsSo, AreLoggedSo, DeliversIfSo, DeliversSo, HearsSo, WorldRunSo}
 use Rattle.bac_world.specs.Once.{Fact}
 use Rattle.bac_world.specs.World.{AreCopied, AreEnded, Copy, Event, IsCopied, IsWithNode, Note, World}
@@ -23,7 +26,7 @@ use Rattle.bac_journal.proofs.Lists.{get_set, get_set_other}
 use Rattle.bac_driver.specs.BoundNodes.{BoundNode}
 use Rattle.bac_driver.specs.Turns as turns
 use Rattle.bac_driver.specs.Turns.{ended_of, performed_of, sends_of}
-use Rattle.bac_plant.specs.Plants.{Plant, node_of, nodes_of, reuse_of, settings_of, shows, world_of}
+use Rattle.bac_plant.specs.Plants.{IsSetTo, Plant, node_of, nodes_of, reuse_of, settings_of, shows, world_of}
 use Rattle.bac_plant.specs.Network.{HandsOver, IsOfStation, Source}
 use Rattle.bac_plant.specs.Network.Source.{Noise, Nowhere, Station, Stranger}
 use Rattle.bac_plant.specs.Steps.{HappensAt, HoldsSomeTurn, HoldsTurnAt, IsSomeTurn, TakesTurnAt}
@@ -64,16 +67,16 @@ on_link now from octets a b o (inr d) = go (is_from_client d.apdu) d.heard
     go true t = ap (λ (n : Node). n.link) t.node
     go false t = ap (λ (n : Node). n.link) t.node
 
-node_link : (reuse : Bool) (now : ℕ) (from octets : Octets) (a b : Node) (o : Outcome) → NodeHears reuse now from octets a b o → b.link ≡ a.link
-node_link false now from octets a b o h = on_link now from octets a b o h
-node_link true now from octets a b o (inl d) = ap (λ (n : Node). n.link) d.node
-node_link true now from octets a b o (inr d) = go (is_from_client d.apdu) d.heard
+node_link : (reuse : Reuse) (now : ℕ) (from octets : Octets) (a b : Node) (o : Outcome) → NodeHearsBy reuse now from octets a b o → b.link ≡ a.link
+node_link setting.Never now from octets a b o h = on_link now from octets a b o h
+node_link (setting.Remembering remember) now from octets a b o (inl d) = ap (λ (n : Node). n.link) d.node
+node_link (setting.Remembering remember) now from octets a b o (inr d) = go (is_from_client d.apdu) d.heard
   where
-    go : (up : Bool) → IsHeardReusingBy up d.peer d.apdu now a b o → b.link ≡ a.link
+    go : (up : Bool) → IsHeardRememberingBy remember up d.peer d.apdu now a b o → b.link ≡ a.link
     go true t = ap (λ (n : Node). n.link) t.node
     go false t = ap (λ (n : Node). n.link) t.node
 
-pub hears_link : (reuse : Bool) (now : ℕ) (buffer : Octets) (came : Option (Octets × ℕ)) (a b : Node) (heard : Option Outcome)
+pub hears_link : (reuse : Reuse) (now : ℕ) (buffer : Octets) (came : Option (Octets × ℕ)) (a b : Node) (heard : Option Outcome)
     → turns.Hears reuse now buffer came a b heard → b.link ≡ a.link
 hears_link reuse now buffer None a b heard h = ap (λ (n : Node). n.link) h.1
 hears_link reuse now buffer (Some d) a b None h = ap (λ (n : Node). n.link) h.same
@@ -184,7 +187,7 @@ module _ (overtake : ℕ) (u : Reuses) (p : Plant) (i : ℕ) (a b : Node) (at : 
   none_heard : b ≡ a → cs ≡ [] → between ≡ p.log → log ≡ between → After ≡ world_of p
   none_heard same none e f = nothing_called (world_of p) i a b at same cs none log (f ∙ e)
 
-  world_hears : (from octets : Octets) (o : Outcome) → NodeHears (u i) (shows p i) from octets a b o
+  world_hears : (from octets : Octets) (o : Outcome) → NodeHearsBy (as_ever (u i)) (shows p i) from octets a b o
       → AreCopied (nodes_of p.stations) p.time.now i o.sends cs → AreEnded p.notes i o.ended p.log between
       → AreLoggedSo (u i) (nodes_of p.stations) p.notes i b o.performed between log → HearsSo (u i) (world_of p) i from octets After
   world_hears from octets o on copied ended logged = record {
@@ -192,7 +195,7 @@ module _ (overtake : ℕ) (u : Reuses) (p : Plant) (i : ℕ) (a b : Node) (at : 
     at = at;
     after = b;
     outcome = o;
-    on = on;
+    on = as_heard (shows p i) a b o from octets (u i) on;
     acts = acted (u i) (world_of p) i a b o at cs copied between log ended logged;
   }
 
@@ -221,7 +224,7 @@ module _ (overtake : ℕ) (u : Reuses) (p : Plant) (i : ℕ) (a b : Node) (at : 
   heard_as sender sent from octets link_is whole h =
       subst (λ l. HearsSo (u i) (world_of p) i l sent After) link_is (subst (λ os. HearsSo (u i) (world_of p) i from os After) whole h)
 
-  came_run : (source : Source) (d : Octets × ℕ) (buffer : Octets) (heard : Option Outcome) → turns.HearsOne (u i) (shows p i) d.0 (take d.1 buffer) a b heard
+  came_run : (source : Source) (d : Octets × ℕ) (buffer : Octets) (heard : Option Outcome) → turns.HearsOne (as_ever (u i)) (shows p i) d.0 (take d.1 buffer) a b heard
       → HandsOver overtake p i source (Some d) buffer → AreCopied (nodes_of p.stations) p.time.now i (sends_of heard) cs
       → AreEnded p.notes i (ended_of heard) p.log between → AreLoggedSo (u i) (nodes_of p.stations) p.notes i b (performed_of heard) between log
       → WorldRunSo overtake u (world_of p) (heard_events i source heard) After
@@ -249,7 +252,7 @@ module _ (overtake : ℕ) (u : Reuses) (p : Plant) (i : ℕ) (a b : Node) (at : 
   )
 
   pub heard_run : (source : Source) (came : Option (Octets × ℕ)) (buffer : Octets) (heard : Option Outcome)
-      → turns.Hears (u i) (shows p i) buffer came a b heard → HandsOver overtake p i source came buffer
+      → turns.Hears (as_ever (u i)) (shows p i) buffer came a b heard → HandsOver overtake p i source came buffer
       → AreCopied (nodes_of p.stations) p.time.now i (sends_of heard) cs
       → AreEnded p.notes i (ended_of heard) p.log between → AreLoggedSo (u i) (nodes_of p.stations) p.notes i b (performed_of heard) between log
       → WorldRunSo overtake u (world_of p) (heard_events i source heard) After
@@ -289,30 +292,34 @@ run_join overtake u (e ∷ es) fs w v y h k = (h.0, h.1, run_join overtake u es 
 -- The turn.
 
 -- what its node hears, by the buffer that the turn leaves
-hears_by : (reuse : Bool) (now : ℕ) (first received after : BoundNode) (turn : turns.Turn) (middle : Node) → received.node ≡ first.node
+hears_by : (reuse : Reuse) (now : ℕ) (first received after : BoundNode) (turn : turns.Turn) (middle : Node) → received.node ≡ first.node
     → after.buffer ≡ received.buffer → received.reuse ≡ reuse → turns.Hears received.reuse now received.buffer turn.received received.node middle turn.heard
     → turns.Hears reuse now after.buffer turn.received first.node middle turn.heard
 hears_by reuse now first received after turn middle node buffer same hears =
     subst (λ n. turns.Hears reuse now after.buffer turn.received n middle turn.heard) node
     (subst (λ l. turns.Hears reuse now l turn.received received.node middle turn.heard) (sym buffer)
-    (subst (λ (r : Bool). turns.Hears r now received.buffer turn.received received.node middle turn.heard) same hears))
+    (subst (λ (r : Reuse). turns.Hears r now received.buffer turn.received received.node middle turn.heard) same hears))
 
-pub turn_hears : (reuse : Bool) (now : ℕ) (before : BoundNode) (turn : turns.Turn) (after : BoundNode) (t : IsSomeTurn now before turn after)
+pub turn_hears : (reuse : Reuse) (now : ℕ) (before : BoundNode) (turn : turns.Turn) (after : BoundNode) (t : IsSomeTurn now before turn after)
     → before.reuse ≡ reuse → turns.Hears reuse now after.buffer turn.received before.node t.is.acts.middle turn.heard
 turn_hears reuse now before turn after t same =
     hears_by reuse now before t.is.middle after turn t.is.acts.middle t.is.receives.node t.is.acts.buffer (t.is.receives.reuse ∙ same) t.is.acts.hears
 
-pub held_hears : (reuse : Bool) (now : ℕ) (before : BoundNode) (turn : turns.Turn) (after : BoundNode) (t : HoldsSomeTurn now before turn after)
+pub held_hears : (reuse : Reuse) (now : ℕ) (before : BoundNode) (turn : turns.Turn) (after : BoundNode) (t : HoldsSomeTurn now before turn after)
     → before.reuse ≡ reuse → turns.Hears reuse now after.buffer turn.received before.node t.takes.middle turn.heard
 held_hears reuse now before turn after t same =
     hears_by reuse now before t.middle after turn t.takes.middle t.receives.node t.takes.buffer (t.receives.reuse ∙ same) t.takes.hears
 
+same_setting : (reuse : Bool) → is_reusing (as_ever reuse) ≡ reuse
+same_setting true = refl
+same_setting false = refl
+
 -- the setting of a station that is there
-pub setting_at : (p : Plant) (i : ℕ) (b : BoundNode) → slice_get p.stations i ≡ Some b → settings_of p i ≡ b.reuse
+pub setting_at : (p : Plant) (i : ℕ) (b : BoundNode) → slice_get p.stations i ≡ Some b → settings_of p i ≡ is_reusing b.reuse
 setting_at p i b at = ap reuse_of at
 
 module _ (overtake : ℕ) (u : Reuses) (old : Plant) (i : ℕ) (before : BoundNode) (at : slice_get old.stations i ≡ Some before) (source : Source)
-    (turn : turns.Turn) (middle : Node) (after : BoundNode) (hears : turns.Hears (u i) (shows old i) after.buffer turn.received before.node middle turn.heard)
+    (turn : turns.Turn) (middle : Node) (after : BoundNode) (hears : turns.Hears (as_ever (u i)) (shows old i) after.buffer turn.received before.node middle turn.heard)
     (ticks : turns.Ticks (shows old i) middle after.node turn.ticked) (new : Plant) (t : HappensAt (u i) overtake old i source turn middle after new) where
   first_at : slice_get (nodes_of old.stations) i ≡ Some before.node
   first_at = node_at old.stations i before at
@@ -328,7 +335,7 @@ module _ (overtake : ℕ) (u : Reuses) (old : Plant) (i : ℕ) (before : BoundNo
 
   linked : (j : ℕ) → link_at Middle.nodes j ≡ link_at (nodes_of old.stations) j
   linked = set_links (nodes_of old.stations) i before.node middle first_at
-      (hears_link (u i) (shows old i) after.buffer turn.received before.node middle turn.heard hears)
+      (hears_link (as_ever (u i)) (shows old i) after.buffer turn.received before.node middle turn.heard hears)
 
   last : after_call Middle i after.node split.rest t.log ≡ world_of new
   last =
@@ -348,18 +355,20 @@ module _ (overtake : ℕ) (u : Reuses) (old : Plant) (i : ℕ) (before : BoundNo
 
 module _ (overtake : ℕ) (u : Reuses) (old : Plant) (settings : (i : ℕ) → settings_of old i ≡ u i) (i : ℕ) (source : Source) (turn : turns.Turn)
     (new : Plant) where
-  setting_is : (b : BoundNode) → slice_get old.stations i ≡ Some b → b.reuse ≡ u i
-  setting_is b at = sym (setting_at old i b at) ∙ settings i
+  setting_is : (b : BoundNode) → slice_get old.stations i ≡ Some b → (reuse : Bool) → IsSetTo reuse b → reuse ≡ u i
+  setting_is b at reuse set = sym (same_setting reuse) ∙ ap is_reusing (sym set) ∙ sym (setting_at old i b at) ∙ settings i
 
   pub turn_run : TakesTurnAt overtake old i source turn new → WorldRunSo overtake u (world_of old) (turn_events i source turn) (world_of new)
   turn_run t =
-      let same : t.before.reuse ≡ u i = setting_is t.before t.at in
-      happens_run overtake u old i t.before t.at source turn t.takes.is.acts.middle t.after (turn_hears (u i) (shows old i) t.before turn t.after t.takes same)
+      let same : t.reuse ≡ u i = setting_is t.before t.at t.reuse t.set in
+      happens_run overtake u old i t.before t.at source turn t.takes.is.acts.middle t.after
+      (turn_hears (as_ever (u i)) (shows old i) t.before turn t.after t.takes (t.set ∙ ap as_ever same))
       t.takes.is.acts.ticks new (subst (λ (r : Bool). HappensAt r overtake old i source turn t.takes.is.acts.middle t.after new) same t.happens)
 
   -- that what it sends is held makes no difference to its world
   pub held_run : HoldsTurnAt overtake old i source turn new → WorldRunSo overtake u (world_of old) (turn_events i source turn) (world_of new)
   held_run t =
-      let same : t.before.reuse ≡ u i = setting_is t.before t.at in
-      happens_run overtake u old i t.before t.at source turn t.holds.takes.middle t.after (held_hears (u i) (shows old i) t.before turn t.after t.holds same)
+      let same : t.reuse ≡ u i = setting_is t.before t.at t.reuse t.set in
+      happens_run overtake u old i t.before t.at source turn t.holds.takes.middle t.after
+      (held_hears (as_ever (u i)) (shows old i) t.before turn t.after t.holds (t.set ∙ ap as_ever same))
       t.holds.takes.ticks new (subst (λ (r : Bool). HappensAt r overtake old i source turn t.holds.takes.middle t.after new) same t.happens)

@@ -22,7 +22,7 @@ use Rattle.bac_driver.specs.Rounds.{IsTaken, sends_in, sends_of_all}
 use Rattle.bac_driver.specs.Runs.{Run}
 use Rattle.bac_driver.specs.Asking.{IsBegun, Question}
 use Rattle.bac_driver.specs.declared.wait_limit.WaitLimit.{WaitLimit}
-use Rattle.bac_plant.specs.Plants.{Plant, nodes_of, shows}
+use Rattle.bac_plant.specs.Plants.{IsSetTo, Plant, nodes_of, shows}
 use Rattle.bac_plant.specs.Network.{HandsOver, Source}
 
 -- time passes, and each clock goes on; a station takes a turn, by a datagram from that source; its link fails to receive; it begins an ask of another
@@ -80,7 +80,9 @@ pub record TakesTurnAt (overtake : ℕ) (old : Plant) (i : ℕ) (source : Source
   pub at : slice_get old.stations i ≡ Some before
   pub after : BoundNode
   pub takes : IsSomeTurn (shows old i) before turn after
-  pub happens : HappensAt before.reuse overtake old i source turn takes.is.acts.middle after new
+  pub reuse : Bool
+  pub set : IsSetTo reuse before
+  pub happens : HappensAt reuse overtake old i source turn takes.is.acts.middle after new
 
 -- ---- a round
 
@@ -98,7 +100,9 @@ pub record HoldsTurnAt (overtake : ℕ) (old : Plant) (i : ℕ) (source : Source
   pub at : slice_get old.stations i ≡ Some before
   pub after : BoundNode
   pub holds : HoldsSomeTurn (shows old i) before turn after
-  pub happens : HappensAt before.reuse overtake old i source turn holds.takes.middle after new
+  pub reuse : Bool
+  pub set : IsSetTo reuse before
+  pub happens : HappensAt reuse overtake old i source turn holds.takes.middle after new
 
 -- all that turns send goes to the link, each datagram once, in order; failed sends are counted
 pub record AreSent (turns : List Turn) (before after : BoundNode) : Type 0 where

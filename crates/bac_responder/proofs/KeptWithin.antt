@@ -1,5 +1,5 @@
 -- What the server's end keeps after a call, in its own terms and in those of its table.
-use Rattle.std.proofs.Common.{◌≡◌, ℕ, ◌+◌, ◌≤◌, Bool, true, false, ◌&&◌, List, [], ◌∷◌, filter, length, max, map, Option, Some, None}
+use Rattle.std.proofs.Common.{◌≡◌, ℕ, ◌+◌, ◌≤◌, Bool, true, false, ◌&&◌, ◌||◌, List, [], ◌∷◌, filter, length, max, map, Option, Some, None}
 use Rattle.std.proofs.Common.{Result, Ok, Err, if◌then◌else◌, refl, ap, sym, subst, ◌∙◌, arith}
 use Rattle.std.specs.Prelude.{IfSome, MatchOption}
 use Rattle.bac_apdu.specs.Apdu.{Apdu}
@@ -17,13 +17,14 @@ use Rattle.bac_store.specs.ReplyLengths.{DATA_LIMIT, reply_length}
 use Rattle.bac_store.specs.Replies.{reply_to}
 use Rattle.bac_store.specs.Stores.{Store}
 use Rattle.bac_protocol.specs.Context.{Settings}
-use Rattle.bac_protocol.specs.Reuse.{ends_entry, entry_left, is_ended_by, left_on_apdu}
+use Rattle.bac_protocol.specs.Reuse.{is_ended_by, left_on_apdu}
 use Rattle.bac_protocol.specs.Server.{ServerTransaction, is_live, is_none_live, live_entry, server_on_apdu}
 use Rattle.bac_protocol.specs.Service.{Octets}
 use Rattle.bac_transaction.specs.Ends.{ServerEnd, ServerSlot, context_of, is_free, key_of, put_entry}
 use Rattle.bac_transaction.specs.Keys as keys
 use Rattle.bac_transaction.specs.Keys.{same_key}
-use Rattle.bac_transaction.specs.Reuse.{end_left, is_read, slots_left}
+use Rattle.bac_transaction.specs.Remembering.{end_unless, ends_it, entry_unless, is_forgotten}
+use Rattle.bac_transaction.specs.Reuse.{is_read, slots_left}
 use Rattle.bac_transaction.specs.Services.{outcome_by, outcome_of, service_of}
 use Rattle.bac_transaction.specs.Views.{code_same_key, context_view, peer_key_view, settings_view, slot_view, slots_view}
 use Rattle.bac_transaction.specs.declared.context.Context as code
@@ -57,53 +58,53 @@ short_service s short choice octets = go (request_at choice octets)
 
 -- An APDU comes for a key.
 
-module _ (now : ℕ) (key : keys.PeerKey) (a : Apdu) (e : ServerEnd) where
+module _ (remember now : ℕ) (key : keys.PeerKey) (a : Apdu) (e : ServerEnd) where
   abbrev pub present : Option ServerTransaction
   present = value_at same_key key e.slots
 
   -- the slots without the entry that the APDU ends, if it ends one
   abbrev pub remaining : List ServerSlot
-  remaining = slots_left (ends_entry is_read now present a) key e.slots
+  remaining = slots_left (ends_it remember now present a) key e.slots
 
   rest_within : kept_octets remaining ≤ kept_octets e.slots
-  rest_within = go (ends_entry is_read now present a)
+  rest_within = go (ends_it remember now present a)
     where
       go : (b : Bool) → kept_octets (slots_left b key e.slots) ≤ kept_octets e.slots
       go true = let sum = without_octets key e.slots in omega (arith, sum)
       go false = omega arith
 
   rest_distinct : IsDistinct same_key e.slots → IsDistinct same_key remaining
-  rest_distinct distinct = go (ends_entry is_read now present a)
+  rest_distinct distinct = go (ends_it remember now present a)
     where
       go : (b : Bool) → IsDistinct same_key (slots_left b key e.slots)
       go true = IsDistinct-without same_key key e.slots distinct
       go false = distinct
 
   rest_moves : kept_octets remaining + octets_of present ≤ kept_octets e.slots + octets_of (value_at same_key key remaining)
-  rest_moves = go (ends_entry is_read now present a)
+  rest_moves = go (ends_it remember now present a)
     where
       go : (b : Bool) → kept_octets (slots_left b key e.slots) + octets_of present ≤ kept_octets e.slots + octets_of (value_at same_key key (slots_left b key e.slots))
       go true = let sum = without_octets key e.slots in omega (arith, sum)
       go false = omega arith
 
-  left_there : IsDistinct same_key e.slots → value_at same_key key remaining ≡ entry_left is_read now present a
-  left_there distinct = go (ends_entry is_read now present a)
+  left_there : IsDistinct same_key e.slots → value_at same_key key remaining ≡ entry_unless remember now present a
+  left_there distinct = go (ends_it remember now present a)
     where
       go : (b : Bool) → value_at same_key key (slots_left b key e.slots) ≡ (if b then None else present)
       go true = removed_none keys.PeerKey ServerTransaction same_key keys_equivalent key e.slots distinct
       go false = refl
 
   -- where none is live, none ends
-  none_ends : is_none_live now present ≡ true → ends_entry is_read now present a ≡ false
+  none_ends : is_none_live now present ≡ true → ends_it remember now present a ≡ false
   none_ends none = go present none
     where
       dead : (b d : Bool) → (if b then false else true) ≡ true → b && d ≡ false
       dead true d none = absurd cc
       dead false d none = refl
 
-      go : (o : Option ServerTransaction) → is_none_live now o ≡ true → ends_entry is_read now o a ≡ false
+      go : (o : Option ServerTransaction) → is_none_live now o ≡ true → ends_it remember now o a ≡ false
       go None none = refl
-      go (Some d) none = dead (is_live now d) (is_ended_by is_read d a) none
+      go (Some d) none = dead (is_live now d) (is_ended_by is_read d a || is_forgotten remember now d a) none
 
   -- what the entry of the key keeps more or less, all keep
   pub left_moves : IsDistinct same_key e.slots → (o : Option ServerTransaction)
@@ -128,11 +129,11 @@ module _ (now : ℕ) (key : keys.PeerKey) (a : Apdu) (e : ServerEnd) where
     on_begins none = put_begins now key e.slots (growth a) after none fits
 
     abbrev left_after : Option ServerTransaction
-    left_after = (left_on_apdu (context_of c now key) (service_of s) is_read (entry_left is_read now present a) (is_free now (end_left now key a e)) a).entry
+    left_after = (left_on_apdu (context_of c now key) (service_of s) is_read (entry_unless remember now present a) (is_free now (end_unless remember now key a e)) a).entry
 
     left_fit : Fits now (octets_of (live_entry now (value_at same_key key remaining)) + growth a) left_after
     left_fit = subst (λ (o : Option ServerTransaction). Fits now (octets_of (live_entry now o) + growth a) left_after) (sym (left_there distinct))
-        (left_fits (context_of c now key) (service_of s) (short_service s short) is_read (entry_left is_read now present a) (is_free now (end_left now key a e)) a)
+        (left_fits (context_of c now key) (service_of s) (short_service s short) is_read (entry_unless remember now present a) (is_free now (end_unless remember now key a e)) a)
 
     pub reusing_grows : kept_octets (put_entry now key left_after remaining) ≤ kept_octets e.slots + growth a
     reusing_grows =
@@ -156,23 +157,23 @@ module _ (now : ℕ) (peer : PeerView) (a : Apdu) (room : ℕ) (e : ServerEnd) (
   -- it grows by no more, and there is room for that
   grown_within : kept_octets e.slots + growth a ≤ room → StaysWithin now peer a room e
   grown_within there = record {
-    on = λ c s short. let sum = on_grows now (key_of peer a) a e c s short distinct in omega (arith, sum, there);
-    on_reusing = λ c s short. let sum = reusing_grows now (key_of peer a) a e c s short distinct in omega (arith, sum, there);
+    on = λ c s short. let sum = on_grows 0 now (key_of peer a) a e c s short distinct in omega (arith, sum, there);
+    on_reusing = λ remember c s short. let sum = reusing_grows remember now (key_of peer a) a e c s short distinct in omega (arith, sum, there);
   }
 
   -- it does not grow
   same_within : growth a ≡ 0 → StaysWithin now peer a room e
   same_within none = record {
-    on = λ c s short. let sum = on_grows now (key_of peer a) a e c s short distinct in omega (arith, sum, none);
-    on_reusing = λ c s short. let sum = reusing_grows now (key_of peer a) a e c s short distinct in omega (arith, sum, none);
+    on = λ c s short. let sum = on_grows 0 now (key_of peer a) a e c s short distinct in omega (arith, sum, none);
+    on_reusing = λ remember c s short. let sum = reusing_grows remember now (key_of peer a) a e c s short distinct in omega (arith, sum, none);
   }
 
   -- no entry of its key is live, and beside the live ones there is room
   begun_within : is_none_live now (value_at same_key (key_of peer a) e.slots) ≡ true → kept_octets (live_slots now e.slots) + growth a ≤ room
       → StaysWithin now peer a room e
   begun_within none there = record {
-    on = λ c s short. let sum = on_begins now (key_of peer a) a e c s short distinct none in omega (arith, sum, there);
-    on_reusing = λ c s short. let sum = reusing_begins now (key_of peer a) a e c s short distinct none in omega (arith, sum, there);
+    on = λ c s short. let sum = on_begins 0 now (key_of peer a) a e c s short distinct none in omega (arith, sum, there);
+    on_reusing = λ remember c s short. let sum = reusing_begins remember now (key_of peer a) a e c s short distinct none in omega (arith, sum, there);
   }
 
 -- The table.
@@ -249,12 +250,12 @@ module _ (c : code.Context) (s : Store) (a : Apdu) (old new : Slots) (capacity r
       (put_moves c.moment k (slots_view old) (apart old distinct)
       (server_on_apdu (context_view c) (service_of s) (value_at same_key k (slots_view old)) (is_free c.moment e) a).entry)
 
-  pub reusing_moved : end_of new room restart ≡ (reusing_turn_of c s a (end_of old capacity restart)).end
+  pub reusing_moved : (remember : ℕ) → end_of new room restart ≡ (reusing_turn_of remember c s a (end_of old capacity restart)).end
       → kept_octets (slots_view new) + octets_of (value_at code_same_key c.key old) ≤ kept_octets (slots_view old) + octets_of (value_at code_same_key c.key new)
-  reusing_moved is = seen_moves c.key old new _ (ap (λ (x : ServerEnd). x.slots) is)
-      (left_moves c.moment k a e (apart old distinct)
-      (left_on_apdu (context_view c) (service_of s) is_read (entry_left is_read c.moment (value_at same_key k (slots_view old)) a)
-      (is_free c.moment (end_left c.moment k a e)) a).entry)
+  reusing_moved remember is = seen_moves c.key old new _ (ap (λ (x : ServerEnd). x.slots) is)
+      (left_moves remember c.moment k a e (apart old distinct)
+      (left_on_apdu (context_view c) (service_of s) is_read (entry_unless remember c.moment (value_at same_key k (slots_view old)) a)
+      (is_free c.moment (end_unless remember c.moment k a e)) a).entry)
 
 -- A tick.
 

@@ -15,3 +15,4 @@ pub mod Sums
 pub mod Growth
 pub mod KeptTables
 pub mod KeptWithin
+pub mod NextFree

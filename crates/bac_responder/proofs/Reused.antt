@@ -13,13 +13,14 @@ use Rattle.bac_store.specs.Stores.{Store}
 use Rattle.bac_store.specs.Replies.{reply_to}
 use Rattle.bac_service.specs.Views.{owned_request_view}
 use Rattle.bac_protocol.specs.Context.{Context}
-use Rattle.bac_protocol.specs.Reuse.{Reads, ends_entry, entry_left, goes_in_segments, has_transfer, idle_on_read, idle_reusing, left_on_apdu, reads_so}
+use Rattle.bac_protocol.specs.Reuse.{Reads, goes_in_segments, has_transfer, idle_on_read, idle_reusing, left_on_apdu, reads_so}
 use Rattle.bac_protocol.specs.Server.{Reaction, ServerTransaction, Service, idle_on_apdu, idle_on_request, is_live, is_none_live, rests, server_abort, server_on_apdu}
 use Rattle.bac_protocol.specs.Service.{OTHER, Octets}
 use Rattle.bac_transaction.specs.Ends.{ServerEnd, ServerTurn, first_after, is_free, is_slot_live, server_goes}
 use Rattle.bac_transaction.specs.Keys as keys
 use Rattle.bac_transaction.specs.Keys.{same_key}
-use Rattle.bac_transaction.specs.Reuse.{end_left, is_read, slots_left}
+use Rattle.bac_transaction.specs.Remembering.{end_unless, ends_it, entry_unless}
+use Rattle.bac_transaction.specs.Reuse.{is_read, slots_left}
 use Rattle.bac_transaction.specs.Sends.{Datagram, IsSent, Pairwise, to_all}
 use Rattle.bac_transaction.specs.Services.{ArePerformed, Performed as Done, service_of, store_after}
 use Rattle.bac_transaction.specs.Views.{code_same_key, context_view, peer_key_view, slots_view}
@@ -148,20 +149,20 @@ left_viewed : (b : Bool) (key : PeerKey) (slots : Slots) → slots_view (code_sl
 left_viewed true key slots = without_viewed ServerTransaction key slots
 left_viewed false key slots = refl
 
-pub end_left_is : (now : ℕ) (key : PeerKey) (a : Apdu) (slots : Slots) (capacity : ℕ) (restart : Option ℕ) (ends : Bool)
-    → ends ≡ ends_entry is_read now (value_at code_same_key key slots) a
-    → end_of (code_slots_left ends key slots) capacity restart ≡ end_left now (peer_key_view key) a (end_of slots capacity restart)
-end_left_is now key a slots capacity restart ends is =
+pub end_left_is : (remember now : ℕ) (key : PeerKey) (a : Apdu) (slots : Slots) (capacity : ℕ) (restart : Option ℕ) (ends : Bool)
+    → ends ≡ ends_it remember now (value_at code_same_key key slots) a
+    → end_of (code_slots_left ends key slots) capacity restart ≡ end_unless remember now (peer_key_view key) a (end_of slots capacity restart)
+end_left_is remember now key a slots capacity restart ends is =
     let e : ServerEnd = end_of slots capacity restart in
-    let same : ends ≡ ends_entry is_read now (value_at same_key (peer_key_view key) (slots_view slots)) a =
-    is ∙ ap (λ o. ends_entry is_read now o a) (value_viewed ServerTransaction key slots) in
+    let same : ends ≡ ends_it remember now (value_at same_key (peer_key_view key) (slots_view slots)) a =
+    is ∙ ap (λ o. ends_it remember now o a) (value_viewed ServerTransaction key slots) in
     ap (λ l. record e { slots = l }) (left_viewed ends key slots) ∙ ap (λ (b : Bool). record e { slots = slots_left b (peer_key_view key) (slots_view slots) }) same
 
-pub none_left : (now : ℕ) (key : PeerKey) (a : Apdu) (slots after : Slots) (ends : Bool) → ends ≡ ends_entry is_read now (value_at code_same_key key slots) a
+pub none_left : (remember now : ℕ) (key : PeerKey) (a : Apdu) (slots after : Slots) (ends : Bool) → ends ≡ ends_it remember now (value_at code_same_key key slots) a
     → after ≡ code_slots_left ends key slots → (ends ≡ true → value_at code_same_key key after ≡ None)
-    → is_none_live now (entry_left is_read now (value_at code_same_key key slots) a) ≡ true → is_none_live now (value_at code_same_key key after) ≡ true
-none_left now key a slots after true is left absent none = ap (is_none_live now) (absent refl)
-none_left now key a slots after false is left absent none =
+    → is_none_live now (entry_unless remember now (value_at code_same_key key slots) a) ≡ true → is_none_live now (value_at code_same_key key after) ≡ true
+none_left remember now key a slots after true is left absent none = ap (is_none_live now) (absent refl)
+none_left remember now key a slots after false is left absent none =
     let o : Option ServerTransaction = value_at code_same_key key slots in
     ap (λ (l : Slots). is_none_live now (value_at code_same_key key l)) left
     ∙ ap (λ (b : Bool). is_none_live now (if b then None else o)) is ∙ none
@@ -198,48 +199,48 @@ served_passed now e key v w s t o sent q same r dead =
     }
 
 -- The end as it is left, and as it was, are served as one.
-pub turned : (now : ℕ) (key : PeerKey) (a : Apdu) (slots : Slots) (capacity : ℕ) (restart : Option ℕ) (ends : Bool)
-    → ends ≡ ends_entry is_read now (value_at code_same_key key slots) a → (c : Context) (service : Service) (o : Option ServerTransaction) (s t : Store)
+pub turned : (remember now : ℕ) (key : PeerKey) (a : Apdu) (slots : Slots) (capacity : ℕ) (restart : Option ℕ) (ends : Bool)
+    → ends ≡ ends_it remember now (value_at code_same_key key slots) a → (c : Context) (service : Service) (o : Option ServerTransaction) (s t : Store)
     → (sent : List Datagram) (x : Option Acted) (new : ServerEnd)
     → IsServed (server_goes now (end_of (code_slots_left ends key slots) capacity restart) (peer_key_view key)
     (left_on_apdu c service is_read o (is_free now (end_of (code_slots_left ends key slots) capacity restart)) a)) s sent x new t
-    → IsServed (server_goes now (end_left now (peer_key_view key) a (end_of slots capacity restart)) (peer_key_view key)
-    (left_on_apdu c service is_read o (is_free now (end_left now (peer_key_view key) a (end_of slots capacity restart))) a)) s sent x new t
-turned now key a slots capacity restart ends is c service o s t sent x new h =
+    → IsServed (server_goes now (end_unless remember now (peer_key_view key) a (end_of slots capacity restart)) (peer_key_view key)
+    (left_on_apdu c service is_read o (is_free now (end_unless remember now (peer_key_view key) a (end_of slots capacity restart))) a)) s sent x new t
+turned remember now key a slots capacity restart ends is c service o s t sent x new h =
     subst (λ (d : ServerEnd). IsServed (server_goes now d (peer_key_view key) (left_on_apdu c service is_read o (is_free now d) a)) s sent x new t)
-    (end_left_is now key a slots capacity restart ends is) h
+    (end_left_is remember now key a slots capacity restart ends is) h
 
 -- A live entry that does not end goes on as it does without reuse.
-pub goes_on_as : (c : code.Context) (s : Store) (a : Apdu) (slots : Slots) (capacity : ℕ) (restart : Option ℕ) (x : Result Served NoMemory) (new : ServerEnd)
-    (t : Store) → ends_entry is_read c.moment (value_at code_same_key c.key slots) a ≡ false → is_none_live c.moment (value_at code_same_key c.key slots) ≡ false
+pub goes_on_as : (remember : ℕ) (c : code.Context) (s : Store) (a : Apdu) (slots : Slots) (capacity : ℕ) (restart : Option ℕ) (x : Result Served NoMemory) (new : ServerEnd)
+    (t : Store) → ends_it remember c.moment (value_at code_same_key c.key slots) a ≡ false → is_none_live c.moment (value_at code_same_key c.key slots) ≡ false
     → Serves (turn_of c s a (end_of slots capacity restart)) (end_of slots capacity restart) s x new t
-    → Serves (reusing_turn_of c s a (end_of slots capacity restart)) (end_of slots capacity restart) s x new t
-goes_on_as c s a slots capacity restart x new t stays live h =
+    → Serves (reusing_turn_of remember c s a (end_of slots capacity restart)) (end_of slots capacity restart) s x new t
+goes_on_as remember c s a slots capacity restart x new t stays live h =
     let now : ℕ = c.moment in
     let e : ServerEnd = end_of slots capacity restart in
     let k : keys.PeerKey = peer_key_view c.key in
     let set : Context = context_view c in
     let o : Option ServerTransaction = value_at same_key k e.slots in
     let same : value_at code_same_key c.key slots ≡ o = value_viewed ServerTransaction c.key slots in
-    let same_there : ends_entry is_read now o a ≡ false = ap (λ y. ends_entry is_read now y a) (sym same) ∙ stays in
+    let same_there : ends_it remember now o a ≡ false = ap (λ y. ends_it remember now y a) (sym same) ∙ stays in
     let alive : is_none_live now o ≡ false = ap (is_none_live now) (sym same) ∙ live in
     let turn : (b : Bool) → ServerTurn = λ b. server_goes now (record e { slots = slots_left b k e.slots }) k
     (left_on_apdu set (service_of s) is_read (if b then None else o) (is_free now (record e { slots = slots_left b k e.slots })) a) in
-    let is : reusing_turn_of c s a e ≡ turn_of c s a e =
+    let is : reusing_turn_of remember c s a e ≡ turn_of c s a e =
     ap turn same_there ∙ ap (server_goes now e k) (left_goes_on set (service_of s) is_read o (is_free now e) a alive) in
     subst (λ (y : ServerTurn). Serves y e s x new t) (sym is) h
 
 -- Whether an entry may begin, where one ended.
-some_ended : (now : ℕ) (a : Apdu) (o : Option ServerTransaction) → ends_entry is_read now o a ≡ true → (v : ServerTransaction) × (o ≡ Some v)
-some_ended now a None h = absurd cc
-some_ended now a (Some v) h = (v, refl)
+some_ended : (remember now : ℕ) (a : Apdu) (o : Option ServerTransaction) → ends_it remember now o a ≡ true → (v : ServerTransaction) × (o ≡ Some v)
+some_ended remember now a None h = absurd cc
+some_ended remember now a (Some v) h = (v, refl)
 
-pub place_left_is : (now : ℕ) (key : PeerKey) (a : Apdu) (slots : Slots) (capacity : ℕ) (restart : Option ℕ)
-    → ends_entry is_read now (value_at code_same_key key slots) a ≡ true → length slots ≤ capacity
+pub place_left_is : (remember now : ℕ) (key : PeerKey) (a : Apdu) (slots : Slots) (capacity : ℕ) (restart : Option ℕ)
+    → ends_it remember now (value_at code_same_key key slots) a ≡ true → length slots ≤ capacity
     → ((v : ServerTransaction) → value_at code_same_key key slots ≡ Some v → length (without code_same_key key slots) + 1 ≡ length slots)
     → is_free now (end_of (without code_same_key key slots) capacity restart) ≡ not (nat_lt now (first_after KEEP restart))
-place_left_is now key a slots capacity restart ends within less =
-    let v = some_ended now a (value_at code_same_key key slots) ends in
+place_left_is remember now key a slots capacity restart ends within less =
+    let v = some_ended remember now a (value_at code_same_key key slots) ends in
     let rest : Slots = without code_same_key key slots in
     let one : length rest + 1 ≡ length slots = less v.0 v.1 in
     let count : count_by (λ s. is_live now s.value) rest ≤ length rest = count_by-le-length (λ s. is_live now s.value) rest in

@@ -13,7 +13,7 @@ use Rattle.bac_protocol.specs.Context.{Settings}
 use Rattle.bac_protocol.specs.Server.{ServerTransaction, State, is_live}
 use Rattle.bac_protocol.specs.Service.{Octets}
 use Rattle.bac_transaction.specs.Ends.{ServerEnd, ServerSlot, responder_on_apdu}
-use Rattle.bac_transaction.specs.Reuse.{responder_reusing}
+use Rattle.bac_transaction.specs.Remembering.{responder_remembering}
 use Rattle.bac_transaction.specs.Services.{service_of}
 use Rattle.bac_transaction.specs.declared.peer_key.PeerKey.{PeerKey}
 
@@ -73,5 +73,5 @@ HasShortReplies s = (r : Request) → reply_length (reply_to s r) ≤ DATA_LIMIT
 -- whatever that APDU makes of the end, in a node of either setting, it then keeps no more octets than before, or no more than there is room for
 pub record StaysWithin (now : ℕ) (peer : PeerView) (a : Apdu) (room : ℕ) (e : ServerEnd) : Type 0 where
   pub on : (c : Settings) (s : Store) → HasShortReplies s → kept_octets (responder_on_apdu c now (service_of s) peer a e).end.slots ≤ max (kept_octets e.slots) room
-  pub on_reusing : (c : Settings) (s : Store) → HasShortReplies s
-      → kept_octets (responder_reusing c now (service_of s) peer a e).end.slots ≤ max (kept_octets e.slots) room
+  pub on_reusing : (remember : ℕ) (c : Settings) (s : Store) → HasShortReplies s
+      → kept_octets (responder_remembering remember c now (service_of s) peer a e).end.slots ≤ max (kept_octets e.slots) room

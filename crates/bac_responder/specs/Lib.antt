@@ -4,6 +4,7 @@ pub mod Views
 pub mod Aging
 pub mod Short
 pub mod Kept
+pub mod Freeing
 pub mod TransactionViews
 pub mod Reactions
 pub mod Reading

@@ -11,7 +11,8 @@ use Rattle.bac_protocol.specs.Server as server
 use Rattle.bac_protocol.specs.Server.{ServerTransaction}
 use Rattle.bac_protocol.specs.Service.{Octets}
 use Rattle.bac_transaction.specs.Ends.{ServerEnd, ServerTurn}
-use Rattle.bac_transaction.specs.Reuse.{is_read, reusing_turn}
+use Rattle.bac_transaction.specs.Remembering.{remembering_turn}
+use Rattle.bac_transaction.specs.Reuse.{is_read}
 use Rattle.bac_transaction.specs.Sends.{Datagram, Pairwise, IsSent, to_all}
 use Rattle.bac_transaction.specs.Services as services
 use Rattle.bac_transaction.specs.Services.{ArePerformed, service_of, store_after}
@@ -44,9 +45,9 @@ ReusingReacts r peer s (Err e) t = t ≡ s
 abbrev pub code_slots_left : (ends : Bool) → PeerKey → List (Slot PeerKey ServerTransaction) → List (Slot PeerKey ServerTransaction)
 code_slots_left ends key slots = if ends then without code_same_key key slots else slots
 
--- the turn that an APDU for the context's transaction makes of an end, with a store as the service
-abbrev pub reusing_turn_of : code.Context → Store → Apdu → ServerEnd → ServerTurn
-reusing_turn_of c s a e = reusing_turn (settings_view c.settings) c.moment (service_of s) (peer_key_view c.key) a e
+-- the turn that an APDU for the context's transaction makes of an end which remembers so long, with a store as the service
+abbrev pub reusing_turn_of : (remember : ℕ) → code.Context → Store → Apdu → ServerEnd → ServerTurn
+reusing_turn_of remember c s a e = remembering_turn remember (settings_view c.settings) c.moment (service_of s) (peer_key_view c.key) a e
 
 -- what a read says
 pub record Read : Type 0 where

@@ -11,6 +11,7 @@
 mod aging;
 mod comparing;
 mod effect;
+mod freeing;
 mod idle;
 mod keeping;
 mod kept_reply;
@@ -35,6 +36,6 @@ mod timers;
 pub use effect::Effect;
 pub use idle::idle_on_apdu;
 pub use performed::Performed;
-pub use responder::Responder;
+pub use responder::{Responder, ReuseRules};
 pub use served::{Act, Served};
 pub use server_transaction::ServerTransaction;

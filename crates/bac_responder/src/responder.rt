@@ -7,7 +7,7 @@ ghost use Rattle.bac_slots.specs.Slots.{value_at};
 ghost use Rattle.bac_protocol.specs.Context.{Settings as Set};
 ghost use Rattle.bac_protocol.specs.declared.times.TheConstants.{KEEP as KEPT_FOR};
 ghost use Rattle.bac_transaction.specs.Ends.{first_after, is_slot_live, responder_on_apdu, responder_tick};
-ghost use Rattle.bac_transaction.specs.Reuse.{responder_reusing};
+ghost use Rattle.bac_transaction.specs.Remembering.{responder_remembering};
 ghost use Rattle.bac_transaction.specs.Tables.{AreLive, IsOrderlyServer};
 ghost use Rattle.bac_transaction.specs.Sends.{Pairwise, IsSent};
 ghost use Rattle.bac_transaction.specs.Keys.{same_key};
@@ -19,10 +19,11 @@ ghost use Rattle.bac_responder.specs.Kept.{StaysWithin, kept_octets};
 ghost use Rattle.bac_responder.specs.Views.{end_of, Serves};
 
 use crate::aging::{ServerRules, ShortRequests};
+use crate::freeing::first_dead;
 use crate::keeping::{count_octets, fits, key_octets, moved, service_len};
 use crate::lookup::on_apdu;
 use crate::moments::{first_end, first_timer};
-use crate::reusing::is_none_live;
+use crate::reusing::{Remembering, is_none_live};
 use crate::served::Served;
 use crate::ticking::{nothing_due, prepare};
 use crate::{ServerTransaction, reusing};
@@ -39,6 +40,14 @@ use std::marker::Model;
 
 /// How long no entries are counted again once there was no room, in milliseconds.
 const PAUSE: u64 = 1_000;
+
+/// What a node is set to that lets clients use an invoke ID again as soon as its transaction is over.
+#[derive(Clone, Copy, Debug, PartialEq, Eq)]
+pub struct ReuseRules {
+    pub settings: Settings,
+    /// For how long it remembers a request that is over, in milliseconds from its beginning on.
+    pub remember: u64,
+}
 
 /// The server's end of a node: the reply table.
 #[derive(Drop)]
@@ -104,6 +113,19 @@ impl<S: SlotTable<PeerKey, ServerTransaction> + Drop> Responder<S> {
         ensures moves { (settings : Set) → result < LAST_MOMENT → (responder_tick settings (max from result) self.now).end ≢ self.now }
     {
         first_timer(&self.aged, from).min(first_end(&self.aged))
+    }
+
+    /// The first moment, in milliseconds, looked at from a moment on, at which not all of its slots have a live entry; the last moment of all where that is not
+    /// before it. So long a request that needs a slot is turned away. It looks at each slot where all are in use, otherwise at none.
+    pub fn next_free(&self, from: u64) -> u64
+        ensures from { from ≤ result }
+        ensures full { (moment : ℕ) → from ≤ moment → moment < result → self.now.capacity ≤ count_by (is_slot_live moment) self.now.slots }
+        ensures free { result < LAST_MOMENT → count_by (is_slot_live result) self.now.slots < self.now.capacity }
+    {
+        if self.aged.table.len() < self.aged.table.room() {
+            return from;
+        }
+        from.max(first_dead(&self.aged.table))
     }
 
     /// How many slots it was made with.
@@ -217,31 +239,37 @@ impl<S: SlotTable<PeerKey, ServerTransaction> + Drop> Responder<S> {
     /// AtomicReadFile), or another request than the kept one; segments end it only where it began without. The request is then performed, or begins to be
     /// received; the kept one still gets the kept reply. Where no entry of its peer and invoke ID goes on, a read whose reply is one APDU is performed: it needs
     /// no free slot, no entry is kept of it, and the end does not turn it away while it waits after a restart.
+    ///
+    /// An entry that is over ends also, whatever request begins, where it began more than `rules.remember` milliseconds ago: an equal one is then performed again.
+    /// No entry is live for longer than 65,000 ms, so with that many, or more, none ends so.
     pub fn on_reusing(
         &mut self,
         alloc: Global,
-        settings: &Settings,
+        rules: &ReuseRules,
         now: u64,
         peer: &Peer,
         apdu: &Apdu<'_>,
         store: &mut Store,
     ) -> Result<Served, NoMemory>
-        ensures { Serves (responder_reusing (settings_view settings.now) now (service_of store.old) (peer_view peer.now) (apdu_view apdu.now) self.old) self.old
+        ensures { Serves (responder_remembering rules.now.remember (settings_view rules.now.settings) now (service_of store.old) (peer_view peer.now) (apdu_view apdu.now) self.old) self.old
             store.old result self.new store.new }
     {
         let key = PeerKey {
             peer: *peer,
             invoke_id: invoke_id_of(apdu),
         };
-        let context = Context {
-            settings: *settings,
-            key,
-            moment: now,
+        let told = Remembering {
+            context: Context {
+                settings: rules.settings,
+                key,
+                moment: now,
+            },
+            remember: rules.remember,
         };
         // that no two entries have one key
         let _entries = self.aged.table.len();
         let before = key_octets(&self.aged.table, &key);
-        let served = reusing::on_apdu(alloc, &context, &mut self.aged, self.restart, apdu, store)?;
+        let served = reusing::on_apdu(alloc, &told, &mut self.aged, self.restart, apdu, store)?;
         self.kept = moved(self.kept, before, key_octets(&self.aged.table, &key));
         Ok(served)
     }

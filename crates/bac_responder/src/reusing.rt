@@ -7,6 +7,7 @@ ghost use Rattle.bac_slots.specs.Ages.{IsKnownBy};
 ghost use Rattle.bac_protocol.specs.Reuse as machine;
 ghost use Rattle.bac_protocol.specs.Server.{is_none_live};
 ghost use Rattle.bac_transaction.specs.Ends.{is_free};
+ghost use Rattle.bac_transaction.specs.Remembering.{ends_it, entry_unless, is_forgotten};
 ghost use Rattle.bac_transaction.specs.Reuse.{is_read};
 ghost use Rattle.bac_transaction.specs.Services.{service_of};
 ghost use Rattle.bac_transaction.specs.Views.{code_same_key, context_view, peer_of};
@@ -35,6 +36,14 @@ use bac_store::Store;
 use bac_transaction::{Context, PeerKey, is_waiting, only_abort};
 use bac_value::NoMemory;
 use std::alloc::Global;
+
+/// What an APDU's transaction is told, and for how long its end remembers a request that is over.
+#[derive(Clone, Copy)]
+pub(crate) struct Remembering {
+    pub(crate) context: Context,
+    /// In milliseconds, from the beginning of the request on.
+    pub(crate) remember: u64,
+}
 
 /// Whether requests of this choice change no store: ReadProperty and AtomicReadFile (clauses 15.5 and 14.1).
 fn is_read(choice: u8) -> bool
@@ -84,6 +93,23 @@ impl ServerTransaction {
         match segment {
             None => is_read(choice) || !is_repeated(&self.origin, None, choice, service),
             Some(segment) => segment.number == 0 && self.origin.request.is_some(),
+        }
+    }
+
+    /// Whether it is over and began more than so many milliseconds ago, and an APDU begins a request.
+    fn is_forgotten(&self, remember: u64, now: u64, apdu: &Apdu<'_>) -> bool
+        ensures { result ≡ is_forgotten remember now self.now (apdu_view apdu.now) }
+    {
+        let Apdu::ConfirmedRequest { segment, .. } = *apdu else {
+            return false;
+        };
+        if !self.state.is_over() {
+            return false;
+        }
+        let is_past = remember < now.saturating_sub(self.origin.begin);
+        match segment {
+            None => is_past,
+            Some(segment) => segment.number == 0 && is_past,
         }
     }
 }
@@ -167,18 +193,21 @@ fn idle_reusing(
     }
 }
 
-/// Whether an APDU ends the entry of the key, if that is live.
+/// Whether an APDU ends the entry of its key, if that is live.
 fn ends_entry<S: SlotTable<PeerKey, ServerTransaction>>(
     table: &S,
-    key: &PeerKey,
-    now: u64,
+    told: &Remembering,
     apdu: &Apdu<'_>,
 ) -> bool
-    ensures { result ≡ machine.ends_entry is_read now (value_at code_same_key key.now (S.slots table.now)) (apdu_view apdu.now) }
+    ensures { result ≡ ends_it told.now.remember told.now.context.moment (value_at code_same_key told.now.context.key (S.slots table.now)) (apdu_view apdu.now) }
 {
-    match table.get(key) {
+    let now = told.context.moment;
+    match table.get(&told.context.key) {
         None => false,
-        Some(entry) => entry.is_live(now) && entry.is_ended_by(apdu),
+        Some(entry) => {
+            entry.is_live(now)
+                && (entry.is_ended_by(apdu) || entry.is_forgotten(told.remember, now, apdu))
+        }
     }
 }
 
@@ -199,23 +228,25 @@ pub(crate) fn is_none_live<S: SlotTable<PeerKey, ServerTransaction>>(
 /// Whether an APDU begins a request, and an entry may begin, once that of the key has ended, if it does.
 fn has_place_left<S: SlotTable<PeerKey, ServerTransaction>>(
     aged: &AgedTable<ServerRules, S>,
-    context: &Context,
+    told: &Remembering,
     restart: Option<u64>,
     ends: bool,
     apdu: &Apdu<'_>,
 ) -> bool
     requires aged { AreAged aged.now.ages (S.slots aged.now.table) }
-    requires ends { ends ≡ machine.ends_entry is_read context.now.moment (value_at code_same_key context.now.key (S.slots aged.now.table)) (apdu_view apdu.now) }
-    ensures { result ≡ (begins_request (apdu_view apdu.now) && is_free context.now.moment (end_of (code_slots_left ends context.now.key (S.slots aged.now.table))
-        (S.capacity aged.now.table) restart)) }
+    requires ends { ends ≡ ends_it told.now.remember told.now.context.moment (value_at code_same_key told.now.context.key (S.slots aged.now.table))
+        (apdu_view apdu.now) }
+    ensures { result ≡ (begins_request (apdu_view apdu.now) && is_free told.now.context.moment
+        (end_of (code_slots_left ends told.now.context.key (S.slots aged.now.table)) (S.capacity aged.now.table) restart)) }
 {
+    let now = told.context.moment;
     if !ends {
-        return has_place(aged, restart, context.moment, apdu);
+        return has_place(aged, restart, now, apdu);
     }
     // its own slot gets free: no more entries are live than there are slots
     let _len = aged.table.len();
     removing_a_slot::<PeerKey, ServerTransaction>();
-    begins_request(apdu) && !is_waiting(restart, KEEP, context.moment)
+    begins_request(apdu) && !is_waiting(restart, KEEP, now)
 }
 
 /// The entry of the key ends, if it does.
@@ -239,22 +270,23 @@ fn end_entry<S: SlotTable<PeerKey, ServerTransaction>>(
 /// An APDU comes where no entry of the context's key is live, or it ends the one that is.
 fn on_apdu_without_entry<S: SlotTable<PeerKey, ServerTransaction>>(
     alloc: Global,
-    context: &Context,
+    told: &Remembering,
     aged: &mut AgedTable<ServerRules, S>,
     restart: Option<u64>,
     apdu: &Apdu<'_>,
     store: &mut Store,
 ) -> Result<Served, NoMemory>
-    requires none { is_none_live context.now.moment (machine.entry_left is_read context.now.moment
-        (value_at code_same_key context.now.key (S.slots aged.old.table)) (apdu_view apdu.now)) ≡ true }
+    requires none { is_none_live told.now.context.moment (entry_unless told.now.remember told.now.context.moment
+        (value_at code_same_key told.now.context.key (S.slots aged.old.table)) (apdu_view apdu.now)) ≡ true }
     requires aged { AreAged aged.old.ages (S.slots aged.old.table) }
-    ensures turn { Serves (reusing_turn_of context.now store.old (apdu_view apdu.now) (end_of (S.slots aged.old.table) (S.capacity aged.old.table) restart))
+    ensures turn { Serves (reusing_turn_of told.now.remember told.now.context store.old (apdu_view apdu.now) (end_of (S.slots aged.old.table) (S.capacity aged.old.table) restart))
         (end_of (S.slots aged.old.table) (S.capacity aged.old.table) restart) store.old result (end_of (S.slots aged.new.table) (S.capacity aged.new.table) restart) store.new }
     ensures aged { AreAged aged.new.ages (S.slots aged.new.table) }
-    ensures known { IsKnownBy context.now.moment aged.old.ages.latest → IsKnownBy context.now.moment aged.new.ages.latest }
+    ensures known { IsKnownBy told.now.context.moment aged.old.ages.latest → IsKnownBy told.now.context.moment aged.new.ages.latest }
 {
-    let ends = ends_entry(&aged.table, &context.key, context.moment, apdu);
-    let free = has_place_left(aged, context, restart, ends, apdu);
+    let context = &told.context;
+    let ends = ends_entry(&aged.table, told, apdu);
+    let free = has_place_left(aged, told, restart, ends, apdu);
     let (performed, begun) = idle_reusing(alloc, context, free, apdu, store)?;
     end_entry(aged, &context.key, ends);
     match begun {
@@ -269,23 +301,24 @@ fn on_apdu_without_entry<S: SlotTable<PeerKey, ServerTransaction>>(
 /// An APDU comes for the context's transaction: it begins anew where no entry is live or it ends the one that is, and otherwise goes to the live one.
 pub(crate) fn on_apdu<S: SlotTable<PeerKey, ServerTransaction>>(
     alloc: Global,
-    context: &Context,
+    told: &Remembering,
     aged: &mut AgedTable<ServerRules, S>,
     restart: Option<u64>,
     apdu: &Apdu<'_>,
     store: &mut Store,
 ) -> Result<Served, NoMemory>
     requires aged { AreAged aged.old.ages (S.slots aged.old.table) }
-    ensures turn { Serves (reusing_turn_of context.now store.old (apdu_view apdu.now) (end_of (S.slots aged.old.table) (S.capacity aged.old.table) restart))
+    ensures turn { Serves (reusing_turn_of told.now.remember told.now.context store.old (apdu_view apdu.now) (end_of (S.slots aged.old.table) (S.capacity aged.old.table) restart))
         (end_of (S.slots aged.old.table) (S.capacity aged.old.table) restart) store.old result (end_of (S.slots aged.new.table) (S.capacity aged.new.table) restart) store.new }
     ensures aged { AreAged aged.new.ages (S.slots aged.new.table) }
-    ensures known { IsKnownBy context.now.moment aged.old.ages.latest → IsKnownBy context.now.moment aged.new.ages.latest }
+    ensures known { IsKnownBy told.now.context.moment aged.old.ages.latest → IsKnownBy told.now.context.moment aged.new.ages.latest }
 {
-    if ends_entry(&aged.table, &context.key, context.moment, apdu) {
-        return on_apdu_without_entry(alloc, context, aged, restart, apdu, store);
+    let context = &told.context;
+    if ends_entry(&aged.table, told, apdu) {
+        return on_apdu_without_entry(alloc, told, aged, restart, apdu, store);
     }
     if is_none_live(&aged.table, &context.key, context.moment) {
-        return on_apdu_without_entry(alloc, context, aged, restart, apdu, store);
+        return on_apdu_without_entry(alloc, told, aged, restart, apdu, store);
     }
     lookup::on_apdu(alloc, context, aged, restart, apdu, store)
 }

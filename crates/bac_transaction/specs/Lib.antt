@@ -9,4 +9,5 @@ pub mod Meanings
 pub mod Examples
 pub mod Services
 pub mod Reuse
+pub mod Remembering
 pub mod ReuseExamples

@@ -1,18 +1,19 @@
 //! The node of each command, on its link.
-ghost use Rattle.std.specs.Prelude.{◌≡◌, false, IfOk, IsErrOf};
+ghost use Rattle.std.specs.Prelude.{◌≡◌, IfOk, IsErrOf};
 ghost use Rattle.bac_node.specs.Fresh.{large_slots_fit};
 ghost use Rattle.bac_commands.specs.Houses.{client_node, house_node, server_node};
 
 use crate::fresh_node::{asking_node, node_with, server_node};
 use bac_driver::{BoundNode, Link};
-use bac_node::NewNodeFault;
+use bac_node::{NewNodeFault, Reuse};
 use bac_npdu::LinkAddress;
 use bac_store::{Store, house};
 use bac_value::NoMemory;
 use std::alloc::Global;
 
 /// A node of that address that serves a store, on that link, with so many slots at each end, 1 to 65,536. Where a moment is given, in milliseconds, it restarts
-/// then: it turns new requests away while no more than 65,000 ms have passed since. It lets no client use an invoke ID again (`BoundNode::set_reuse`).
+/// then: it turns new requests away while no more than 65,000 ms have passed since. It lets no client use an invoke ID again (`BoundNode::set_reuse`), and
+/// keeps no more than 64 MiB (`BoundNode::set_memory`).
 ///
 /// `BadSlots` where there can't be so many slots, `NoMemory` where memory is refused.
 pub fn bound_server<L: Link>(
@@ -26,7 +27,7 @@ pub fn bound_server<L: Link>(
     ensures node { IfOk result (λ s. s.node ≡ server_node slots restart address store) }
     ensures failures { IfOk result (λ s. s.failures ≡ L.failures link) }
     ensures calls { IfOk result (λ s. s.calls ≡ L.calls link) }
-    ensures reuse { IfOk result (λ s. s.reuse ≡ false) }
+    ensures reuse { IfOk result (λ s. s.reuse ≡ Reuse.Never) }
     ensures slots { IsErrOf result NewNodeFault.BadSlots → large_slots_fit slots ≡ false }
     ensures window { IsErrOf result NewNodeFault.BadWindow → ⊥ }
 {
@@ -45,7 +46,7 @@ pub fn bound_house<L: Link>(
     ensures node { IfOk result (λ s. s.node ≡ house_node first_id address) }
     ensures failures { IfOk result (λ s. s.failures ≡ L.failures link) }
     ensures calls { IfOk result (λ s. s.calls ≡ L.calls link) }
-    ensures reuse { IfOk result (λ s. s.reuse ≡ false) }
+    ensures reuse { IfOk result (λ s. s.reuse ≡ Reuse.Never) }
 {
     let store = house(alloc)?;
     let mut node = node_with(alloc, address, store)?;
@@ -63,7 +64,7 @@ pub fn bound_client<L: Link>(
     ensures node { IfOk result (λ s. s.node ≡ client_node first_id address) }
     ensures failures { IfOk result (λ s. s.failures ≡ L.failures link) }
     ensures calls { IfOk result (λ s. s.calls ≡ L.calls link) }
-    ensures reuse { IfOk result (λ s. s.reuse ≡ false) }
+    ensures reuse { IfOk result (λ s. s.reuse ≡ Reuse.Never) }
 {
     let store = house(alloc)?;
     let mut node = asking_node(alloc, address, store)?;

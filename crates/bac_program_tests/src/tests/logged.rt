@@ -81,6 +81,15 @@ const REUSING_WRITE_LINES: &str = "\
 6500 127.0.0.1:47809 id 5 write analog-value:1 present-value real 180.0: answered written
 ";
 
+/// A write, and two that are equal to it.
+const EQUAL_WRITES: Datagrams = &[(0xC1, WRITE_180), (0xC1, WRITE_180), (0xC1, WRITE_180)];
+
+const FORGETTING_LINES: &str = "\
+1500 127.0.0.1:47809 id 5 write analog-value:1 present-value real 180.0: answered written
+2500 127.0.0.1:47809 id 5 write analog-value:1 present-value real 180.0: repeat, answered written
+3500 127.0.0.1:47809 id 5 write analog-value:1 present-value real 180.0: answered written
+";
+
 /// No whole BVLL, a broadcast, another version, a frame for elsewhere, a network message, no APDU, and one from the server's own link.
 const DROPPED: Datagrams = &[
     (0xC1, "810A"),
@@ -207,9 +216,38 @@ const ROWS: &[(Behind, &str, Ending)] = &[
             "\
 1500 127.0.0.1:47809 id 1 read analog-input:5 present-value: answered real 72.3
 2500 127.0.0.1:47810 id 1 read analog-input:5 present-value: aborted other (0), table full
+2500 table full: 1 request turned away, next slot free in 64001 ms
 ",
             0,
         ),
+    ),
+    // a read of 7 octets needs room for 65,546
+    (
+        Behind::Datagrams(TWO),
+        "serve --port 47808 --turns 1 --memory 65546 --log",
+        (
+            "served 1\n",
+            "1500 127.0.0.1:47809 id 1 read analog-input:5 present-value: answered real 72.3\n",
+            0,
+        ),
+    ),
+    (
+        Behind::Datagrams(TWO),
+        "serve --port 47808 --turns 1 --memory 65545 --log",
+        (
+            "served 0\n",
+            "\
+1500 127.0.0.1:47809 id 1 read analog-input:5 present-value: nothing
+1500 no memory: 1 not done
+",
+            0,
+        ),
+    ),
+    // an equal write that comes 1,000 ms after the first one is a repeat, and one that comes later is performed
+    (
+        Behind::Datagrams(EQUAL_WRITES),
+        "serve --port 47808 --turns 3 --reuse --remember 1 --log",
+        ("served 2\n", FORGETTING_LINES, 0),
     ),
     (
         Behind::Datagrams(TWO),
@@ -265,6 +303,48 @@ fn logs_what_comes(rt: HostRuntime) -> Result<(), Fail> {
         holds(printed.is(ending), told)?;
     }
     Ok(())
+}
+
+/// Each look at the clock takes a tenth of a second: turns act at 300, 500 and so on.
+const QUICK: BenchClock = BenchClock {
+    moment: 0,
+    pace: Pace::On(100),
+};
+
+/// Requests of seven peers.
+const SEVEN: Datagrams = &[
+    (0xC1, READ),
+    (0xC2, READ),
+    (0xC3, READ),
+    (0xC4, READ),
+    (0xC5, READ),
+    (0xC6, READ),
+    (0xC7, READ),
+];
+
+const FULL_LINES: &str = "\
+300 127.0.0.1:47809 id 1 read analog-input:5 present-value: answered real 72.3
+500 127.0.0.1:47810 id 1 read analog-input:5 present-value: aborted other (0), table full
+500 table full: 1 request turned away, next slot free in 64801 ms
+700 127.0.0.1:47811 id 1 read analog-input:5 present-value: aborted other (0), table full
+900 127.0.0.1:47812 id 1 read analog-input:5 present-value: aborted other (0), table full
+1100 127.0.0.1:47813 id 1 read analog-input:5 present-value: aborted other (0), table full
+1300 127.0.0.1:47814 id 1 read analog-input:5 present-value: aborted other (0), table full
+1500 127.0.0.1:47815 id 1 read analog-input:5 present-value: aborted other (0), table full
+1500 table full: 5 requests turned away, next slot free in 63801 ms
+";
+
+/// How many were turned away is told at once, and then once a second.
+#[test]
+fn logs_a_full_table(rt: HostRuntime) -> Result<(), Fail> {
+    let bench = Bench {
+        behind: Behind::Datagrams(SEVEN),
+        clock: Some(QUICK),
+    };
+    let line = "serve --port 47808 --turns 7 --slots 1 --log";
+    let printed = run_on(rt.alloc(), "", bench, line)?;
+    let told = std::str::from_utf8(&printed.err)?;
+    holds(printed.is(&("served 1\n", FULL_LINES, 0)), told)
 }
 
 /// An output that fails so many times, and then takes all.

@@ -188,6 +188,42 @@ const BEHIND_A_ROUTER: &[BenchRow] = &[
     ),
     (
         NOBODY,
+        "serve --memory 65539",
+        (
+            "",
+            "bad memory\n\"65539\" is no OCTETS, as 65540, 512K or 64M\n",
+            2,
+        ),
+    ),
+    (
+        NOBODY,
+        "serve --memory 64m",
+        (
+            "",
+            "bad memory\n\"64m\" is no OCTETS, as 65540, 512K or 64M\n",
+            2,
+        ),
+    ),
+    (
+        NOBODY,
+        "serve --memory 1048577M",
+        (
+            "",
+            "bad memory\n\"1048577M\" is no OCTETS, as 65540, 512K or 64M\n",
+            2,
+        ),
+    ),
+    (
+        NOBODY,
+        "serve --turns 2 --remember 5",
+        (
+            "",
+            "bad remember\n--remember with --turns wants --reuse\n",
+            2,
+        ),
+    ),
+    (
+        NOBODY,
         "ask --port 47808 --route 0:2A read 0:5 85",
         ("", "bad address\n\"0:2A\" is no NET:MAC, as 5:2A\n", 2),
     ),

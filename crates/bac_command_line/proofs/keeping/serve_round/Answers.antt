@@ -7,7 +7,7 @@ use Rattle.bac_command_line.proofs.keeping.serve_round.Goals as goal
 
 pub returns : goal.returns
 returns g c =
-    let set = c.set_reuse.ensures in
+    let set = c.set.ensures in
     served_so g.K.Keeper.IsHonest g.K.Keeper.IsOpen g.K.Keeper.kept g.K.Keeper.noted g.K.Keeper.base _ _
     (OnPort g.M.Machine.is_bound g.M.Link.Link.failures g.M.Link.Link.calls) (OnClock g.M.Machine.is_made g.M.Timer.Clock.told) _ _ c.now-start.result
     c.restart-restart.result c.in-Ok.bound.1 _ _ _ _ c.serve_kept_from.result c.restart-restart.ensures

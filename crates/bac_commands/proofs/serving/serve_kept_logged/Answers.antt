@@ -8,6 +8,7 @@ returns-clause-logged g c =
     let last : Log = record {
       serves_from = c.serve_kept-status.new.watch.serves_from;
       whole = c.serve_kept-status.new.watch.whole;
+      tally = c.serve_kept-status.new.watch.tally;
       text = g.E.Write.contents c.serve_kept-status.new.err;
     } in
     record {

@@ -11,21 +11,21 @@ use Rattle.bac_responder.proofs.reusing.on_apdu.Goals as goal
 
 pub on_apdu_without_entry-requires-clause-none : goal.on_apdu_without_entry-requires-clause-none
 on_apdu_without_entry-requires-clause-none g c =
-    let now : ℕ = c.args.context.now.moment in
+    let now : ℕ = c.args.told.now.context.moment in
     let slots : List (Slot PeerKey ServerTransaction) = g.S.SlotTable.slots c.args.aged.now.table in
-    let o : Option ServerTransaction = value_at code_same_key c.args.context.now.key slots in
+    let o : Option ServerTransaction = value_at code_same_key c.args.told.now.context.key slots in
     ap (λ (b : Bool). is_none_live now (if b then None else o)) (sym c.ends_entry.ensures ∙ c.if-ends_entry.true)
 
 pub on_apdu_without_entry-requires-then-is_none_live-clause-none : goal.on_apdu_without_entry-requires-then-is_none_live-clause-none
 on_apdu_without_entry-requires-then-is_none_live-clause-none g c =
-    let now : ℕ = c.args.context.now.moment in
+    let now : ℕ = c.args.told.now.context.moment in
     let slots : List (Slot PeerKey ServerTransaction) = g.S.SlotTable.slots c.args.aged.now.table in
-    let o : Option ServerTransaction = value_at code_same_key c.args.context.now.key slots in
+    let o : Option ServerTransaction = value_at code_same_key c.args.told.now.context.key slots in
     ap (λ (b : Bool). is_none_live now (if b then None else o)) (sym c.ends_entry.ensures ∙ c.if-ends_entry.false)
     ∙ sym c.is_none_live.ensures ∙ c.if-is_none_live.true
 
 pub returns-clause-turn : goal.returns-clause-turn
 returns-clause-turn g c =
     let slots : List (Slot PeerKey ServerTransaction) = g.S.SlotTable.slots c.args.aged.now.table in
-    goes_on_as c.args.context.now c.args.store.now (apdu_view c.args.apdu.now) slots (g.S.SlotTable.capacity c.args.aged.now.table) c.args.restart c.on_apdu.result _
+    goes_on_as c.args.told.now.remember c.args.told.now.context c.args.store.now (apdu_view c.args.apdu.now) slots (g.S.SlotTable.capacity c.args.aged.now.table) c.args.restart c.on_apdu.result _
     c.on_apdu.new.store (sym c.ends_entry.ensures ∙ c.if-ends_entry.false) (sym c.is_none_live.ensures ∙ c.if-is_none_live.false) c.on_apdu.ensures.turn
