@@ -287,7 +287,7 @@ tidy_step overtake u w w' (Restart node exact store) t s = tidy_restarted w w' t
 
 tidy_run : (overtake : ℕ) (u : Reuses) (events : List Event) (w w' : World) → Tidy w → WorldRunSo overtake u w events w' → Tidy w'
 tidy_run overtake u [] w w' t run = subst Tidy (sym run) t
-tidy_run overtake (e ∷ es) w w' t run = tidy_run overtake es run.0 w' (tidy_step overtake u w run.0 e t run.1) run.2
+tidy_run overtake u (e ∷ es) w w' t run = tidy_run overtake u es run.0 w' (tidy_step overtake u w run.0 e t run.1) run.2
 
 tidy_fresh : (w : World) → IsFresh w → IsTimely w.time.pace → Tidy w
 tidy_fresh w f timely = record {
