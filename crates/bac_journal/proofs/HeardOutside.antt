@@ -6,7 +6,6 @@ use Rattle.bac_npdu.specs.Peers.{PeerView}
 use Rattle.bac_service.specs.Services.{reads_reply}
 use Rattle.bac_protocol.specs.Context.{Settings, Context}
 use Rattle.bac_protocol.specs.Service.{Octets}
-use Rattle.bac_protocol.specs.Wire.{is_from_client}
 use Rattle.bac_protocol.specs.Client as client
 use Rattle.bac_protocol.specs.Client.{ClientTransaction, client_on_apdu}
 use Rattle.bac_protocol.specs.Server as server
@@ -19,7 +18,7 @@ use Rattle.bac_protocol.specs.Claims.{IsBounded}
 use Rattle.bac_protocol.proofs.Served.{effects_are_kept}
 use Rattle.bac_slots.specs.Slots.{value_at}
 use Rattle.bac_transaction.specs.Keys.{PeerKey, same_key}
-use Rattle.bac_transaction.specs.Sends.{Pairwise, IsSent, to_all}
+use Rattle.bac_transaction.specs.Sends.{IsSent, to_all}
 use Rattle.bac_transaction.specs.Meanings.{EndedView, IsEndedView}
 use Rattle.bac_transaction.specs.Ends.{Client, ClientTurn, TransactionSlot, act_at, is_free, put_entry, context_of, client_goes, requester_on_apdu_at}
 use Rattle.bac_transaction.specs.Ends.{ServerEnd, requester_on_apdu_in_slot, stays, key_of as heard_key}
@@ -30,7 +29,7 @@ use Rattle.bac_transaction.proofs.Entries.{entry_here}
 use Rattle.bac_world.specs.Services.{Performed, ArePerformed}
 use Rattle.bac_world.specs.Node.{Node, Outcome, IsServerTurn, IsClientTurn}
 use Rattle.bac_world.specs.ReusingLogs.{Reuses}
-use Rattle.bac_world.specs.World.{World, told, link_at, IsOfNone}
+use Rattle.bac_world.specs.World.{World, told}
 use Rattle.bac_world.proofs.Pairs.{pairwise_none}
 use Rattle.bac_world.proofs.Bridge.{IsStranger, TicketFits, here_at, there_at, out_key, stranger_key}
 use Rattle.bac_world.proofs.Steps.{Over, Fits}
