@@ -21,7 +21,7 @@ use Rattle.bac_protocol.specs.Client.{Ask, Phase, ClientTransaction}
 use Rattle.bac_protocol.specs.Client.Phase.{AwaitConfirmation, SegmentedConf, Idle}
 use Rattle.bac_protocol.specs.Client.Reaction.{Stays, GoesOn, Repeats, Ends}
 use Rattle.bac_protocol.specs.Server as server
-use Rattle.bac_protocol.specs.Server.{Transfer, State, ServerTransaction, Service, is_live}
+use Rattle.bac_protocol.specs.Server.{Transfer, State, ServerTransaction, Service, is_live, is_none_live}
 use Rattle.bac_protocol.specs.Sizes.{Way, reply_way_of}
 use Rattle.bac_protocol.specs.Server.Transfer.{Running, Stopped, Finished}
 use Rattle.bac_protocol.specs.Server.State.{Done, SegmentedResponse, Dropped}
@@ -31,13 +31,18 @@ use Rattle.bac_protocol.specs.Pace.{Pace}
 use Rattle.bac_protocol.specs.World.{Net, Post, net_start, set_at, is_id_held, is_room, asked_at, is_deliverable, client_now, server_now}
 use Rattle.bac_protocol.specs.World.{is_id_held_away, asked_away_at}
 use Rattle.bac_protocol.specs.Claims.{IsBounded}
-use Rattle.bac_protocol.specs.Moves.{Move, taken_by_client, taken_by_server, arrived, ticket_ticked, moved, IsReached}
-use Rattle.bac_protocol.specs.Moves.{strayed_to_client, strayed_to_server, ticket_ticked_away}
+use Rattle.bac_protocol.specs.Moves.{Move, taken_by_client, ticket_ticked}
+use Rattle.bac_protocol.specs.Moves.{strayed_to_client, ticket_ticked_away}
 use Rattle.bac_protocol.specs.Moves.Move.{Asks, Arrives, TicksTicket, TicksEntry, Passes, Changes, RestartsClient, RestartsServer, Strays, AsksAway, TicksTicketAway, TicksEntryAway}
-use Rattle.bac_protocol.specs.Moves.IsReached.{Still, Moved}
 use Rattle.bac_protocol.proofs.Keys.{set_same, set_other, decide_key}
 use Rattle.bac_protocol.proofs.Facts.{pieces_length}
+use Rattle.bac_protocol.specs.Reuse.{Reads, ends_entry, has_transfer, idle_on_read, idle_reusing, left_on_apdu, reads_so, server_hears}
+use Rattle.bac_reuse.specs.Moves.{IsReachedSo, arrived_so, moved_so, strayed_to_server_so, taken_by_server_so}
+use Rattle.bac_reuse.specs.Moves.IsReachedSo.{Still, Moved}
+use Rattle.bac_reuse.specs.Runs.{Reusing}
+use Rattle.bac_world.specs.ReusingLogs.{Reuses}
 use Rattle.bac_world.proofs.Machines.{Sound}
+use Rattle.bac_world.proofs.Settings.{reusing_in}
 
 push_few : (acks : List Apdu) (a : Apdu) (n : ℕ) → length acks ≤ n → length (acks ++ a ∷ []) ≤ n + 1
 push_few [] a n h = omega arith
@@ -301,6 +306,43 @@ module _ (c : Context) (service : Service) (W : ℕ) (some : 1 ≤ W) (own : c.s
       go true = live_few e h e.state h a
       go false = idle_few (Some e) h free a
 
+  -- the machine of either setting
+  module _ (reads : Reads) where
+    read_few : (dead : Option ServerTransaction) → EntryFew W dead → (free : Bool) (r : server.Reaction) → IsFew W r → IsFew W (reads_so c dead free r)
+    read_few dead h free r k = go (has_transfer r.entry) free
+      where
+        go : (b d : Bool) → IsFew W (if b then (if d then r else server.rests dead (server.server_abort c OTHER ∷ []))
+            else record { entry = dead; sends = r.sends; effect = r.effect })
+        go true true = k
+        go true false = one_few dead (server.server_abort c OTHER) h
+        go false d = record { sends = k.sends; entry = h }
+
+    idle_reusing_few : (o : Option ServerTransaction) → EntryFew W o → (free : Bool) (a : Apdu) → IsFew W (idle_reusing c service reads o free a)
+    idle_reusing_few o h free (ConfirmedRequest limits i None choice octets) = go (reads choice)
+      where
+        go : (b : Bool) → IsFew W
+            (if b then idle_on_read c service o free choice limits octets else server.idle_on_request c service o free choice limits octets)
+        go true = read_few o h free (server.performs c service (server.begins c choice limits (Some octets)) [] octets)
+            (so_few (server.begins c choice limits (Some octets)) [] octets (service choice octets) (omega arith))
+        go false = request_few o h free choice limits octets
+    idle_reusing_few o h free (ConfirmedRequest limits i (Some g) choice octets) = segment_few o h free choice limits g octets
+    idle_reusing_few o h free _ = rests_few o h
+
+    left_few : (o : Option ServerTransaction) → EntryFew W o → (free : Bool) (a : Apdu) → IsFew W (left_on_apdu c service reads o free a)
+    left_few o h free a = go (is_none_live c.now o)
+      where
+        go : (b : Bool) → IsFew W (if b then idle_reusing c service reads o free a else server.server_on_apdu c service o free a)
+        go true = idle_reusing_few o h free a
+        go false = server_gets_few o free a h
+
+    pub hears_few : (reuse : Bool) (o : Option ServerTransaction) (free : Bool) (a : Apdu) → EntryFew W o → IsFew W (server_hears reuse c service reads o free a)
+    hears_few false o free a h = server_gets_few o free a h
+    hears_few true o free a h = go (ends_entry reads c.now o a)
+      where
+        go : (b : Bool) → IsFew W (left_on_apdu c service reads (if b then None else o) free a)
+        go true = left_few None tt free a
+        go false = left_few o h free a
+
 nothing : Service
 nothing choice octets = Rejects 0
 
@@ -336,7 +378,7 @@ module _ (c : Context) (W : ℕ) (some : 1 ≤ W) (own : c.settings.window ≤ W
 
 -- All entries of a net that moves lead to.
 
-module _ (W : ℕ) (x : Rules) (bound : IsBounded W x) where
+module _ (W : ℕ) (x : Rules) (bound : IsBounded W x) (u : Reusing) where
   abbrev AllFew : (Key → Option ServerTransaction) → Type 0
   AllFew entries = (key : Key) → EntryFew W (entries key)
 
@@ -353,11 +395,12 @@ module _ (W : ℕ) (x : Rules) (bound : IsBounded W x) where
 
   -- what an APDU or a tick makes of an entry
   gets_small : (now : Net → Key → ℕ) (n : Net) (entries : Key → Option ServerTransaction) → AllFew entries → (key : Key) (free : Bool) (service : Service)
-      → (a : Apdu) → AllFew (set_at entries key (server.server_on_apdu (server_context x key (now n key)) service (entries key) free a).entry)
+      → (a : Apdu)
+      → AllFew (set_at entries key (server_hears (u.reuses key.server) (server_context x key (now n key)) service u.reads (entries key) free a).entry)
   gets_small now n entries s key free service a =
       let c = server_context x key (now n key) in
-      few_set entries s key (server.server_on_apdu c service (entries key) free a).entry
-      (server_gets_few c service W bound.some (bound.windows key.server) (entries key) free a (s key)).entry
+      few_set entries s key (server_hears (u.reuses key.server) c service u.reads (entries key) free a).entry
+      (hears_few c service W bound.some (bound.windows key.server) u.reads (u.reuses key.server) (entries key) free a (s key)).entry
 
   ticks_small : (now : Net → Key → ℕ) (n : Net) (entries : Key → Option ServerTransaction) → AllFew entries → (key : Key)
       → AllFew (set_at entries key (server.server_ticks (server_context x key (now n key)) (entries key)).entry)
@@ -370,11 +413,11 @@ module _ (W : ℕ) (x : Rules) (bound : IsBounded W x) where
   heard_small n s p None = s
   heard_small n s p (Some t) = s
 
-  arrived_small : (n : Net) → Small n → (number : ℕ) (free : Bool) (service : Service) (o : Option Post) → Small (arrived x n number free service o)
+  arrived_small : (n : Net) → Small n → (number : ℕ) (free : Bool) (service : Service) (o : Option Post) → Small (arrived_so x u n number free service o)
   arrived_small n s number free service None = s
   arrived_small n s number free service (Some p) = go (is_deliverable x n number p) (is_from_client p.copy.apdu)
     where
-      go : (a b : Bool) → Small (if a then (if b then taken_by_server x n p free service else taken_by_client x n p (n.tickets p.key)) else n)
+      go : (a b : Bool) → Small (if a then (if b then taken_by_server_so x u n p free service else taken_by_client x n p (n.tickets p.key)) else n)
       go true true = (gets_small server_now n n.entries s.0 p.key (is_room n p.key free) service p.copy.apdu, s.1)
       go true false = heard_small n s p (n.tickets p.key)
       go false b = s
@@ -391,7 +434,7 @@ module _ (W : ℕ) (x : Rules) (bound : IsBounded W x) where
   ticked_away_small n s key None = s
   ticked_away_small n s key (Some t) = s
 
-  moved_small : (n : Net) → Small n → (m : Move) → Small (moved x n m)
+  moved_small : (n : Net) → Small n → (m : Move) → Small (moved_so x u n m)
   moved_small n s (Asks key choice whole front rest) = go (is_id_held n key)
     where
       go : (b : Bool) → Small (if b then n else asked_at x n key (record { first = client_now n key; choice = choice; whole = whole; pieces = front ∷ rest }))
@@ -410,7 +453,7 @@ module _ (W : ℕ) (x : Rules) (bound : IsBounded W x) where
       go o few false = few
   moved_small n s (Strays key free service a) = go (is_from_client a)
     where
-      go : (up : Bool) → Small (if up then strayed_to_server x n key free service a else strayed_to_client x n key a (n.far.tickets key))
+      go : (up : Bool) → Small (if up then strayed_to_server_so x u n key free service a else strayed_to_client x n key a (n.far.tickets key))
       go true = (s.0, gets_small server_now n n.far.entries s.1 key (is_room n key free) service a)
       go false = strayed_small n s key a (n.far.tickets key)
   moved_small n s (AsksAway key choice whole front rest) = go (is_id_held_away n key)
@@ -422,13 +465,14 @@ module _ (W : ℕ) (x : Rules) (bound : IsBounded W x) where
   moved_small n s (TicksTicketAway key) = ticked_away_small n s key (n.far.tickets key)
   moved_small n s (TicksEntryAway key) = (s.0, ticks_small server_now n n.far.entries s.1 key)
 
-  reached_small : (pace : Pace) (clocks : ℕ → ℕ) (n : Net) → IsReached x (net_start pace clocks) n → Small n
+  reached_small : (pace : Pace) (clocks : ℕ → ℕ) (n : Net) → IsReachedSo x u (net_start pace clocks) n → Small n
   reached_small pace clocks _ Still = (λ key. tt, λ key. tt)
   reached_small pace clocks _ (Moved n m h) = moved_small n (reached_small pace clocks n h) m
 
-  pub entries_few : (n : Net) → Sound x None n → (key : Key) → EntryFew W (n.entries key)
-  entries_few n s = (reached_small s.0 s.1 n s.3).0
+module _ (W : ℕ) (x : Rules) (bound : IsBounded W x) (u : Reuses) (n : Net) (s : Sound x (Some u) n) where
+  pub entries_few : (key : Key) → EntryFew W (n.entries key)
+  entries_few = (reached_small W x bound (reusing_in (Some u)) s.0 s.1 n s.3).0
 
   -- those of strangers too
-  pub far_entries_few : (n : Net) → Sound x None n → (key : Key) → EntryFew W (n.far.entries key)
-  far_entries_few n s = (reached_small s.0 s.1 n s.3).1
+  pub far_entries_few : (key : Key) → EntryFew W (n.far.entries key)
+  far_entries_few = (reached_small W x bound (reusing_in (Some u)) s.0 s.1 n s.3).1

@@ -22,19 +22,23 @@ use Rattle.bac_transaction.specs.Keys.{PeerKey, same_key}
 use Rattle.bac_transaction.specs.Ends.{Client, ClientEnd, TransactionSlot, Accepted, requester_on_apdu_at, requester_on_apdu_in_slot, key_of}
 use Rattle.bac_transaction.specs.Ends.TransactionSlot.{Open, Closed}
 use Rattle.bac_transaction.specs.Services.{service_of}
-use Rattle.bac_world.specs.Node.{Node, Outcome, IsHeardBy, NodeOn, NodeTick, NodeAsks, with_change}
-use Rattle.bac_world.specs.Once.{IsOnce}
-use Rattle.bac_world.specs.World.{World, Time, Event, Copy, told, passes, with_clock, link_at, stores_of, peer_at, is_deliverable, IsWithNode, Acts, Hears, IsOutside, IsChanged, IsRestarted}
+use Rattle.bac_world.specs.Node.{Node, Outcome, IsDropped, NodeTick, NodeAsks, with_change}
+use Rattle.bac_world.specs.ReusingLogs.{IsOnceSo, Reuses}
+use Rattle.bac_world.specs.ReusingNodes.{NodeHears}
+use Rattle.bac_world.specs.ReusingWorlds.{DeliversIfSo, HearsSo, WorldRunSo, WorldStepSo}
+use Rattle.bac_world.specs.World.{World, Time, Event, Copy, told, passes, with_clock, link_at, stores_of, peer_at, is_deliverable, IsWithNode, IsOutside, IsChanged, IsRestarted}
 use Rattle.bac_world.specs.World.{Note}
 use Rattle.bac_transaction.specs.Sends.{Datagram}
-use Rattle.bac_world.specs.World.{DeliversIf, WorldStep, WorldRun, IsFresh, IsBounded}
+use Rattle.bac_world.specs.World.{WorldRun, IsFresh, IsBounded}
 use Rattle.bac_world.specs.World.Event.{Ask, AskAway, Deliver, Noise, Stray, Tick, Advance, Change, Restart}
 use Rattle.bac_world.proofs.Pairs.{IsPaired, pairwise_get}
 use Rattle.bac_world.proofs.Bridge.{IsCopyOf, IsBetween, framed_means}
 use Rattle.bac_world.proofs.Steps.{Over, decide_number, each_with}
 use Rattle.bac_world.proofs.Asking.{accepted_is}
-use Rattle.bac_world.proofs.Headline.{run_over, rules_of, rules_bounded, fresh_over}
-use Rattle.bac_journal.specs.Entering.{CanGoOn, note_of, with_ticket, tickets_of}
+use Rattle.bac_world.proofs.Headline.{run_over_so, rules_of, rules_bounded, fresh_over}
+use Rattle.bac_world.proofs.Heard.{IsHeardIn, IsHeardInBy, heard_in}
+use Rattle.bac_world.proofs.AsEver.{run_as}
+use Rattle.bac_journal.specs.Entering.{CanGoOn, CanGoOnSo, note_of, with_ticket, tickets_of}
 use Rattle.bac_journal.proofs.Heard.{Enters, nothing_enters, server_enters, client_enters}
 use Rattle.bac_journal.proofs.HeardOutside.{stranger_enters}
 use Rattle.bac_journal.proofs.Ticked.{tick_enters, ask_enters}
@@ -58,23 +62,27 @@ slot_asked : (c : Settings) (r : Readable) (now : ℕ) (p : Apdu) (e : ClientEnd
 slot_asked c r now p e q None = refl
 slot_asked c r now p e q (Some s) = held_asked c r now p e q s.number s.held
 
-heard_counted : (up : Bool) (peer : PeerView) (p : Apdu) (now : ℕ) (a b : Node) (o : Outcome) → IsHeardBy up peer p now a b o → IsCounted now 0 a b
-heard_counted true peer p now a b o t = record {
+heard_counted : (reuse up : Bool) (peer : PeerView) (p : Apdu) (now : ℕ) (a b : Node) (o : Outcome) → IsHeardInBy reuse up peer p now a b o
+    → IsCounted now 0 a b
+heard_counted reuse true peer p now a b o t = record {
   latest = ap (λ (n : Node). n.latest) t.node;
   asked = ap (λ (n : Node). n.clients.asked) t.node ∙ no_more a.clients.asked;
 }
-heard_counted false peer p now a b o t = record {
+heard_counted reuse false peer p now a b o t = record {
   latest = ap (λ (n : Node). n.latest) t.node;
   asked = ap (λ (n : Node). n.clients.asked) t.node
       ∙ slot_asked a.settings reads_reply now p a.clients (key_of peer p) (value_at same_key (key_of peer p) a.clients.slots) ∙ no_more a.clients.asked;
 }
 
-on_counted : (now : ℕ) (from octets : Octets) (a b : Node) (o : Outcome) → NodeOn now from octets a b o → IsCounted now 0 a b
-on_counted now from octets a b o (inl d) = record {
-  latest = ap (λ (n : Node). n.latest) d.node;
-  asked = ap (λ (n : Node). n.clients.asked) d.node ∙ no_more a.clients.asked;
-}
-on_counted now from octets a b o (inr d) = heard_counted (is_from_client d.apdu) d.peer d.apdu now a b o d.heard
+on_counted : (reuse : Bool) (now : ℕ) (from octets : Octets) (a b : Node) (o : Outcome) → NodeHears reuse now from octets a b o → IsCounted now 0 a b
+on_counted reuse now from octets a b o h = go (heard_in now from octets a b o reuse h)
+  where
+    go : IsDropped now from octets a b o ⊎ IsHeardIn reuse now from octets a b o → IsCounted now 0 a b
+    go (inl d) = record {
+      latest = ap (λ (n : Node). n.latest) d.node;
+      asked = ap (λ (n : Node). n.clients.asked) d.node ∙ no_more a.clients.asked;
+    }
+    go (inr d) = heard_counted reuse (is_from_client d.apdu) d.peer d.apdu now a b o d.heard
 
 tick_counted : (now : ℕ) (a b : Node) (o : Outcome) → NodeTick now a b o → IsCounted now 0 a b
 tick_counted now a b o t = record {
@@ -141,10 +149,10 @@ tidy_still w w' t i b nodes time latest mine others = tidy_with w w' t i b nodes
     tells : (j : ℕ) → told w' j ≡ told w j
     tells j = ap (λ (y : Time). (y.clocks j).shows) time
 
-tidy_acts : (w w' : World) → Tidy w → (i : ℕ) (a b : Node) (o : Outcome) → slice_get w.nodes i ≡ Some a → Acts w i b o w'
-    → IsCounted (told w i) 0 a b → Tidy w'
-tidy_acts w w' t i a b o at acts f = tidy_still w w' t i b acts.nodes acts.time f.latest
-    (subst (λ notes. b.clients.asked ≤ tickets_of i notes) (sym acts.notes) as_many) (λ j ne. ap (tickets_of j) acts.notes)
+tidy_acts : (w w' : World) → Tidy w → (i : ℕ) (a b : Node) → slice_get w.nodes i ≡ Some a → IsWithNode w.nodes i b w'.nodes → w'.time ≡ w.time
+    → w'.notes ≡ w.notes → IsCounted (told w i) 0 a b → Tidy w'
+tidy_acts w w' t i a b at nodes time notes f = tidy_still w w' t i b nodes time f.latest
+    (subst (λ notes. b.clients.asked ≤ tickets_of i notes) (sym notes) as_many) (λ j ne. ap (tickets_of j) notes)
   where
     as_many : b.clients.asked ≤ tickets_of i w.notes
     as_many =
@@ -152,9 +160,9 @@ tidy_acts w w' t i a b o at acts f = tidy_still w w' t i b acts.nodes acts.time 
         let was : a.clients.asked ≤ tickets_of i w.notes = t.counted i a at in
         omega arith
 
-tidy_hears : (w w' : World) → Tidy w → (i : ℕ) (from octets : Octets) → Hears w i from octets w' → Tidy w'
-tidy_hears w w' t i from octets h =
-    tidy_acts w w' t i h.before h.after h.outcome h.at h.acts (on_counted (told w i) from octets h.before h.after h.outcome h.on)
+tidy_hears : (reuse : Bool) (w w' : World) → Tidy w → (i : ℕ) (from octets : Octets) → HearsSo reuse w i from octets w' → Tidy w'
+tidy_hears reuse w w' t i from octets h = tidy_acts w w' t i h.before h.after h.at h.acts.nodes h.acts.time h.acts.notes
+    (on_counted reuse (told w i) from octets h.before h.after h.outcome h.on)
 
 -- a ticket is among those with it
 pub counts_it : (ticket tickets : ℕ) → ticket + 1 ≤ with_ticket ticket tickets
@@ -252,32 +260,34 @@ tidy_later w t by own = record {
     later i = shows_on w.time.pace t.right.some by (own i) (w.time.clocks i)
         (subst (IsShown w.time.pace) (sym (t.right.shown i)) (shown_at w.time.pace t.right.some (w.time.clocks i).exact))
 
-tidy_delivered : (b : Bool) (w : World) (c : Copy) (w' : World) → Tidy w → DeliversIf b w c w' → Tidy w'
-tidy_delivered true w c w' t d = tidy_hears w w' t c.to d.link c.octets d.hears
-tidy_delivered false w c w' t same = subst Tidy (sym same) t
+tidy_delivered : (b : Bool) (u : Reuses) (w : World) (c : Copy) (w' : World) → Tidy w → DeliversIfSo b u w c w' → Tidy w'
+tidy_delivered true u w c w' t d = tidy_hears (u c.to) w w' t c.to d.link c.octets d.hears
+tidy_delivered false u w c w' t same = subst Tidy (sym same) t
 
-tidy_step : (overtake : ℕ) (w w' : World) (e : Event) → Tidy w → WorldStep overtake w e w' → Tidy w'
-tidy_step overtake w w' (Ask client server limits r) t (inl s) = tidy_noted w w' t client (peer_at s.link) limits r s.before s.after s.at s.accepted s.sends s.asks
+tidy_step : (overtake : ℕ) (u : Reuses) (w w' : World) (e : Event) → Tidy w → WorldStepSo overtake u w e w' → Tidy w'
+tidy_step overtake u w w' (Ask client server limits r) t (inl s) = tidy_noted w w' t client (peer_at s.link) limits r s.before s.after s.at s.accepted s.sends s.asks
     s.nodes s.time (note_of client server s.accepted.invoke_id s.accepted.ticket) refl refl s.notes
-tidy_step overtake w w' (Ask client server limits r) t (inr s) = subst Tidy (sym s.same) t
-tidy_step overtake w w' (AskAway client peer limits r) t (inl s) = tidy_noted w w' t client peer limits r s.before s.after s.at s.accepted s.sends s.asks
+tidy_step overtake u w w' (Ask client server limits r) t (inr s) = subst Tidy (sym s.same) t
+tidy_step overtake u w w' (AskAway client peer limits r) t (inl s) = tidy_noted w w' t client peer limits r s.before s.after s.at s.accepted s.sends s.asks
     s.nodes s.time
     (record { key = record { client = client; server = 0; invoke_id = s.accepted.invoke_id }; ticket = s.accepted.ticket; away = Some peer }) refl refl s.notes
-tidy_step overtake w w' (AskAway client peer limits r) t (inr s) = subst Tidy (sym s.same) t
-tidy_step overtake w w' (Deliver number) t s = tidy_delivered (is_deliverable overtake w.time.pace.life w.time.now number w.copies s.copy) w s.copy w' t s.goes
-tidy_step overtake w w' (Noise node from octets) t (inl s) = tidy_hears w w' t node from octets s.hears
-tidy_step overtake w w' (Noise node from octets) t (inr s) = subst Tidy (sym s.same) t
-tidy_step overtake w w' (Stray node from octets) t (inl s) = tidy_hears w w' t node from octets s.hears
-tidy_step overtake w w' (Stray node from octets) t (inr s) = subst Tidy (sym s.same) t
-tidy_step overtake w w' (Tick node) t s =
-    tidy_acts w w' t node s.before s.after s.outcome s.at s.acts (tick_counted (told w node) s.before s.after s.outcome s.tick)
-tidy_step overtake w w' (Advance by own) t s = subst Tidy (sym s) (tidy_later w t by own)
-tidy_step overtake w w' (Change node change) t s = tidy_changed w w' t node change s
-tidy_step overtake w w' (Restart node exact store) t s = tidy_restarted w w' t node exact store s
+tidy_step overtake u w w' (AskAway client peer limits r) t (inr s) = subst Tidy (sym s.same) t
+tidy_step overtake u w w' (Deliver number) t s =
+    tidy_delivered (is_deliverable overtake w.time.pace.life w.time.now number w.copies s.copy) u w s.copy w' t s.goes
+tidy_step overtake u w w' (Noise node from octets) t (inl s) = tidy_hears (u node) w w' t node from octets s.hears
+tidy_step overtake u w w' (Noise node from octets) t (inr s) = subst Tidy (sym s.same) t
+tidy_step overtake u w w' (Stray node from octets) t (inl s) = tidy_hears (u node) w w' t node from octets s.hears
+tidy_step overtake u w w' (Stray node from octets) t (inr s) = subst Tidy (sym s.same) t
+tidy_step overtake u w w' (Tick node) t s =
+    tidy_acts w w' t node s.before s.after s.at s.acts.nodes s.acts.time s.acts.notes
+    (tick_counted (told w node) s.before s.after s.outcome s.tick)
+tidy_step overtake u w w' (Advance by own) t s = subst Tidy (sym s) (tidy_later w t by own)
+tidy_step overtake u w w' (Change node change) t s = tidy_changed w w' t node change s
+tidy_step overtake u w w' (Restart node exact store) t s = tidy_restarted w w' t node exact store s
 
-tidy_run : (overtake : ℕ) (events : List Event) (w w' : World) → Tidy w → WorldRun overtake w events w' → Tidy w'
-tidy_run overtake [] w w' t run = subst Tidy (sym run) t
-tidy_run overtake (e ∷ es) w w' t run = tidy_run overtake es run.0 w' (tidy_step overtake w run.0 e t run.1) run.2
+tidy_run : (overtake : ℕ) (u : Reuses) (events : List Event) (w w' : World) → Tidy w → WorldRunSo overtake u w events w' → Tidy w'
+tidy_run overtake u [] w w' t run = subst Tidy (sym run) t
+tidy_run overtake u (e ∷ es) w w' t run = tidy_run overtake u es run.0 w' (tidy_step overtake u w run.0 e t run.1) run.2
 
 tidy_fresh : (w : World) → IsFresh w → IsTimely w.time.pace → Tidy w
 tidy_fresh w f timely = record {
@@ -296,47 +306,54 @@ node_there nodes i l at = go (slice_get nodes i) refl at
     go (Some a) e f = (a, e)
 
 module _ (links : ℕ → Option Octets) (apart : (i j : ℕ) (l : Octets) → links i ≡ Some l → links j ≡ Some l → i ≡ j) (W : ℕ) (x : Rules)
-    (bound : IsBoundedNet W x) (w : World) (n : Net) (h : Over links apart W x None w n) where
+    (bound : IsBoundedNet W x) (u : Reuses) (w : World) (n : Net) (h : Over links apart W x (Some u) w n) where
   Result : ℕ → Node → Outcome → Type 0
-  Result = Enters links apart W x bound w n h
+  Result = Enters links apart W x bound u w n h
 
   copied : (number : ℕ) (c : Copy) → slice_get w.copies number ≡ Some c → IsPaired (IsCopyOf links apart) n.posts number c
   copied number c at = pairwise_get (IsCopyOf links apart) n.posts w.copies number c h.posts at
 
   by_way : (number : ℕ) (p : Post) (c : Copy) → slice_get n.posts number ≡ Some p → IsCopyOf links apart p c → (a b : Node) (o : Outcome)
       → slice_get w.nodes c.to ≡ Some a → (l : Octets) → links c.from ≡ Some l → (up : Bool) → IsBetween up p.key c.from c.to
-      → IsHeardBy up (peer_at l) p.copy.apdu (told w c.to) a b o → Enters links apart W x bound w n h c.to b o
+      → IsHeardInBy (u c.to) up (peer_at l) p.copy.apdu (told w c.to) a b o → Enters links apart W x bound u w n h c.to b o
   by_way number p c at k a b o node l link true between turn =
-      subst (λ (i : ℕ). Enters links apart W x bound w n h i b o) (sym between.1)
-      (server_enters links apart W x bound w n h number p at a b o (subst (λ (i : ℕ). slice_get w.nodes i ≡ Some a) between.1 node) l
+      subst (λ (i : ℕ). Enters links apart W x bound u w n h i b o) (sym between.1)
+      (server_enters links apart W x bound u w n h number p at a b o (subst (λ (i : ℕ). slice_get w.nodes i ≡ Some a) between.1 node) l
       (subst (λ (i : ℕ). links i ≡ Some l) between.0 link) k.invoke (service_of a.store)
-      (subst (λ (i : ℕ). IsHeardBy true (peer_at l) p.copy.apdu (told w i) a b o) between.1 turn))
+      (subst (λ (i : ℕ). IsHeardInBy (u i) true (peer_at l) p.copy.apdu (told w i) a b o) between.1 turn))
   by_way number p c at k a b o node l link false between turn =
-      subst (λ (i : ℕ). Enters links apart W x bound w n h i b o) (sym between.1)
-      (client_enters links apart W x bound w n h p a b o (subst (λ (i : ℕ). slice_get w.nodes i ≡ Some a) between.1 node) l
+      subst (λ (i : ℕ). Enters links apart W x bound u w n h i b o) (sym between.1)
+      (client_enters links apart W x bound u w n h p a b o (subst (λ (i : ℕ). slice_get w.nodes i ≡ Some a) between.1 node) l
       (subst (λ (i : ℕ). links i ≡ Some l) between.0 link) k.invoke
-      (subst (λ (i : ℕ). IsHeardBy false (peer_at l) p.copy.apdu (told w i) a b o) between.1 turn))
+      (subst (λ (i : ℕ). IsHeardInBy (u i) false (peer_at l) p.copy.apdu (told w i) a b o) between.1 turn))
 
   copy_enters : (number : ℕ) (c : Copy) → slice_get w.copies number ≡ Some c → (l : Octets) → link_at w.nodes c.from ≡ Some l → (a b : Node) (o : Outcome)
-      → slice_get w.nodes c.to ≡ Some a → NodeOn (told w c.to) l c.octets a b o → Enters links apart W x bound w n h c.to b o
-  copy_enters number c at l link a b o node (inl d) = nothing_enters links apart W x bound w n h c.to b o
-      (ap (λ (y : Outcome). y.sends) d.outcome) (ap (λ (y : Outcome). y.ended) d.outcome) (ap (λ (y : Outcome). y.performed) d.outcome)
-  copy_enters number c at l link a b o node (inr d) =
-      let p = copied number c at in
-      let one = framed_means l p.goes.to_link p.other.copy.apdu d.apdu d.peer c.octets p.goes.frame p.goes.short d.means in
-      by_way number p.other c p.there p.goes a b o node l (sym (h.linked c.from) ∙ link) (is_from_client p.other.copy.apdu) p.goes.between
-      (subst (λ (q : PeerView). IsHeardBy (is_from_client p.other.copy.apdu) q p.other.copy.apdu (told w c.to) a b o) one.0
-      (subst (λ (y : Apdu). IsHeardBy (is_from_client y) d.peer y (told w c.to) a b o) one.1 d.heard))
+      → slice_get w.nodes c.to ≡ Some a → NodeHears (u c.to) (told w c.to) l c.octets a b o → Enters links apart W x bound u w n h c.to b o
+  copy_enters number c at l link a b o node on = go (heard_in (told w c.to) l c.octets a b o (u c.to) on)
+    where
+      go : IsDropped (told w c.to) l c.octets a b o ⊎ IsHeardIn (u c.to) (told w c.to) l c.octets a b o → Enters links apart W x bound u w n h c.to b o
+      go (inl d) = nothing_enters links apart W x bound u w n h c.to b o
+          (ap (λ (y : Outcome). y.sends) d.outcome) (ap (λ (y : Outcome). y.ended) d.outcome) (ap (λ (y : Outcome). y.performed) d.outcome)
+      go (inr d) =
+          let p = copied number c at in
+          let one = framed_means l p.goes.to_link p.other.copy.apdu d.apdu d.peer c.octets p.goes.frame p.goes.short d.means in
+          by_way number p.other c p.there p.goes a b o node l (sym (h.linked c.from) ∙ link) (is_from_client p.other.copy.apdu) p.goes.between
+          (subst (λ (q : PeerView). IsHeardInBy (u c.to) (is_from_client p.other.copy.apdu) q p.other.copy.apdu (told w c.to) a b o) one.0
+          (subst (λ (y : Apdu). IsHeardInBy (u c.to) (is_from_client y) d.peer y (told w c.to) a b o) one.1 d.heard))
 
   outside_enters : (i : ℕ) (from octets : Octets) → IsOutside w.nodes from octets → (a b : Node) (o : Outcome) → slice_get w.nodes i ≡ Some a
-      → NodeOn (told w i) from octets a b o → Enters links apart W x bound w n h i b o
-  outside_enters i from octets out a b o node (inl d) = nothing_enters links apart W x bound w n h i b o
-      (ap (λ (y : Outcome). y.sends) d.outcome) (ap (λ (y : Outcome). y.ended) d.outcome) (ap (λ (y : Outcome). y.performed) d.outcome)
-  outside_enters i from octets (inr noise) a b o node (inr d) = absurd (noise d.peer d.apdu d.means)
-  outside_enters i from octets (inl foreign) a b o node (inr d) = stranger_enters links apart W x bound w n h i d.peer d.apdu
-      (λ k at. foreign k (h.linked k ∙ at ∙ ap (λ (q : PeerView). Some q.link) d.means.carries.sender)) a b o node (is_from_client d.apdu) d.heard
+      → NodeHears (u i) (told w i) from octets a b o → Enters links apart W x bound u w n h i b o
+  outside_enters i from octets out a b o node on = go out (heard_in (told w i) from octets a b o (u i) on)
+    where
+      go : IsOutside w.nodes from octets → IsDropped (told w i) from octets a b o ⊎ IsHeardIn (u i) (told w i) from octets a b o
+          → Enters links apart W x bound u w n h i b o
+      go out (inl d) = nothing_enters links apart W x bound u w n h i b o
+          (ap (λ (y : Outcome). y.sends) d.outcome) (ap (λ (y : Outcome). y.ended) d.outcome) (ap (λ (y : Outcome). y.performed) d.outcome)
+      go (inr noise) (inr d) = absurd (noise d.peer d.apdu d.means)
+      go (inl foreign) (inr d) = stranger_enters links apart W x bound u w n h i d.peer d.apdu
+          (λ k at. foreign k (h.linked k ∙ at ∙ ap (λ (q : PeerView). Some q.link) d.means.carries.sender)) a b o node (is_from_client d.apdu) d.heard
 
-  opens : Tidy w → (overtake : ℕ) → CanGoOn W overtake w
+  opens : Tidy w → (overtake : ℕ) → CanGoOnSo u W overtake w
   opens t overtake = record {
     punctual = t.punctual;
     counted = t.counted;
@@ -345,16 +362,22 @@ module _ (links : ℕ → Option Octets) (apart : (i j : ℕ) (l : Octets) → l
     hears = λ number c at young l link a b o node on.
         let e = copy_enters number c at l link a b o node on in (e.can, e.few, e.one);
     outside = λ i from octets out a b o node on. let e = outside_enters i from octets out a b o node on in (e.can, e.few, e.one);
-    ticks = tick_enters links apart W x bound w n h;
-    asks = ask_enters links apart W x bound w n h;
+    ticks = tick_enters links apart W x bound u w n h;
+    asks = ask_enters links apart W x bound u w n h;
   }
 
+pub runs_can_go_on_so : (u : Reuses) (W overtake : ℕ) (w w' : World) → IsFresh w → IsTimely w.time.pace → IsBounded W overtake w → (events : List Event)
+    → WorldRunSo overtake u w events w' → CanGoOnSo u W overtake w'
+runs_can_go_on_so u W overtake w w' f timely b events run =
+    let x = rules_of overtake w in
+    let bound = rules_bounded W overtake w b in
+    let reached = run_over_so (link_at w.nodes) f.apart W x (Some u) bound refl (stores_of w.nodes) events w w'
+    (net_start w.time.pace (λ i. (w.time.clocks i).exact)) (fresh_over (Some u) W overtake w f timely b)
+    (subst (λ l. IsOnceSo u (stores_of w.nodes) l (stores_of w.nodes)) (sym f.log) (λ node. refl)) run in
+    opens (link_at w.nodes) f.apart W x bound u w' reached.0 reached.1 (tidy_run overtake u events w w' (tidy_fresh w f timely) run) overtake
+
+-- where no invoke ID is used again
 pub runs_can_go_on : (W overtake : ℕ) (w w' : World) → IsFresh w → IsTimely w.time.pace → IsBounded W overtake w → (events : List Event)
     → WorldRun overtake w events w' → CanGoOn W overtake w'
 runs_can_go_on W overtake w w' f timely b events run =
-    let x = rules_of overtake w in
-    let bound = rules_bounded W overtake w b in
-    let reached = run_over (link_at w.nodes) f.apart W x bound refl (stores_of w.nodes) events w w' (net_start w.time.pace (λ i. (w.time.clocks i).exact))
-    (fresh_over None W overtake w f timely b)
-    (subst (λ l. IsOnce (stores_of w.nodes) l (stores_of w.nodes)) (sym f.log) (λ node. refl)) run in
-    opens (link_at w.nodes) f.apart W x bound w' reached.0 reached.1 (tidy_run overtake events w w' (tidy_fresh w f timely) run) overtake
+    runs_can_go_on_so (λ node. false) W overtake w w' f timely b events (run_as overtake w events w' run)

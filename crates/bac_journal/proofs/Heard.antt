@@ -10,47 +10,59 @@ use Rattle.bac_protocol.specs.Own.{invoke_id_of}
 use Rattle.bac_protocol.specs.Client as client
 use Rattle.bac_protocol.specs.Client.{ClientTransaction, client_on_apdu}
 use Rattle.bac_protocol.specs.Server as server
-use Rattle.bac_protocol.specs.Server.{ServerTransaction, Effect, Service, server_on_apdu}
+use Rattle.bac_protocol.specs.Server.{ServerTransaction, Effect, Service}
+use Rattle.bac_protocol.specs.Reuse.{server_hears}
 use Rattle.bac_protocol.specs.Transaction.{Key, Rules, server_context}
 use Rattle.bac_protocol.specs.Pace.{Clock}
 use Rattle.bac_protocol.specs.World.{Net, Post, is_lost}
 use Rattle.bac_protocol.specs.Claims.{IsBounded}
 use Rattle.bac_protocol.specs.Steps.{IsSameReaction}
-use Rattle.bac_protocol.proofs.Dead.{gets_same, same_of, same_then, same_back}
-use Rattle.bac_protocol.proofs.Own.{client_sends_own, server_sends_own}
+use Rattle.bac_protocol.proofs.Dead.{same_of, same_then, same_back}
+use Rattle.bac_protocol.proofs.Own.{client_sends_own}
 use Rattle.bac_slots.specs.Slots.{value_at}
 use Rattle.bac_transaction.specs.Keys.{PeerKey, same_key}
 use Rattle.bac_transaction.specs.Sends.{Datagram, Pairwise, IsSent, to_all}
 use Rattle.bac_transaction.specs.Meanings.{EndedView, IsEndedView}
 use Rattle.bac_transaction.specs.Ends.{Client, ClientTurn, TransactionSlot, act_at, is_free, context_of, client_goes, requester_on_apdu, requester_on_apdu_at, requester_on_apdu_in_slot}
-use Rattle.bac_transaction.specs.Ends.{ServerTurn, responder_on_apdu, stays}
+use Rattle.bac_transaction.specs.Ends.{ServerEnd, stays}
+use Rattle.bac_transaction.specs.Reuse.{is_read}
 use Rattle.bac_transaction.specs.Ends.TransactionSlot.{Open, Closed}
 use Rattle.bac_world.specs.Services.{Performed, ArePerformed}
 use Rattle.bac_world.specs.Node.{Node, Outcome, IsServerTurn, IsClientTurn}
+use Rattle.bac_world.specs.ReusingLogs.{Reuses}
 use Rattle.bac_world.specs.World.{World, told, newest, peer_at}
 use Rattle.bac_world.proofs.Machines.{own_of, ticket_of}
 use Rattle.bac_world.proofs.Pairs.{pairwise_none}
 use Rattle.bac_world.proofs.Bridge.{IsWay, TicketFits, here_at, there_at, key_of, slot_key}
 use Rattle.bac_world.proofs.Steps.{Over, Fits}
 use Rattle.bac_world.proofs.Serving.{each_of_server}
+use Rattle.bac_world.proofs.Settings.{end_heard, hears_at}
+use Rattle.bac_world.proofs.Reused.{hears_own, hears_same}
 use Rattle.bac_world.proofs.Hearing.{ticket_at}
-use Rattle.bac_journal.specs.Entering.{Every, CanLeave, IsNoted, AreOfPeer, CanEnter}
-use Rattle.bac_journal.proofs.Few.{client_gets_few, server_gets_few, entries_few}
+use Rattle.bac_journal.specs.Entering.{Every, CanLeave, IsNoted, IsOfClient, AreOfPeerSo, CanEnterSo}
+use Rattle.bac_journal.proofs.Few.{client_gets_few, hears_few, entries_few}
 use Rattle.bac_journal.proofs.Copied.{paired_length, sent_length, leave_all, can_end}
 
 module _ (links : ℕ → Option Octets) (apart : (i j : ℕ) (l : Octets) → links i ≡ Some l → links j ≡ Some l → i ≡ j) (W : ℕ) (x : Rules)
-    (bound : IsBounded W x) (w : World) (n : Net) (h : Over links apart W x None w n) where
+    (bound : IsBounded W x) (uses : Reuses) (w : World) (n : Net) (h : Over links apart W x (Some uses) w n) where
   pub record Enters (i : ℕ) (b : Node) (o : Outcome) : Type 0 where
-    pub can : CanEnter w i b o
+    pub can : CanEnterSo (uses i) w i b o
     pub few : length o.sends ≤ W + 1
     pub one : length o.ended ≤ 1
+
+  pub none_performed : (i : ℕ) (b : Node) (o : Outcome) → o.performed ≡ None → AreOfPeerSo (uses i) w i b o.performed
+  none_performed i b o performed = subst (AreOfPeerSo (uses i) w i b) (sym performed) (go (uses i))
+    where
+      go : (reuse : Bool) → AreOfPeerSo reuse w i b None
+      go true = tt
+      go false = tt
 
   pub nothing_enters : (i : ℕ) (b : Node) (o : Outcome) → o.sends ≡ [] → o.ended ≡ [] → o.performed ≡ None → Enters i b o
   nothing_enters i b o sends ended performed = record {
     can = record {
       sends = subst (Every (CanLeave w.nodes w.notes w.time.now i)) (sym sends) tt;
       ended = subst (Every (IsNoted w i)) (sym ended) tt;
-      performed = subst (AreOfPeer w i b) (sym performed) tt;
+      performed = none_performed i b o performed;
     };
     few = (let e : length o.sends ≡ 0 = ap (λ (ds : List Datagram). length ds) sends in omega arith);
     one = (let e : length o.ended ≡ 0 = ap (λ (fs : List EndedView). length fs) ended in omega arith);
@@ -61,7 +73,8 @@ module _ (links : ℕ → Option Octets) (apart : (i j : ℕ) (l : Octets) → l
   module _ (number : ℕ) (p : Post) (at : slice_get n.posts number ≡ Some p) (a b : Node) (o : Outcome)
       (node : slice_get w.nodes p.key.server ≡ Some a) (l : Octets)
       (client_at : links p.key.client ≡ Some l) (invoke : invoke_id_of p.copy.apdu ≡ p.key.invoke_id) (service : Service)
-      (turn : IsServerTurn (responder_on_apdu a.settings (told w p.key.server) service (peer_at l) p.copy.apdu a.servers) (told w p.key.server) a b o) where
+      (turn : IsServerTurn (hears_at (uses p.key.server) a.settings (told w p.key.server) service (slot_key l (invoke_id_of p.copy.apdu)) p.copy.apdu a.servers)
+      (told w p.key.server) a b o) where
     abbrev key : Key
     key = p.key
 
@@ -71,17 +84,24 @@ module _ (links : ℕ → Option Octets) (apart : (i j : ℕ) (l : Octets) → l
     abbrev q : PeerKey
     q = slot_key l p.key.invoke_id
 
-    fits : Fits links apart W x None w n n p.key.server a
+    fits : Fits links apart W x (Some uses) w n n p.key.server a
     fits = h.nodes p.key.server a node
 
     abbrev context : Context
     context = server_context x p.key (there_at n p.key.server)
 
+    abbrev reuse : Bool
+    reuse = uses p.key.server
+
+    -- the end before it is heard, and whether a slot is free then
+    abbrev end : (now id : ℕ) → ServerEnd
+    end now id = end_heard (uses p.key.server) now (slot_key l id) p.copy.apdu a.servers
+
     abbrev free : Bool
-    free = is_free (there_at n p.key.server) a.servers
+    free = is_free (there_at n p.key.server) (end (there_at n p.key.server) p.key.invoke_id)
 
     abbrev gets : Option ServerTransaction → server.Reaction
-    gets e = server_on_apdu (server_context x p.key (there_at n p.key.server)) service e (is_free (there_at n p.key.server) a.servers) p.copy.apdu
+    gets e = server_hears (uses p.key.server) (server_context x p.key (there_at n p.key.server)) service is_read e free p.copy.apdu
 
     abbrev v : server.Reaction
     v = gets (value_at same_key (slot_key l p.key.invoke_id) a.servers.slots)
@@ -89,15 +109,12 @@ module _ (links : ℕ → Option Octets) (apart : (i j : ℕ) (l : Octets) → l
     abbrev u : server.Reaction
     u = gets (n.entries p.key)
 
-    abbrev turns : Settings → (now id : ℕ) → ServerTurn
-    turns c now id = responder_on_apdu c now service (peer_at l) p.copy.apdu a.servers
-
     sends_is : Pairwise IsSent (to_all (peer_at l) v.sends) o.sends
     sends_is = so (x.settings key.server) (there_at n p.key.server) key.invoke_id (sym fits.settings) (ap (λ (c : Clock). c.shows) (h.there p.key.server)) (sym invoke) turn.sends
       where
         sends_for : Settings → (now id : ℕ) → List Apdu
-        sends_for c now id =
-            (server_on_apdu (context_of c now (slot_key l id)) service (value_at same_key (slot_key l id) a.servers.slots) (is_free now a.servers) apdu).sends
+        sends_for c now id = (server_hears reuse (context_of c now (slot_key l id)) service is_read (value_at same_key (slot_key l id) a.servers.slots)
+            (is_free now (end now id)) apdu).sends
 
         so : (c : Settings) (now id : ℕ) → c ≡ a.settings → now ≡ (told w p.key.server) → id ≡ invoke_id_of apdu
             → Pairwise IsSent (to_all (peer_at l) (sends_for a.settings (told w p.key.server) (invoke_id_of apdu))) o.sends
@@ -107,12 +124,13 @@ module _ (links : ℕ → Option Octets) (apart : (i j : ℕ) (l : Octets) → l
             (subst (λ (y : ℕ). Pairwise IsSent (to_all (peer_at l) (sends_for a.settings (told w p.key.server) y)) o.sends) (sym g) s))
 
     done : (d : Performed) → o.performed ≡ Some d → d.key ≡ q
-    done d is = so (server_on_apdu (context_of a.settings (told w p.key.server) (slot_key l (invoke_id_of apdu))) service
-        (value_at same_key (slot_key l (invoke_id_of apdu)) a.servers.slots) (is_free (told w p.key.server) a.servers) apdu).effect
-        (subst (λ (y : Option Performed). ArePerformed a.store (act_at (slot_key l (invoke_id_of apdu))
-        (server_on_apdu (context_of a.settings (told w p.key.server) (slot_key l (invoke_id_of apdu))) service
-        (value_at same_key (slot_key l (invoke_id_of apdu)) a.servers.slots) (is_free (told w p.key.server) a.servers) apdu).effect) y) is turn.performed)
+    done d is = so heard.effect (subst (λ (y : Option Performed). ArePerformed a.store (act_at (slot_key l (invoke_id_of apdu)) heard.effect) y) is turn.performed)
       where
+        heard : server.Reaction
+        heard = server_hears reuse (context_of a.settings (told w p.key.server) (slot_key l (invoke_id_of apdu))) service is_read
+            (value_at same_key (slot_key l (invoke_id_of apdu)) a.servers.slots)
+            (is_free (told w p.key.server) (end (told w p.key.server) (invoke_id_of apdu))) apdu
+
         so : (e : Option Effect) → ArePerformed a.store (act_at (slot_key l (invoke_id_of apdu)) e) (Some d) → d.key ≡ q
         so None y = absurd y
         so (Some e) y = y.key ∙ ap (slot_key l) invoke
@@ -121,12 +139,11 @@ module _ (links : ℕ → Option Octets) (apart : (i j : ℕ) (l : Octets) → l
     same =
         let y : Option ServerTransaction = value_at same_key q a.servers.slots in
         let e : Option ServerTransaction = n.entries key in
-        let f : server.Reaction = server_on_apdu context service y free apdu in
-        same_then (there_at n p.key.server) v (gets (server.live_entry (there_at n p.key.server) y)) u (gets_same context service y free apdu)
+        same_then (there_at n p.key.server) v (gets (server.live_entry (there_at n p.key.server) y)) u (hears_same context service free reuse y apdu)
         (same_then (there_at n p.key.server) (gets (server.live_entry (there_at n p.key.server) y)) (gets (server.live_entry (there_at n p.key.server) e)) u
         (same_of (there_at n p.key.server) (gets (server.live_entry (there_at n p.key.server) y)) (gets (server.live_entry (there_at n p.key.server) e))
-        (ap (λ (z : Option ServerTransaction). server_on_apdu context service z free apdu) (fits.servers.found key.client l key.invoke_id client_at)))
-        (same_back (there_at n p.key.server) u (gets (server.live_entry (there_at n p.key.server) e)) (gets_same context service e free apdu)))
+        (ap gets (fits.servers.found key.client l key.invoke_id client_at)))
+        (same_back (there_at n p.key.server) u (gets (server.live_entry (there_at n p.key.server) e)) (hears_same context service free reuse e apdu)))
 
     sent : Pairwise IsSent (to_all (peer_at l) u.sends) o.sends
     sent = subst (λ (l' : List Apdu). Pairwise IsSent (to_all (peer_at l) l') o.sends) same.sends sends_is
@@ -136,24 +153,29 @@ module _ (links : ℕ → Option Octets) (apart : (i j : ℕ) (l : Octets) → l
 
     own : Each (λ y. (is_from_client y ≡ false) × (invoke_id_of y ≡ p.key.invoke_id)) u.sends
     own = each_of_server key.invoke_id u.sends
-        (server_sends_own.gets context service (n.entries key) free apdu (own_of W x None bound n h.sound key)).0
+        (hears_own context service free reuse (n.entries key) (own_of W x (Some uses) bound n h.sound key) apdu)
 
     ticket : (t : ClientTransaction) × (n.tickets p.key ≡ Some t)
-    ticket = ticket_of W x None bound n h.sound number p at
+    ticket = ticket_of W x (Some uses) bound n h.sound number p at
 
-    of_client : (d : Option Performed) → o.performed ≡ d → AreOfPeer w p.key.server b d
-    of_client None is = tt
-    of_client (Some d) is = inl (record {
+    client_of : (d : Performed) → o.performed ≡ Some d → IsOfClient w p.key.server d
+    client_of d is = record {
       client = key.client;
       number = n.numbers key;
       link = h.linked key.client ∙ client_at ∙ ap (λ (y : PeerKey). Some y.peer.link) (sym (done d is));
       noted = ap (λ (k : Key). newest k w.notes) (λ i. key_of key.client key.server (done d is i).invoke_id) ∙ h.noted key ticket.0 ticket.1;
-    })
+    }
+
+    of_client : (either : Bool) (d : Option Performed) → o.performed ≡ d → AreOfPeerSo either w p.key.server b d
+    of_client true None is = tt
+    of_client true (Some d) is = inl (client_of d is)
+    of_client false None is = tt
+    of_client false (Some d) is = inl (client_of d is)
 
     few : length o.sends ≤ W + 1
     few =
-        let small : length u.sends ≤ W + 1 = (server_gets_few context service W bound.some (bound.windows key.server) (n.entries key) free apdu
-        (entries_few W x bound n h.sound key)).sends in
+        let small : length u.sends ≤ W + 1 = (hears_few context service W bound.some (bound.windows key.server) is_read reuse (n.entries key) free apdu
+        (entries_few W x bound uses n h.sound key)).sends in
         let all : length o.sends ≡ length u.sends = paired_length IsSent (to_all (peer_at l) u.sends) o.sends sent ∙ sent_length l u.sends in
         omega arith
 
@@ -163,7 +185,7 @@ module _ (links : ℕ → Option Octets) (apart : (i j : ℕ) (l : Octets) → l
         sends = leave_all links apart w h.linked false key key.server key.client a.link l way w.notes (n.numbers key, h.noted key ticket.0 ticket.1)
             u.sends o.sends own sent;
         ended = subst (Every (IsNoted w key.server)) (sym turn.ended) tt;
-        performed = of_client o.performed refl;
+        performed = of_client reuse o.performed refl;
       };
       few = few;
       one = (let e : length o.ended ≡ 0 = ap (λ (fs : List EndedView). length fs) turn.ended in omega arith);
@@ -179,7 +201,7 @@ module _ (links : ℕ → Option Octets) (apart : (i j : ℕ) (l : Octets) → l
     still : Turn (stays a.clients) → Enters p.key.client b o
     still t = nothing_enters p.key.client b o (pairwise_none IsSent o.sends t.sends) (pairwise_none IsEndedView o.ended t.ended) t.performed
 
-    at_client : Fits links apart W x None w n n p.key.client a
+    at_client : Fits links apart W x (Some uses) w n n p.key.client a
     at_client = h.nodes p.key.client a node
 
     goes : (k : ℕ) (t : ClientTransaction) → value_at same_key (slot_key l p.key.invoke_id) a.clients.slots ≡ Some (record { number = k; held = Open t })
@@ -205,7 +227,7 @@ module _ (links : ℕ → Option Octets) (apart : (i j : ℕ) (l : Octets) → l
                 (client.sends_of r) o.sends
                 (client_sends_own.gets context reads_reply t p.copy.apdu) turn.sends;
             ended = ends.0;
-            performed = subst (AreOfPeer w p.key.client b) (sym turn.performed) tt;
+            performed = none_performed p.key.client b o turn.performed;
           };
           few = omega arith;
           one = ends.1;

@@ -4,12 +4,12 @@ use Rattle.std.proofs.Common.{if◌then◌else◌, nat_eq, refl, sym, ap, subst,
 use Rattle.std.proofs.lemmas.Bool.Decides.{nat_tests}
 use Rattle.std.proofs.lemmas.List.{length-map, map-append}
 use Rattle.std.proofs.Math.Nat.{mul-zero, mul-add, add-mul, mul_comm, mul_assoc, mul-le-mul_left, mul-div_cancel}
-use Rattle.bac_protocol.specs.Pace.{Pace, Clock, clock_at, goes_on, slack, steps, one_clock}
+use Rattle.bac_protocol.specs.Pace.{Pace, clock_at, goes_on, slack, steps, one_clock}
 use Rattle.bac_protocol.proofs.Paces.{steps_low, steps_high}
-use Rattle.bac_world.specs.World.{Time, passes, with_clock}
+use Rattle.bac_world.specs.World.{passes, with_clock}
 use Rattle.bac_world.proofs.Steps.{decide_number}
 use Rattle.bac_journal.specs.declared.clocks.NodeClock.{NodeClock}
-use Rattle.bac_journal.specs.Clocks.{OwnClocks, own_pace, exact_of, rate_of, steps_of, later_by, parts_of, paced, restart_at, restarted_own, time_of}
+use Rattle.bac_journal.specs.Clocks.{OwnClocks, own_pace, exact_of, rate_of, steps_of, later_by, parts_of, paced, restarted_own, time_of}
 use Rattle.bac_journal.specs.Clocks.{IsSane, AreSane, AreGoing, MayGo, starting}
 use Rattle.bac_journal.proofs.Lists.{get_push, get_push_other, get_set, get_set_other}
 

@@ -12,7 +12,7 @@ mod noting;
 mod sending;
 mod transaction;
 
-ghost use Rattle.bac_journal.specs.Entering.{RunsCanGoOn};
+ghost use Rattle.bac_journal.specs.Entering.{RunsCanGoOn, RunsCanGoOnSo};
 
 pub use clocks::Pace;
 pub use copies::Copy;
@@ -22,8 +22,9 @@ pub use noting::Note;
 pub use transaction::Transaction;
 
 /// In each world that a run of a fresh one leads to, what comes of a node's call can enter the world: each datagram goes to a node, in a transaction,
-/// each ending is an ask's, and so is what was performed. A copy makes a node send at most W + 1 datagrams.
-#[tactic(auto, using(crate::proofs::GoingOn::runs_can_go_on))]
+/// each ending is an ask's, and what was performed is an ask's or a stranger's. A copy makes a node send at most W + 1 datagrams. This holds whichever nodes
+/// let clients use an invoke ID again.
 pub fn runs_can_go_on()
-    ensures { RunsCanGoOn }
+    ensures runs { RunsCanGoOn }
+    ensures reusing { RunsCanGoOnSo }
 {}

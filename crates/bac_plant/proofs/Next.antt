@@ -1,25 +1,24 @@
 -- Whatever a call promises after a run can be the next step.
-use Rattle.std.proofs.Common.{◌≡◌, ℕ, Bool, false, List, [], ◌∷◌, ◌++◌, ◌⊎◌, length, take, Option, Some, None, slice_get, slice_set}
-use Rattle.std.proofs.Common.{true, refl, sym, subst, inl, inr, ◌∙◌}
+use Rattle.std.proofs.Common.{◌≡◌, ℕ, Bool, true, false, List, [], ◌∷◌, ◌++◌, ◌⊎◌, length, take, Option, Some, None, slice_get, slice_set}
+use Rattle.std.proofs.Common.{refl, sym, subst, inl, inr, ◌∙◌}
 use Rattle.std.proofs.lemmas.Option.{slice_get_within}
 use Rattle.bac_apdu.specs.Apdu.{Limits}
 use Rattle.bac_service.specs.Values.{Request}
 use Rattle.bac_protocol.specs.Service.{Octets}
 use Rattle.bac_transaction.specs.Meanings.{EndedView}
 use Rattle.bac_transaction.specs.Sends.{Datagram, Pairwise}
-use Rattle.bac_world.specs.Node.{Node, NodeOn, Outcome, with_change}
+use Rattle.bac_world.specs.Node.{Node, Outcome, with_change}
 use Rattle.bac_world.specs.Once.{Fact}
 use Rattle.bac_world.specs.Once.Fact.{Asked, AskedAway, Changed, Performed, Restarted, Served}
 use Rattle.bac_world.specs.Services as service
-use Rattle.bac_world.specs.ReusingWorlds.{WorldRunSo}
-use Rattle.bac_world.specs.World.{AreCopied, AreEnded, AreLogged, Copy, Event, IsCopied, IsOutside, Note, World}
+use Rattle.bac_world.specs.ReusingLogs.{Reuses}
+use Rattle.bac_world.specs.ReusingNodes.{NodeHears}
+use Rattle.bac_world.specs.ReusingWorlds.{AreLoggedSo, WorldRunSo}
+use Rattle.bac_world.specs.World.{AreCopied, AreEnded, AreLogged, Copy, Event, IsCopied, IsOfNone, IsOutside, Note, World}
 use Rattle.bac_world.specs.World.{ending_fact, is_away, link_at, peer_at, told, with_clock}
-use Rattle.bac_journal.specs.Entering.{AreOfPeer, CanBeCopied, CanEnter, CanGoOn, CanLeave, Every, IsNoted, IsOfClient, IsOfStranger}
-use Rattle.bac_journal.proofs.GoingOn.{runs_can_go_on}
+use Rattle.bac_journal.specs.Entering.{AreOfPeer, AreOfPeerSo, CanBeCopied, CanEnterSo, CanGoOnSo, CanLeave, Every, IsNoted, IsOfClient, IsOfStranger}
+use Rattle.bac_journal.proofs.GoingOn.{runs_can_go_on_so}
 use Rattle.bac_journal.proofs.Lists.{get_set}
-use Rattle.bac_node.specs.Remembering.{as_ever, is_reusing}
-use Rattle.bac_node.specs.declared.reuse.Reuse.{Reuse}
-use Rattle.bac_node.specs.declared.reuse.Reuse.TheVariants as setting
 use Rattle.bac_driver.specs.Asking.{IsBegun}
 use Rattle.bac_driver.specs.BoundNodes.{BoundNode}
 use Rattle.bac_driver.specs.Turns as turns
@@ -27,11 +26,10 @@ use Rattle.bac_driver.specs.Turns.{Turn, ended_of, performed_of, sends_of}
 use Rattle.bac_plant.specs.Network.{HandsOver, IsOfStation, Source}
 use Rattle.bac_plant.specs.Network.Source.{Noise, Nowhere, Station, Stranger}
 use Rattle.bac_plant.specs.NextSteps.{AsksGoOn, ChangesGoOn, FailuresGoOn, HeldSendsGoOn, HeldTurnsGoOn, IsReached, LeadsTo, RestartsGoOn, StrangersAskedGoOn, TurnsGoOn}
-use Rattle.bac_plant.specs.Plants.{IsSetTo, Plant, nodes_of, shows, world_of}
+use Rattle.bac_plant.specs.Plants.{Plant, nodes_of, settings_of, shows, world_of}
 use Rattle.bac_plant.specs.Steps.{HappensAt, HoldsSomeTurn, IsSomeTurn, away_note, note_of, question, with_station}
 use Rattle.bac_plant.specs.Steps.Step.{Begins, Holds, Takes}
 use Rattle.bac_plant.specs.Events.{events_of, heard_events}
-use Rattle.bac_plant.proofs.AsEver.{NONE, run_ever}
 use Rattle.bac_plant.proofs.Runs.{run_by}
 use Rattle.bac_plant.proofs.Settings.{run_settings}
 use Rattle.bac_plant.proofs.Turned.{after_call, all_copied_on, copied_join, heard_run, hears_link, held_hears, may_arrive, node_at, run_join, set_links}
@@ -76,44 +74,61 @@ logs_of w i b (Some p) log h = go h
       inr (record { stranger = k.stranger; entry = k.entry; kept = k.kept; log = refl }),
     )
 
+-- the same of a node of either setting
+logs_so : (reuse : Bool) (w : World) (i : ℕ) (b : Node) (p : Option service.Performed) (log : List Fact) → AreOfPeerSo reuse w i b p
+    → (next : List Fact) × AreLoggedSo reuse w.nodes w.notes i b p log next
+logs_so false w i b p log h = logs_of w i b p log h
+logs_so true w i b None log h = (log, refl)
+logs_so true w i b (Some p) log h = go h
+  where
+    go : IsOfClient w i p ⊎ IsOfNone w.nodes p.key.peer.link → (next : List Fact) × AreLoggedSo true w.nodes w.notes i b (Some p) log next
+    go (inl k) =
+        (Performed k.number p.request p.reply ∷ log, inl (record { client = k.client; number = k.number; link = k.link; noted = k.noted; log = refl }))
+    go (inr none) = (Served p.key.peer i p.key.invoke_id 0 p.request p.reply ∷ log, inr (record { stranger = none; begin = 0; log = refl }))
+
 -- what a call returned, where it did not fail to allocate, can enter
-abbrev MayEnter : World → ℕ → Node → Option Outcome → Type 0
-MayEnter w i b None = Unit {0}
-MayEnter w i b (Some o) = CanEnter w i b o
+abbrev MayEnter : (reuse : Bool) → World → ℕ → Node → Option Outcome → Type 0
+MayEnter reuse w i b None = Unit {0}
+MayEnter reuse w i b (Some o) = CanEnterSo reuse w i b o
 
-may_send : (w : World) (i : ℕ) (b : Node) (o : Option Outcome) → MayEnter w i b o → (cs : List Copy) × AreCopied w.nodes w.time.now i (sends_of o) cs
-may_send w i b None h = ([], refl)
-may_send w i b (Some o) h = copies_of w.nodes w.notes w.time.now i o.sends h.sends
+may_send : (reuse : Bool) (w : World) (i : ℕ) (b : Node) (o : Option Outcome) → MayEnter reuse w i b o
+    → (cs : List Copy) × AreCopied w.nodes w.time.now i (sends_of o) cs
+may_send reuse w i b None h = ([], refl)
+may_send reuse w i b (Some o) h = copies_of w.nodes w.notes w.time.now i o.sends h.sends
 
-may_end : (w : World) (i : ℕ) (b : Node) (o : Option Outcome) (log : List Fact) → MayEnter w i b o
+may_end : (reuse : Bool) (w : World) (i : ℕ) (b : Node) (o : Option Outcome) (log : List Fact) → MayEnter reuse w i b o
     → (next : List Fact) × AreEnded w.notes i (ended_of o) log next
-may_end w i b None log h = (log, refl)
-may_end w i b (Some o) log h = ends_of w i o.ended log h.ended
+may_end reuse w i b None log h = (log, refl)
+may_end reuse w i b (Some o) log h = ends_of w i o.ended log h.ended
 
-may_perform : (w : World) (i : ℕ) (b : Node) (o : Option Outcome) (log : List Fact) → MayEnter w i b o
-    → (next : List Fact) × AreLogged w.nodes w.notes i b (performed_of o) log next
-may_perform w i b None log h = (log, refl)
-may_perform w i b (Some o) log h = logs_of w i b o.performed log h.performed
+may_perform : (reuse : Bool) (w : World) (i : ℕ) (b : Node) (o : Option Outcome) (log : List Fact) → MayEnter reuse w i b o
+    → (next : List Fact) × AreLoggedSo reuse w.nodes w.notes i b (performed_of o) log next
+may_perform true w i b None log h = (log, refl)
+may_perform false w i b None log h = (log, refl)
+may_perform true w i b (Some o) log h = logs_so true w i b o.performed log h.performed
+may_perform false w i b (Some o) log h = logs_so false w i b o.performed log h.performed
 
 -- What a node hears, and what it does at a tick.
 
-module _ (W overtake : ℕ) (p : Plant) (on : CanGoOn W overtake (world_of p)) (i : ℕ) (a b : Node) (at : slice_get (nodes_of p.stations) i ≡ Some a) where
-  copy_enters : (number : ℕ) (from octets : Octets) (o : Outcome) → IsOfStation overtake p i number from octets → NodeOn (shows p i) from octets a b o
-      → CanEnter (world_of p) i b o
-  copy_enters number from octets o c h = subst (λ k. CanEnter (world_of p) k b o) c.to
+module _ (u : Reuses) (W overtake : ℕ) (p : Plant) (on : CanGoOnSo u W overtake (world_of p)) (i : ℕ) (a b : Node)
+    (at : slice_get (nodes_of p.stations) i ≡ Some a) where
+  copy_enters : (number : ℕ) (from octets : Octets) (o : Outcome) → IsOfStation overtake p i number from octets
+      → NodeHears (u i) (shows p i) from octets a b o → CanEnterSo (u i) (world_of p) i b o
+  copy_enters number from octets o c h = subst (λ k. CanEnterSo (u k) (world_of p) k b o) c.to
       (on.hears number c.copy c.there
       (may_arrive overtake p.time.pace.life p.time.now number p.copies c.copy c.young c.few) from c.sender a b o
       (subst (λ k. slice_get (nodes_of p.stations) k ≡ Some a) (sym c.to) at)
-      (subst (λ k. NodeOn (shows p k) from c.copy.octets a b o) (sym c.to) (subst (λ os. NodeOn (shows p i) from os a b o) (sym c.whole) h))).0
+      (subst (λ k. NodeHears (u k) (shows p k) from c.copy.octets a b o) (sym c.to)
+      (subst (λ os. NodeHears (u i) (shows p i) from os a b o) (sym c.whole) h))).0
 
   outside_enters : (sender sent from octets : Octets) (o : Outcome) → from ≡ sender → octets ≡ sent → IsOutside (nodes_of p.stations) sender sent
-      → NodeOn (shows p i) from octets a b o → CanEnter (world_of p) i b o
+      → NodeHears (u i) (shows p i) from octets a b o → CanEnterSo (u i) (world_of p) i b o
   outside_enters sender sent from octets o link_is whole outside h =
       (on.outside i sender sent outside a b o at
-      (subst (λ l. NodeOn (shows p i) l sent a b o) link_is (subst (λ os. NodeOn (shows p i) from os a b o) whole h))).0
+      (subst (λ l. NodeHears (u i) (shows p i) l sent a b o) link_is (subst (λ os. NodeHears (u i) (shows p i) from os a b o) whole h))).0
 
-  came_enters : (source : Source) (d : Octets × ℕ) (buffer : Octets) (heard : Option Outcome) → turns.HearsOne false (shows p i) d.0 (take d.1 buffer) a b heard
-      → HandsOver overtake p i source (Some d) buffer → MayEnter (world_of p) i b heard
+  came_enters : (source : Source) (d : Octets × ℕ) (buffer : Octets) (heard : Option Outcome) → turns.HearsOne (u i) (shows p i) d.0 (take d.1 buffer) a b heard
+      → HandsOver overtake p i source (Some d) buffer → MayEnter (u i) (world_of p) i b heard
   came_enters source d buffer None h from = tt
   came_enters Nowhere d buffer (Some o) h from = absurd from
   came_enters (Station number) d buffer (Some o) h from = copy_enters number d.0 (take d.1 buffer) o from h
@@ -122,83 +137,83 @@ module _ (W overtake : ℕ) (p : Plant) (on : CanGoOn W overtake (world_of p)) (
   came_enters (Noise sender octets) d buffer (Some o) h from =
       outside_enters sender octets d.0 (take d.1 buffer) o from.link_is from.whole (inr from.meaningless) h
 
-  heard_enters : (source : Source) (came : Option (Octets × ℕ)) (buffer : Octets) (heard : Option Outcome) → turns.Hears (as_ever false) (shows p i) buffer came a b heard
-      → HandsOver overtake p i source came buffer → MayEnter (world_of p) i b heard
+  heard_enters : (source : Source) (came : Option (Octets × ℕ)) (buffer : Octets) (heard : Option Outcome) → turns.Hears (u i) (shows p i) buffer came a b heard
+      → HandsOver overtake p i source came buffer → MayEnter (u i) (world_of p) i b heard
   heard_enters source (Some d) buffer heard h from = came_enters source d buffer heard h from
   heard_enters source None buffer None h from = tt
   heard_enters source None buffer (Some o) h from = absurd (let e = h.0 in cc)
 
-tick_enters : (W overtake : ℕ) (w : World) → CanGoOn W overtake w → (i : ℕ) (a b : Node) → slice_get w.nodes i ≡ Some a → (ticked : Option Outcome)
-    → turns.Ticks (told w i) a b ticked → MayEnter w i b ticked
-tick_enters W overtake w on i a b at None t = tt
-tick_enters W overtake w on i a b at (Some o) t = on.ticks i a b o at t
+tick_enters : (u : Reuses) (W overtake : ℕ) (w : World) → CanGoOnSo u W overtake w → (i : ℕ) (a b : Node) → slice_get w.nodes i ≡ Some a → (ticked : Option Outcome)
+    → turns.Ticks (told w i) a b ticked → MayEnter false w i b ticked
+tick_enters u W overtake w on i a b at None t = tt
+tick_enters u W overtake w on i a b at (Some o) t = on.ticks i a b o at t
 
 -- Reached plants go on.
 
-not_reusing : (reuse : Reuse) → is_reusing reuse ≡ false → reuse ≡ as_ever false
-not_reusing (setting.Remembering remember) is = absurd (other is)
-  where
-    other : true ≡ false → ⊥
-    other e = cc
-not_reusing setting.Never is = refl
-
-reached_world : (W overtake : ℕ) (p : Plant) → IsReached W overtake p → (es : List Event) (w : World) → WorldRunSo overtake NONE (world_of p) es w
-    → CanGoOn W overtake w
+reached_world : (W overtake : ℕ) (p : Plant) (r : IsReached W overtake p) (es : List Event) (w : World)
+    → WorldRunSo overtake (settings_of r.first) (world_of p) es w → CanGoOnSo (settings_of r.first) W overtake w
 reached_world W overtake p r es w run =
-    runs_can_go_on W overtake (world_of r.first) w r.fresh r.timely r.bounded (events_of r.steps ++ es)
-    (run_ever overtake (world_of r.first) (events_of r.steps ++ es) w
-    (run_join overtake NONE (events_of r.steps) es (world_of r.first) (world_of p) w (run_by overtake NONE r.steps r.first p r.without r.run) run))
+    let u : Reuses = settings_of r.first in
+    runs_can_go_on_so u W overtake (world_of r.first) w r.fresh r.timely r.bounded (events_of r.steps ++ es)
+    (run_join overtake u (events_of r.steps) es (world_of r.first) (world_of p) w (run_by overtake u r.steps r.first p (λ j. refl) r.run) run)
 
 module _ (W overtake : ℕ) (p : Plant) (r : IsReached W overtake p) (i : ℕ) (before : BoundNode) (at : slice_get p.stations i ≡ Some before) where
   abbrev first_at : slice_get (nodes_of p.stations) i ≡ Some before.node
   first_at = node_at p.stations i before at
 
-  goes_on : CanGoOn W overtake (world_of p)
+  -- the settings of all stations, and its own
+  abbrev u : Reuses
+  u = settings_of r.first
+
+  setting : before.reuse ≡ u i
+  setting = sym (setting_at p i before at) ∙ run_settings overtake r.steps r.first p r.run i
+
+  goes_on : CanGoOnSo u W overtake (world_of p)
   goes_on = reached_world W overtake p r [] (world_of p) refl
 
   stands : (after : BoundNode) → slice_get (slice_set p.stations i after) i ≡ Some after
   stands after = get_set p.stations i after (slice_get_within p.stations i before at)
 
   -- a turn, whose node is the middle one between hearing and the tick
-  module _ (turn : Turn) (after : BoundNode) (middle : Node) (hears : turns.Hears (as_ever false) (shows p i) after.buffer turn.received before.node middle turn.heard)
+  module _ (turn : Turn) (after : BoundNode) (middle : Node) (hears : turns.Hears (u i) (shows p i) after.buffer turn.received before.node middle turn.heard)
       (ticks : turns.Ticks (shows p i) middle after.node turn.ticked) (source : Source) (from : HandsOver overtake p i source turn.received after.buffer) where
-    first : MayEnter (world_of p) i middle turn.heard
-    first = heard_enters W overtake p goes_on i before.node middle first_at source turn.received after.buffer turn.heard hears from
+    first : MayEnter (u i) (world_of p) i middle turn.heard
+    first = heard_enters u W overtake p goes_on i before.node middle first_at source turn.received after.buffer turn.heard hears from
 
     abbrev sends : (cs : List Copy) × AreCopied (nodes_of p.stations) p.time.now i (sends_of turn.heard) cs
-    sends = may_send (world_of p) i middle turn.heard first
+    sends = may_send (u i) (world_of p) i middle turn.heard first
 
     abbrev ends : (next : List Fact) × AreEnded p.notes i (ended_of turn.heard) p.log next
-    ends = may_end (world_of p) i middle turn.heard p.log first
+    ends = may_end (u i) (world_of p) i middle turn.heard p.log first
 
-    abbrev performs : (next : List Fact) × AreLogged (nodes_of p.stations) p.notes i middle (performed_of turn.heard) ends.0 next
-    performs = may_perform (world_of p) i middle turn.heard ends.0 first
+    abbrev performs : (next : List Fact) × AreLoggedSo (u i) (nodes_of p.stations) p.notes i middle (performed_of turn.heard) ends.0 next
+    performs = may_perform (u i) (world_of p) i middle turn.heard ends.0 first
 
     abbrev Middle : World
     Middle = after_call (world_of p) i middle sends.0 performs.0
 
-    went : WorldRunSo overtake NONE (world_of p) (heard_events i source turn.heard) Middle
-    went = heard_run overtake NONE p i before.node middle first_at sends.0 ends.0 performs.0 source turn.received after.buffer turn.heard hears from
+    went : WorldRunSo overtake u (world_of p) (heard_events i source turn.heard) Middle
+    went = heard_run overtake u p i before.node middle first_at sends.0 ends.0 performs.0 source turn.received after.buffer turn.heard hears from
         sends.1 ends.1 performs.1
 
     second_at : slice_get Middle.nodes i ≡ Some middle
     second_at = get_set (nodes_of p.stations) i middle (slice_get_within (nodes_of p.stations) i before.node first_at)
 
-    second : MayEnter Middle i after.node turn.ticked
-    second = tick_enters W overtake Middle (reached_world W overtake p r (heard_events i source turn.heard) Middle went) i middle after.node second_at
+    second : MayEnter false Middle i after.node turn.ticked
+    second = tick_enters u W overtake Middle (reached_world W overtake p r (heard_events i source turn.heard) Middle went) i middle after.node second_at
         turn.ticked ticks
 
     linked : (j : ℕ) → link_at (nodes_of p.stations) j ≡ link_at Middle.nodes j
     linked j = sym (set_links (nodes_of p.stations) i before.node middle first_at
-        (hears_link (as_ever false) (shows p i) after.buffer turn.received before.node middle turn.heard hears) j)
+        (hears_link (u i) (shows p i) after.buffer turn.received before.node middle turn.heard hears) j)
 
     abbrev later_sends : (cs : List Copy) × AreCopied Middle.nodes p.time.now i (sends_of turn.ticked) cs
-    later_sends = may_send Middle i after.node turn.ticked second
+    later_sends = may_send false Middle i after.node turn.ticked second
 
     abbrev later_ends : (next : List Fact) × AreEnded p.notes i (ended_of turn.ticked) performs.0 next
-    later_ends = may_end Middle i after.node turn.ticked performs.0 second
+    later_ends = may_end false Middle i after.node turn.ticked performs.0 second
 
-    may_happen : (new : Plant) × HappensAt false overtake p i source turn middle after new × (slice_get new.stations i ≡ Some after)
+    may_happen : (new : Plant) × HappensAt (u i) overtake p i source turn middle after new × (slice_get new.stations i ≡ Some after)
     may_happen = (
       record (with_station p i after) { copies = p.copies ++ (sends.0 ++ later_sends.0); log = later_ends.0 },
       record {
@@ -213,28 +228,19 @@ module _ (W overtake : ℕ) (p : Plant) (r : IsReached W overtake p) (i : ℕ) (
       stands after,
     )
 
-  off : IsSetTo false before
-  off = not_reusing before.reuse (sym (setting_at p i before at) ∙ run_settings overtake r.steps r.first p r.run i ∙ r.without i)
-
   turn_leads : (turn : Turn) (after : BoundNode) → IsSomeTurn (shows p i) before turn after → (source : Source)
       → HandsOver overtake p i source turn.received after.buffer → LeadsTo overtake p (Takes i source turn) i after
   turn_leads turn after t source from =
-      let m = may_happen turn after t.is.acts.middle (turn_hears (as_ever false) (shows p i) before turn after t off) t.is.acts.ticks source from in
-      record {
-        new = m.0;
-        goes = record { before = before; at = at; after = after; takes = t; reuse = false; set = off; happens = m.1 };
-        there = m.2;
-      }
+      let m = may_happen turn after t.is.acts.middle (turn_hears (u i) (shows p i) before turn after t setting) t.is.acts.ticks source from in
+      let happens = subst (λ (y : Bool). HappensAt y overtake p i source turn t.is.acts.middle after m.0) (sym setting) m.1 in
+      record { new = m.0; goes = record { before = before; at = at; after = after; takes = t; happens = happens }; there = m.2 }
 
   held_leads : (turn : Turn) (after : BoundNode) → HoldsSomeTurn (shows p i) before turn after → (source : Source)
       → HandsOver overtake p i source turn.received after.buffer → LeadsTo overtake p (Holds i source turn) i after
   held_leads turn after t source from =
-      let m = may_happen turn after t.takes.middle (held_hears (as_ever false) (shows p i) before turn after t off) t.takes.ticks source from in
-      record {
-        new = m.0;
-        goes = record { before = before; at = at; after = after; holds = t; reuse = false; set = off; happens = m.1 };
-        there = m.2;
-      }
+      let m = may_happen turn after t.takes.middle (held_hears (u i) (shows p i) before turn after t setting) t.takes.ticks source from in
+      let happens = subst (λ (y : Bool). HappensAt y overtake p i source turn t.takes.middle after m.0) (sym setting) m.1 in
+      record { new = m.0; goes = record { before = before; at = at; after = after; holds = t; happens = happens }; there = m.2 }
 
   ask_leads : (server : ℕ) (link : Octets) → link_at (nodes_of p.stations) server ≡ Some link → (limits : Limits) (request : Request) (ticket : ℕ)
       (after : BoundNode) → IsBegun (shows p i) (question (peer_at link) limits request) before ticket after

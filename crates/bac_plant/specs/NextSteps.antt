@@ -14,17 +14,16 @@ use Rattle.bac_driver.specs.BoundNodes.{BoundNode}
 use Rattle.bac_driver.specs.Runs.{CannotReceive, Timed}
 use Rattle.bac_driver.specs.Turns.{Turn}
 use Rattle.bac_plant.specs.Network.{HandsOver, Source}
-use Rattle.bac_plant.specs.Plants.{HasNoReuse, Plant, nodes_of, shows, world_of}
+use Rattle.bac_plant.specs.Plants.{Plant, nodes_of, shows, world_of}
 use Rattle.bac_plant.specs.Steps.{AreSent, HoldsSomeTurn, IsSomeTurn, PlantRun, PlantStep, Step, question}
 use Rattle.bac_plant.specs.Steps.Step.{Begins, BeginsAway, Changes, FailsToReceive, Holds, Restarts, SendsHeld, Takes}
 
--- a run from a fresh plant led there, in which no station lets clients use an invoke ID again
+-- a run from a fresh plant led there, whichever stations let clients use an invoke ID again
 pub record IsReached (W overtake : ℕ) (p : Plant) : Type 0 where
   pub first : Plant
   pub fresh : IsFresh (world_of first)
   pub timely : IsTimely first.time.pace
   pub bounded : IsBounded W overtake (world_of first)
-  pub without : HasNoReuse first
   pub steps : List Step
   pub run : PlantRun overtake steps first p
 

@@ -63,8 +63,8 @@ pub fn turns_are_events()
         → (steps : List Step) → PlantRun overtake steps old new → HasNoReuse old → AreServedApart (world_of new) }
 {}
 
-/// After each run of a fresh plant in which no station lets invoke IDs be used again, whatever a call promises of a station, at the moment of its clock and by
-/// a datagram that the network may hand over, is a step of the plant: there are the asks, transactions and strangers of all that it returned. So no turn is left
+/// After each run of a fresh plant, whichever stations let invoke IDs be used again, whatever a call promises of a station, at the moment of its clock and by a
+/// datagram that the network may hand over, is a step of the plant: there are the asks, transactions and strangers of all that it returned. So no turn is left
 /// out of the law above.
 #[tactic(auto, using(crate::proofs::Next::changes_go_on, crate::proofs::Next::restarts_go_on))]
 pub fn calls_go_on()

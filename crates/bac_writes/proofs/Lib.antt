@@ -1,0 +1,4 @@
+pub mod Machine
+pub mod Logs
+pub mod Kept
+pub mod Steps
