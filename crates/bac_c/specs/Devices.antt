@@ -37,6 +37,9 @@ Heard now from octets d e = Ran (NodeHears d.reuse_invoke_ids now from octets) d
 abbrev pub KeepsSoMuch : Device → Device → Type 0
 KeepsSoMuch d e = MatchOption d.node ⊥ (λ m. MatchOption e.node ⊥ (KeepsWithin d.memory m))
 
+abbrev pub HasKept : (old new : Option Device) → Type 0
+HasKept old new = MatchOption old ⊥ (λ d. MatchOption new ⊥ (KeepsSoMuch d))
+
 abbrev pub HasHeard : (now : ℕ) → (from octets : List ℕ) → (old new : Option Device) → Type 0
 HasHeard now from octets old new = MatchOption old ⊥ (λ d. MatchOption new ⊥ (Heard now from octets d))
 

@@ -4,7 +4,7 @@ ghost use Rattle.bac_node.specs.Calls.{IsNotHeard};
 ghost use Rattle.bac_node.specs.Waiting.{MovesAt, RestsUntil};
 ghost use Rattle.bac_requester.specs.Timers.{LAST_MOMENT};
 ghost use Rattle.bac_world.specs.Node.{NodeTick};
-ghost use Rattle.bac_c.specs.Devices.{HasHeard, HasRun, Holds, IsIdle, Runs};
+ghost use Rattle.bac_c.specs.Devices.{HasHeard, HasKept, HasRun, Holds, IsIdle, Runs};
 ghost use Rattle.bac_c.specs.Statuses.{CLOCK_BACK, DONE, NOT_OPEN, NOT_STARTED, NO_MEMORY};
 
 use crate::fault::{Fault, status};
@@ -21,6 +21,7 @@ pub extern "C" fn bac_on(
     octets: &[u8],
 ) -> u32
     ensures went { result ≡ DONE → HasHeard now from.now octets.now handle.old.parked.device handle.new.parked.device }
+    ensures within { result ≡ DONE → HasKept handle.old.parked.device handle.new.parked.device }
     ensures closed { (result ≡ NOT_OPEN) ↔ (handle.old.parked.device ≡ None) }
     ensures idle { (result ≡ NOT_STARTED) ↔ Holds IsIdle handle.old.parked.device }
     ensures early { (result ≡ CLOCK_BACK) ↔ Holds (Runs (λ n. now < n.latest)) handle.old.parked.device }

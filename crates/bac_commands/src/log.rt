@@ -10,8 +10,8 @@ use crate::lines::turn_lines;
 use crate::turned_away::{counts_away, full_text, is_said, is_turned_away};
 use bac_driver::{Observer, Turn};
 use bac_node::Node;
-use std::io;
 use std::alloc::Global;
+use std::io;
 use std::io::Write;
 
 /// How many requests were turned away since the table was full.

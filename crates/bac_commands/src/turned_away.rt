@@ -82,7 +82,9 @@ fn full_line(alloc: Global, at: u64, away: u64, node: &Node) -> Result<Vec<u8>, 
 {
     let wait = node.next_free(at).saturating_sub(at);
     let requests = away_text(away);
-    let text = format!(in alloc; "{at} table full: {away}{requests}, next slot free in {wait} ms\n")?;
+    let text = format!(in alloc;
+        "{at} table full: {away}{requests}, next slot free in {wait} ms\n"
+    )?;
     Ok(text.into_bytes())
 }
 

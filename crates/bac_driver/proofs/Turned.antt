@@ -5,6 +5,7 @@ use Rattle.std.proofs.lemmas.List.{append-nil, map-append, take_more}
 use Rattle.bac_protocol.specs.Service.{Octets}
 use Rattle.bac_protocol.specs.Wire.{is_from_client}
 use Rattle.bac_world.specs.Node.{IsHeardBy, Node, NodeOn, Outcome}
+use Rattle.bac_node.specs.Memory.{KeepsWithin, kept_octets}
 use Rattle.bac_node.specs.Remembering.{IsHeardRememberingBy, NodeHearsBy, NodeRemembering}
 use Rattle.bac_node.specs.declared.reuse.Reuse.{Reuse}
 use Rattle.bac_node.specs.declared.reuse.Reuse.TheVariants as reuse_of
@@ -37,6 +38,10 @@ pub heard_in_time : (reuse : Reuse) (now : ℕ) (from octets : Octets) (old new 
     → new.latest ≤ now
 heard_in_time (reuse_of.Remembering remember) now from octets old new o hears = reusing_in_time remember now from octets old new o hears
 heard_in_time reuse_of.Never now from octets old new o hears = on_in_time now from octets old new o hears
+
+-- where nothing changed, its server's end keeps as much
+pub stays_within : (memory : ℕ) (old new : Node) → new ≡ old → KeepsWithin memory old new
+stays_within memory old new same = let all = ap kept_octets same in omega (arith, all)
 
 -- what a step sends goes to the link
 pub record IsSentBy (sends : List Datagram) (lost : ℕ) (failures after : ℕ) (calls calls_after : Calls) : Type 0 where

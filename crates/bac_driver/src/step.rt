@@ -1,6 +1,7 @@
 //! The two steps of a turn: the node takes the datagram that has come, and ticks. `BoundNode::act` calls both; all here is private to the crate.
 ghost use Rattle.std.specs.Prelude.{◌≤◌, length, IfSome};
 ghost use Rattle.std.specs.Option.{option_map};
+ghost use Rattle.bac_node.specs.Memory.{KeepsWithin};
 ghost use Rattle.bac_node.specs.Views.{outcome_view};
 ghost use Rattle.bac_driver.specs.Turns.{Hears, Ticks};
 
@@ -9,7 +10,7 @@ use bac_node::{Node, NodeFault, Outcome, Reuse};
 
 /// The node takes the datagram that has come, the first octets of the buffer. None where none has come, where taking it fails to allocate, or where its server's
 /// end might keep more than `memory` octets then: in each case nothing has changed.
-#[tactic(auto, using(crate::proofs::Turned::heard_in_time))]
+#[tactic(auto, using(crate::proofs::Turned::heard_in_time, crate::proofs::Turned::stays_within))]
 pub(crate) fn on_received(
     node: &mut Node,
     reuse: Reuse,
@@ -22,6 +23,7 @@ pub(crate) fn on_received(
     requires timely { node.old.latest ≤ now }
     ensures heard { Hears reuse now buffer.now received node.old node.new (option_map outcome_view result) }
     ensures timely { node.new.latest ≤ now }
+    ensures within { KeepsWithin memory node.old node.new }
 {
     let datagram = received?;
     let from = datagram.0;

@@ -42,6 +42,7 @@ use bac_keep::Keeper;
 
 /// The turns that stations take, also those of a round, whose sends are held, their asks, changes and restarts are events of a world: a run of a plant is the
 /// run of its world through the events of its steps, in which the nodes let clients use invoke IDs again whose stations do; no step changes such a setting.
+/// A station that takes a turn lets no client do so, or remembers each request for 65,000 ms: turns of a station that forgets sooner are no steps.
 /// After a run of a fresh plant the log, which has all that turns returned as performed and ended, is right with the stores.
 /// Where no station lets invoke IDs be used again, no read is performed twice either; and whatever strangers send, what a station performs for one of them
 /// under one invoke ID, between two of its restarts, it performs in entries that began more than 65,000 ms apart.
