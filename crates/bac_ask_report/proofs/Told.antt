@@ -33,7 +33,7 @@ row_told r time cell answer c text of cell_is answer_is are is = record {
 }
 
 pub object_told : (r : AskRecord) (time : Option (List ℕ)) (answer : Answer) (m : AnswerMembers) (d : Data) → IsTextOf r.time time
-    → answer ≡ answer_of r.request r.outcome → AreMembers answer m → d ≡ ask_object (asked_members r) (end_members r time) m → IsObject r d
+    → answer ≡ answer_of r.request r.outcome → AreMembers answer m → d ≡ ask_object r.name (asked_members r) (end_members r time) m → IsObject r d
 object_told r time answer m d of answer_is are is = record {
   time = time;
   time_of = of;

@@ -11,4 +11,4 @@ mod time;
 
 pub use csv_row::{print_csv_header, print_csv_row};
 pub use object::print_ask_object;
-pub use record::{AskRecord, Outcome};
+pub use record::{AskRecord, LineName, Outcome};
