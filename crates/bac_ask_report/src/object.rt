@@ -124,11 +124,7 @@ fn put_asked(alloc: Global, asked: AskedMembers, members: &mut Members) -> Resul
 }
 
 /// The name of the line, where a line of the list has one.
-fn put_name(
-    alloc: Global,
-    name: LineName<'_>,
-    members: &mut Members,
-) -> Result<(), AllocError>
+fn put_name(alloc: Global, name: LineName<'_>, members: &mut Members) -> Result<(), AllocError>
     ensures { OnOk result (members_view members.new.entries ≡ with_name (name_view name) (members_view members.old.entries)) }
 {
     match name {

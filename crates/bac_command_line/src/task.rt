@@ -4,6 +4,7 @@ use crate::files::{CaptureFile, ScriptFile};
 use crate::forgetting::Forgetting;
 use crate::help::Telling;
 use crate::online::Machine;
+use crate::seconds::bad_pace;
 use crate::selecting::options_of;
 use crate::serving::{Serving, serving_of};
 use bac_explain_report::{ChartFormat, ReportOptions};
@@ -213,6 +214,7 @@ pub(crate) fn task_of<'m, 'a>(
             }
             Some(Task::Keep(path))
         }
+        ("ask", given) if bad_pace(given).is_some() => None,
         ("ask", given) => {
             let asking = asking_of(given, shows_progress);
             if let Some(path) = given.get_str("lines") {
