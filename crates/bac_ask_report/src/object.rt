@@ -4,6 +4,7 @@ ghost use Rattle.std.specs.Option.{option_map};
 ghost use Rattle.bac_ask_report.specs.Members.{answer_members_view, asked_members_view, end_members_view};
 ghost use Rattle.bac_ask_report.specs.Objects.{IsObject, ask_object, asked_members, end_members, index_or_null, property_or_null, with_answer, with_asked, with_end, with_name};
 ghost use Rattle.bac_ask_report.specs.Records.{name_view, record_view};
+ghost use Rattle.bac_ask_report.specs.Times.{IsTimeForm};
 ghost use Rattle.bac_json.specs.Forms.{optional_number, string_or_null};
 ghost use Rattle.bac_json_report.specs.Lines.{IsLineOf};
 ghost use Rattle.bac_npdu.specs.Views.{peer_view};
@@ -78,6 +79,16 @@ fn time_or_null(alloc: Global, time: &Option<TimeText>) -> Result<Json, AllocErr
         Some(time) => Json::try_from_str(alloc, time.as_str()),
         None => Ok(Json::Null),
     }
+}
+
+/// A moment in milliseconds since 1970 began in UTC, as `2026-11-27T07:10:00.000Z`; Null where it is not known, or beyond the year 9999. An Err is out of
+/// memory.
+#[tactic(auto, using(crate::proofs::Told::time_formed))]
+pub fn time_json(alloc: Global, time: Option<u64>) -> Result<Json, AllocError>
+    ensures { IfOk result (λ v. IsTimeForm time (view v)) }
+{
+    let text = time_text(time);
+    time_or_null(alloc, &text)
 }
 
 // ---- what was asked

@@ -5,7 +5,8 @@ use Rattle.bac_driver.specs.Views.{question_view}
 use Rattle.bac_command_line.specs.declared.question_lines.LineQuestion as code
 use Rattle.bac_npdu.specs.Peers.{PeerView}
 use Rattle.bac_text.specs.Notes.{read_of}
-use Rattle.bac_command_line.specs.AskedLines.{AddsLine, AreQuestions, AskNothing, AsksIn, AsksWords, HaveBadLine, IsBadRead, Numbered, WordsAsk, AreBadWords, line_view}
+use Rattle.bac_command_line.specs.AskedLines.{AddsLine, AreQuestions, AskNothing, AsksIn, AsksOne, HaveBadLine, IsBadRead, Numbered, WordsAsk, AreBadWords, line_view}
+use Rattle.bac_command_line.specs.LineNames.{has_bad_name, words_behind}
 use Rattle.bac_command_line.specs.LineWords.{words_of}
 
 -- what the lines from here on ask, behind those so far, is what all lines ask
@@ -77,13 +78,13 @@ request_adds default line read words old new q is are some asks pushed =
 pub asking_nothing_bad : {A : Type 0} (default : Option PeerView) (f : A → List ℕ) (words : List A) → 0 < length words
     → AskNothing default (words_behind (map f words)) → AreBadWords default (Some (map f words))
 asking_nothing_bad default f [] some nothing = absurd (omega arith)
-asking_nothing_bad default f (word ∷ words) some nothing = InRight nothing
+asking_nothing_bad default f (word ∷ words) some nothing = inr nothing
 
 -- so is a name that is none
 pub bad_name_bad : {A : Type 0} (default : Option PeerView) (f : A → List ℕ) (words : List A) → 0 < length words → has_bad_name (map f words) ≡ true
     → AreBadWords default (Some (map f words))
 bad_name_bad default f [] some bad = absurd (omega arith)
-bad_name_bad default f (word ∷ words) some bad = InLeft bad
+bad_name_bad default f (word ∷ words) some bad = inl bad
 
 -- a line with bad words is bad
 pub bad_words_read : (default : Option PeerView) (line read : List ℕ) (words : Option (List (List ℕ))) → read_of true line ≡ Some read
