@@ -67,6 +67,8 @@ pub(crate) enum Task<'m, 'a> {
     },
     /// What the file at this path keeps.
     Keep(&'a str),
+    /// The same as objects of JSON.
+    KeepJson(&'a str),
     /// That the file at a path forgets something.
     Forget(Forgetting<'a>),
     /// The request that some words are.
@@ -211,6 +213,9 @@ pub(crate) fn task_of<'m, 'a>(
                     object,
                     property,
                 }));
+            }
+            if given.get_flag("json") {
+                return Some(Task::KeepJson(path));
             }
             Some(Task::Keep(path))
         }

@@ -368,13 +368,21 @@ const SERVE: &[Word] = &[
         against: &[],
         help: "Logs each datagram that arrives, and what was done for it, on standard error",
     },
+    Word {
+        name: "json",
+        form: WordForm::Flag,
+        need: Need::Beside("log"),
+        against: &[],
+        help: "The log has an object of JSON a line",
+    },
 ];
 
 /// Examples for `keep`.
 const KEEP_EXAMPLES: &str = "\
 Example: bac keep plant.db
 Example: bac keep plant.db --forget analog-value:1 present-value
-Example: bac keep plant.db --forget file:1";
+Example: bac keep plant.db --forget file:1
+Example: bac keep plant.db --json";
 
 /// What `keep` takes.
 const KEEP: &[Word] = &[
@@ -398,6 +406,13 @@ const KEEP: &[Word] = &[
         need: Need::Beside("forget"),
         against: &[],
         help: "The property to forget, by number or name; without it --forget forgets all of the object, its file too",
+    },
+    Word {
+        name: "json",
+        form: WordForm::Flag,
+        need: Need::Never,
+        against: &["forget"],
+        help: "Prints each property and each file as an object of JSON, one a line",
     },
 ];
 

@@ -14,6 +14,7 @@ pub mod AskEnds
 pub mod Frames
 pub mod LogWords
 pub mod Lines
+pub mod Objects
 pub mod Logs
 pub mod Kept
 pub mod Spent

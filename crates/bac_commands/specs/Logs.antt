@@ -3,22 +3,34 @@ use Rattle.std.specs.Prelude.{◌≡◌, ℕ, Bool, true, List, Option}
 use Rattle.bac_text.specs.Texts.{AppendsText}
 use Rattle.bac_driver.specs.Seen.{Seen, Watcher}
 use Rattle.bac_commands.specs.Lines.{AreTurnLines}
+use Rattle.bac_commands.specs.Objects.{AreTurnObjects}
+use Rattle.bac_commands.specs.declared.log_manner.LogForm.{LogForm}
+use Rattle.bac_commands.specs.declared.log_manner.LogForm.TheVariants as form
+use Rattle.bac_commands.specs.declared.log_manner.LogManner.{LogManner}
 
--- from when on the server serves, whether each line was written, and what the output has
+-- the lines of a turn in a form, of a server that serves from a moment on
+abbrev pub AreTextsIn : LogForm → (serves_from : ℕ) → Seen → List ℕ → Type 0
+AreTextsIn form.Lines from s text = AreTurnLines from s text
+AreTextsIn (form.Objects epoch) from s text = AreTurnObjects epoch from s text
+
+abbrev pub AreTurnTexts : LogManner → Seen → List ℕ → Type 0
+AreTurnTexts m s text = AreTextsIn m.form m.serves_from s text
+
+-- how it is written, whether each line was, and what the output has
 pub record Log : Type 0 where
-  pub serves_from : ℕ
+  pub manner : LogManner
   pub whole : Bool
   pub text : Option (List ℕ)
 
 -- the lines of a turn were written
-abbrev pub Prints : (serves_from : ℕ) → Watcher (Option (List ℕ))
-Prints from s old new = AppendsText old new (AreTurnLines from s)
+abbrev pub Prints : LogManner → Watcher (Option (List ℕ))
+Prints m s old new = AppendsText old new (AreTurnTexts m s)
 
 -- while the log is whole
 pub record IsWritten (s : Seen) (old new : Log) : Type 0 where
   pub before : old.whole ≡ true
-  pub tells : Prints old.serves_from s old.text new.text
+  pub tells : Prints old.manner s old.text new.text
 
 pub record Logs (s : Seen) (old new : Log) : Type 0 where
-  pub same : new.serves_from ≡ old.serves_from
+  pub same : new.manner ≡ old.manner
   pub written : new.whole ≡ true → IsWritten s old new

@@ -13,6 +13,8 @@ mod frames;
 mod fresh_node;
 mod lines;
 mod log;
+mod log_manner;
+mod objects;
 mod online;
 mod serving;
 
@@ -21,6 +23,7 @@ pub use facts::{
     ending_words, print_asked, print_changed, print_ended, print_ending, print_ending_line,
     print_fault, print_nothing, print_performed, print_refused, print_sent,
 };
+pub use log_manner::{LogForm, LogManner};
 pub use online::{
     AskCommand, CommandError, KeptServer, OutputFormat, Style, TURNS, ask, ask_unprinted,
     bound_client, bound_house, bound_server, clock_fault, is_spent, link_fault, pair,

@@ -1,11 +1,13 @@
 //! A log, written turn by turn.
-ghost use Rattle.std.specs.Prelude.{OnOk};
+ghost use Rattle.std.specs.Prelude.{IfOk, OnOk};
 ghost use Rattle.bac_text.specs.Texts.{AppendsText};
 ghost use Rattle.bac_driver.specs.Seen.{seen};
 ghost use Rattle.bac_driver.specs.Views.{turn_view};
-ghost use Rattle.bac_commands.specs.Lines.{AreTurnLines};
+ghost use Rattle.bac_commands.specs.Logs.{AreTurnTexts};
 
 use crate::lines::turn_lines;
+use crate::log_manner::{LogForm, LogManner};
+use crate::objects::{ObjectLog, turn_objects};
 use bac_driver::{Observer, Turn};
 use bac_node::Node;
 use std::alloc::Global;
@@ -16,10 +18,24 @@ use std::io::Write;
 #[derive(Drop)]
 pub(crate) struct Log {
     pub(crate) alloc: Global,
-    /// From when on the server serves, in milliseconds; 0 where it did not restart.
-    pub(crate) serves_from: u64,
+    pub(crate) manner: LogManner,
     /// Whether each line was written.
     pub(crate) whole: bool,
+}
+
+/// The lines of a turn, in the form of the log.
+fn turn_texts(log: &Log, node: &Node, buffer: &[u8], turn: &Turn) -> io::Result<Vec<u8>>
+    ensures { IfOk result (λ t. AreTurnTexts log.now.manner (seen node.now buffer.now (turn_view turn.now)) t.items) }
+{
+    let alloc = log.alloc;
+    let from = log.manner.serves_from;
+    match log.manner.form {
+        LogForm::Lines => turn_lines(alloc, from, node, buffer, turn),
+        LogForm::Objects { epoch } => {
+            let objects = ObjectLog { alloc, epoch };
+            turn_objects(objects, from, node, buffer, turn)
+        }
+    }
 }
 
 /// Writes the lines of a turn.
@@ -31,9 +47,9 @@ fn write_turn<W: Write>(
     out: &mut W,
 ) -> io::Result<()>
     ensures { OnOk result (AppendsText (W.contents out.old) (W.contents out.new)
-        (AreTurnLines log.now.serves_from (seen node.now buffer.now (turn_view turn.now)))) }
+        (AreTurnTexts log.now.manner (seen node.now buffer.now (turn_view turn.now)))) }
 {
-    let lines = turn_lines(log.alloc, log.serves_from, node, buffer, turn)?;
+    let lines = turn_texts(log, node, buffer, turn)?;
     out.write_all(lines.as_slice())
 }
 
@@ -42,7 +58,7 @@ impl<W: Write> Observer<W> for Log {
 
     ghost State = { logs.Log };
 
-    ghost state = { λ l out. record { serves_from = l.serves_from; whole = l.whole; text = W.contents out } };
+    ghost state = { λ l out. record { manner = l.manner; whole = l.whole; text = W.contents out } };
 
     ghost Sees = { logs.Logs };
 
