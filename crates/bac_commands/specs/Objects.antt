@@ -4,10 +4,10 @@ use Rattle.std.specs.Option.{option_map}
 use Rattle.bac_apdu.specs.Apdu.{Apdu, UnconfirmedRequest}
 use Rattle.bac_npdu.specs.Npdu.{NpduView}
 use Rattle.bac_npdu.specs.Peers.{PeerView}
+use Rattle.bac_protocol.specs.Own.{invoke_id_of}
 use Rattle.bac_protocol.specs.Service.{Octets}
 use Rattle.bac_service.specs.Replies.{Reply}
 use Rattle.bac_service.specs.Values.{Request}
-use Rattle.bac_transaction.specs.Meanings.{invoke_id_of}
 use Rattle.bac_world.specs.Node.{Cause}
 use Rattle.bac_world.specs.Services.{Performed}
 use Rattle.bac_driver.specs.Seen.{Seen}
