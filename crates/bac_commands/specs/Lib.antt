@@ -8,6 +8,7 @@ pub mod Questions
 pub mod Reports
 pub mod Pairs
 pub mod CommandErrors
+pub mod FaultWords
 pub mod Words
 pub mod FileOctets
 pub mod AskEnds

@@ -7,6 +7,7 @@ ghost use Rattle.bac_simulate.specs.Scripts.{Happens, Lost, Paced};
 ghost use Rattle.bac_simulate.specs.Views.{happening_view, line_view};
 ghost use Rattle.bac_simulate.specs.Worded.{in_words, lose_text, pace_line_text};
 
+use crate::fault_words::{change_fault_words, print_fault_words};
 use crate::line::ClockPace;
 use crate::moments::ms_now;
 use crate::nothing::why_nothing;
@@ -14,7 +15,6 @@ use crate::printing::{Seen, pace_text};
 use crate::script::ScriptLine;
 use crate::simulate::{change_fault_in, pace_fault_number, pass_start};
 use crate::words::{add_outcome, add_refused, event_line};
-use bac_commands::print_fault;
 use bac_network::{Event, World, WorldFault};
 use std::alloc::Global;
 use std::io;
@@ -44,12 +44,12 @@ fn print_event<W: Write>(
     };
     match change_fault_in(fault) {
         Some(why) => {
-            add_refused(alloc, why.number(), &mut text)?;
+            add_refused(alloc, why.number(), change_fault_words(why), &mut text)?;
             out.write_all(text.as_slice())?;
             Ok(true)
         }
         None => {
-            print_fault(line, fault.number(), out)?;
+            print_fault_words(line, fault.number(), out)?;
             Ok(false)
         }
     }
@@ -70,7 +70,7 @@ fn print_lost_copy<W: Write>(world: &World, line: u64, copy: u64, out: &mut W) -
         print_lose(ms_now(world), copy, out)?;
         Ok(true)
     } else {
-        print_fault(line, WorldFault::NoSuchDatagram.number(), out)?;
+        print_fault_words(line, WorldFault::NoSuchDatagram.number(), out)?;
         Ok(false)
     }
 }
@@ -107,7 +107,7 @@ fn print_pace<W: Write>(
             Ok(true)
         }
         Err(fault) => {
-            print_fault(line, pace_fault_number(fault), out)?;
+            print_fault_words(line, pace_fault_number(fault), out)?;
             Ok(false)
         }
     }
