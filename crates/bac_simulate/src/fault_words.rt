@@ -29,6 +29,7 @@ fn fault_words(fault: u8) -> &'static str
         2 => "no such datagram",
         3 => "the clock is at its end",
         10 => "the link is a node's",
+        11 => "a clock may not be so fast or slow",
         _ => "no memory",
     }
 }
