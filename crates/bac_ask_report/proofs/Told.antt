@@ -2,7 +2,7 @@
 use Rattle.std.proofs.Common.{◌≡◌, ◌∙◌, ap, subst, ℕ, List, [], Option, unwrap_or}
 use Rattle.csv.specs.Writing.{default_writer, row_text}
 use Rattle.serde_json.specs.Data.{Data, Items, string}
-use Rattle.bac_json.specs.Forms.{object_form, optional_number}
+use Rattle.bac_json.specs.Forms.{object_form, optional_number, string_or_null}
 use Rattle.bac_json.specs.Values.{AreElementForms}
 use Rattle.bac_ask_report.specs.Answers.{Answer, answer_of}
 use Rattle.bac_text.specs.Peers.{peer_text}
@@ -10,7 +10,7 @@ use Rattle.bac_ask_report.specs.Objects.{AnswerMembers, AreMembers, AskedMembers
 use Rattle.bac_ask_report.specs.Questions.{object_asked, property_asked, verb}
 use Rattle.bac_ask_report.specs.Records.{AskRecord}
 use Rattle.bac_ask_report.specs.Rows.{AreCells, AreSoleCells, AreValueCells, Cells, IsRow, fields_of, sole_value}
-use Rattle.bac_ask_report.specs.Times.{IsTextOf}
+use Rattle.bac_ask_report.specs.Times.{IsTextOf, IsTimeForm}
 
 -- by the only value, or none
 pub values_told : (run words : List ℕ) (values : Items) (sole : Option (Data × Data)) (c : Cells) → AreElementForms values run → sole ≡ sole_value values
@@ -33,7 +33,7 @@ row_told r time cell answer c text of cell_is answer_is are is = record {
 }
 
 pub object_told : (r : AskRecord) (time : Option (List ℕ)) (answer : Answer) (m : AnswerMembers) (d : Data) → IsTextOf r.time time
-    → answer ≡ answer_of r.request r.outcome → AreMembers answer m → d ≡ ask_object (asked_members r) (end_members r time) m → IsObject r d
+    → answer ≡ answer_of r.request r.outcome → AreMembers answer m → d ≡ ask_object r.name (asked_members r) (end_members r time) m → IsObject r d
 object_told r time answer m d of answer_is are is = record {
   time = time;
   time_of = of;
@@ -53,3 +53,6 @@ pub asked_told : (r : AskRecord) (index line named peer property request : Data)
     → asked_of index line named peer property request ≡ asked_members r
 asked_told r index line named peer property request a b c d e f =
     λ i. asked_of (a i) (b i) (c i) (d i) (e i) (f i)
+
+pub time_formed : (time : Option ℕ) (text : Option (List ℕ)) (d : Data) → IsTextOf time text → d ≡ string_or_null text → IsTimeForm time d
+time_formed time text d of is = record { text = text; text_of = of; is = is }

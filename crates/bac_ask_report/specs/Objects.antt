@@ -9,7 +9,7 @@ use Rattle.serde_json.specs.Find.{of_integer}
 use Rattle.bac_ask_report.specs.Answers.{Answer, answer_of, status_word}
 use Rattle.bac_ask_report.specs.Answers.Answer.{Values, Other, File, Written, Done, Fault, Reason, Nothing}
 use Rattle.bac_ask_report.specs.Questions.{object_asked, property_asked, verb}
-use Rattle.bac_ask_report.specs.Records.{AskRecord}
+use Rattle.bac_ask_report.specs.Records.{AskRecord, LineName, Unnamed, Without, Named}
 use Rattle.bac_ask_report.specs.Times.{IsTextOf}
 
 -- ---- what came
@@ -91,6 +91,12 @@ with_asked a ms =
     put (codes "request") a.request (put (codes "property") a.property (put (codes "peer") a.peer (put (codes "object") a.named
     (put (codes "line") a.line (put (codes "index") a.index ms)))))
 
+-- the name of the line, where a line of the list has one
+abbrev pub with_name : LineName → Members → Members
+with_name Unnamed ms = ms
+with_name Without ms = put (codes "name") null ms
+with_name (Named name) ms = put (codes "name") (string name) ms
+
 abbrev pub with_end : EndMembers → Members → Members
 with_end e ms = put (codes "time") e.time (put (codes "text") e.text (put (codes "status") e.status (put (codes "round") e.round ms)))
 
@@ -99,8 +105,8 @@ with_answer m ms =
     put (codes "values") m.values (put (codes "reason") m.reason (put (codes "position") m.position (put (codes "octets") m.octets
     (put (codes "end") m.end (put (codes "code") m.code (put (codes "class") m.class ms))))))
 
-abbrev pub ask_object : AskedMembers → EndMembers → AnswerMembers → Data
-ask_object a e m = object (with_answer m (with_end e (with_asked a no_members)))
+abbrev pub ask_object : LineName → AskedMembers → EndMembers → AnswerMembers → Data
+ask_object name a e m = object (with_answer m (with_end e (with_name name (with_asked a no_members))))
 
 -- that of an ask
 pub record IsObject (r : AskRecord) (d : Data) : Type 0 where
@@ -108,4 +114,4 @@ pub record IsObject (r : AskRecord) (d : Data) : Type 0 where
   pub time_of : IsTextOf r.time time
   pub members : AnswerMembers
   pub are : AreMembers (answer_of r.request r.outcome) members
-  pub is : d ≡ ask_object (asked_members r) (end_members r time) members
+  pub is : d ≡ ask_object r.name (asked_members r) (end_members r time) members

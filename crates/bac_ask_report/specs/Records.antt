@@ -6,6 +6,8 @@ use Rattle.bac_service.specs.Replies.{Reply}
 use Rattle.bac_service.specs.Values.{Request}
 use Rattle.bac_service.specs.Views.{reply_view, request_view}
 use Rattle.bac_ask_report.specs.declared.record.AskRecord as code_record
+use Rattle.bac_ask_report.specs.declared.record.LineName as code_name
+use Rattle.bac_ask_report.specs.declared.record.LineName.TheVariants as line_name
 use Rattle.bac_ask_report.specs.declared.record.Outcome as code
 use Rattle.bac_ask_report.specs.declared.record.Outcome.TheVariants as outcome
 
@@ -29,10 +31,22 @@ outcome_view (outcome.Refused fault) = Refused fault
 outcome_view outcome.NoEnding = NoEnding
 outcome_view outcome.NoLink = NoLink
 
+-- of the line that asks: no line of the list has one, or none of it asks; it has none, and another has one; or it has this one
+pub data LineName : Type 0 where
+  Unnamed : LineName
+  Without : LineName
+  Named : (name : List ℕ) → LineName
+
+abbrev pub name_view : code_name.LineName → LineName
+name_view line_name.Unnamed = Unnamed
+name_view line_name.Without = Without
+name_view (line_name.Named name) = Named name.now
+
 -- the time of day in milliseconds, and how it ended in words
 pub record AskRecord : Type 0 where
   pub time : Option ℕ
   pub line : Option ℕ
+  pub name : LineName
   pub round : Option ℕ
   pub peer : PeerView
   pub request : Request
@@ -43,6 +57,7 @@ abbrev pub record_view : code_record.AskRecord → AskRecord
 record_view r = record {
   time = r.time;
   line = r.line;
+  name = name_view r.name;
   round = r.round;
   peer = peer_view r.peer;
   request = request_view r.request;

@@ -1,5 +1,5 @@
 -- Rows of CSV: fields with commas between them; one with a comma, a quote or the end of a line in it stands in quotes, each quote in it twice (RFC 4180).
-use Rattle.std.specs.Prelude.{◌≡◌, ℕ, List, [], ◌∷◌, codes, drop, Option, Some, None, unwrap_or}
+use Rattle.std.specs.Prelude.{◌≡◌, ℕ, Bool, List, [], ◌∷◌, codes, drop, if◌then◌else◌, Option, Some, None, unwrap_or}
 use Rattle.csv.specs.Writing.{default_writer, row_text}
 use Rattle.serde_json.specs.Data.{Data, Items, no_items, item, null, boolean, number, string, array, object}
 use Rattle.serde_json.specs.Find.{get}
@@ -10,7 +10,7 @@ use Rattle.bac_value_text.specs.Texts.{object_text}
 use Rattle.bac_ask_report.specs.Answers.{Answer, answer_of}
 use Rattle.bac_ask_report.specs.Answers.Answer.{Values, Other, File, Written, Done, Fault, Reason, Nothing}
 use Rattle.bac_ask_report.specs.Questions.{object_asked, property_asked, property_column}
-use Rattle.bac_ask_report.specs.Records.{AskRecord}
+use Rattle.bac_ask_report.specs.Records.{AskRecord, LineName, Unnamed, Without, Named}
 use Rattle.bac_ask_report.specs.Times.{IsTextOf}
 
 -- ---- the kind and the value
@@ -85,17 +85,27 @@ status_cell Nothing words = words
 
 -- ---- rows
 
--- the names of the columns
-abbrev pub header : List (List ℕ)
-header = codes "time" ∷ codes "peer" ∷ codes "object" ∷ codes "property" ∷ codes "kind" ∷ codes "value" ∷ codes "status" ∷ []
+-- the names of the columns; the last one is there only where a line of the list has a name
+abbrev pub name_header : (has_names : Bool) → List (List ℕ)
+name_header has_names = if has_names then codes "name" ∷ [] else []
 
-abbrev pub header_text : List ℕ
-header_text = row_text default_writer header
+abbrev pub header : (has_names : Bool) → List (List ℕ)
+header has_names =
+    codes "time" ∷ codes "peer" ∷ codes "object" ∷ codes "property" ∷ codes "kind" ∷ codes "value" ∷ codes "status" ∷ name_header has_names
+
+abbrev pub header_text : (has_names : Bool) → List ℕ
+header_text has_names = row_text default_writer (header has_names)
+
+-- the name of the line, where a line of the list has one
+abbrev pub name_fields : LineName → List (List ℕ)
+name_fields Unnamed = []
+name_fields Without = [] ∷ []
+name_fields (Named name) = name ∷ []
 
 abbrev pub fields_of : AskRecord → (time : List ℕ) → Cells → List (List ℕ)
 fields_of r time c =
     time ∷ peer_text r.peer ∷ object_text (object_asked r.request) ∷ property_column (property_asked r.request) ∷ c.kind ∷ c.value
-    ∷ status_cell (answer_of r.request r.outcome) r.words ∷ []
+    ∷ status_cell (answer_of r.request r.outcome) r.words ∷ name_fields r.name
 
 -- the row of an ask
 pub record IsRow (r : AskRecord) (text : List ℕ) : Type 0 where

@@ -1,9 +1,11 @@
 -- A moment as RFC 3339 says it, in UTC, with milliseconds.
 use Rattle.std.specs.Prelude.{◌≡◌, ℕ, ℤ, pos, false, List, ◌++◌, Option, Some, None, ◌*ℤ◌}
+use Rattle.bac_json.specs.Forms.{string_or_null}
 use Rattle.jiff_core.specs.DateTime.{civil_nanos}
 use Rattle.jiff_core.specs.Timestamp.{IsTimestampNanos}
 use Rattle.jiff_core.specs.declared.civil.datetime.DateTime.{DateTime}
 use Rattle.jiff_fmt.specs.Text.{datetime_text, zulu_text}
+use Rattle.serde_json.specs.Data.{Data}
 
 abbrev pub nanoseconds : (milliseconds : ℕ) → ℤ
 nanoseconds milliseconds = pos milliseconds *ℤ pos 1_000_000
@@ -23,3 +25,9 @@ IsTextAt milliseconds (Some text) = IsTimeText milliseconds text
 abbrev pub IsTextOf : (time : Option ℕ) → Option (List ℕ) → Type 0
 IsTextOf None text = text ≡ None
 IsTextOf (Some milliseconds) text = IsTextAt milliseconds text
+
+-- as JSON
+pub record IsTimeForm (time : Option ℕ) (d : Data) : Type 0 where
+  pub text : Option (List ℕ)
+  pub text_of : IsTextOf time text
+  pub is : d ≡ string_or_null text

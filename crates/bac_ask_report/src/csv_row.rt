@@ -1,11 +1,11 @@
 //! Rows of CSV.
-ghost use Rattle.std.specs.Prelude.{◌≡◌, [], unwrap_or, IfOk, OnOk};
+ghost use Rattle.std.specs.Prelude.{◌≡◌, [], ◌++◌, unwrap_or, IfOk, OnOk};
 ghost use Rattle.std.specs.Option.{option_map};
 ghost use Rattle.std.specs.Io.KnownBytes.{Appends};
 ghost use Rattle.bac_ask_report.specs.Answers.{answer_view};
 ghost use Rattle.bac_ask_report.specs.Cells.{cells_view};
-ghost use Rattle.bac_ask_report.specs.Records.{record_view};
-ghost use Rattle.bac_ask_report.specs.Rows.{AreCells, AreSoleCells, AreValueCells, IsCell, IsRow, behind_answered, both, fields_of, header, header_text, no_cells};
+ghost use Rattle.bac_ask_report.specs.Records.{name_view, record_view};
+ghost use Rattle.bac_ask_report.specs.Rows.{AreCells, AreSoleCells, AreValueCells, IsCell, IsRow, behind_answered, both, fields_of, header, header_text, name_fields, no_cells};
 ghost use Rattle.bac_ask_report.specs.Rows.{sole_value, status_cell, word_cells};
 ghost use Rattle.bac_json_report.specs.Lines.{IsJsonText};
 ghost use Rattle.bac_text.specs.Texts.{AppendsText};
@@ -15,7 +15,7 @@ ghost use Rattle.serde_json.specs.View.{items_view, view};
 
 use crate::answer::{Answer, answer_of};
 use crate::question::{object_asked, property_asked, property_column};
-use crate::record::AskRecord;
+use crate::record::{AskRecord, LineName};
 use crate::time::{TimeText, time_text};
 use bac_json::data_json;
 use bac_text::peer_text;
@@ -186,6 +186,18 @@ fn time_cell(time: &Option<TimeText>) -> &[u8]
     }
 }
 
+/// The name of the line, where a line of the list has one.
+fn push_name(name: LineName<'_>, row: &mut ByteRecord) -> Result<(), AllocError>
+    requires { records.partial_of row.old ≡ [] }
+    ensures { OnOk result (records.fields_of row.new ≡ records.fields_of row.old ++ name_fields (name_view name)) }
+{
+    match name {
+        LineName::Unnamed => Ok(()),
+        LineName::Without => row.push_field(b""),
+        LineName::Named(name) => row.push_field(name.as_bytes()),
+    }
+}
+
 /// The columns of an ask.
 fn fields_of(
     alloc: Global,
@@ -207,6 +219,7 @@ fn fields_of(
     row.push_field(&cells.kind)?;
     row.push_field(&cells.value)?;
     row.push_field(status_cell(answer, ask.words))?;
+    push_name(ask.name, &mut row)?;
     Ok(row)
 }
 
@@ -233,9 +246,9 @@ fn row_of(alloc: Global, ask: &AskRecord<'_, '_, '_>) -> Result<Vec<u8>, NoMemor
     Ok(row_with(alloc, ask, time_cell(&time), &cells)?)
 }
 
-/// The names of the columns.
-fn header(alloc: Global) -> Result<ByteRecord, AllocError>
-    ensures { IfOk result (λ r. records.fields_of r ≡ header) }
+/// The names of the columns; the last one only where a line of the list has a name.
+fn header(alloc: Global, has_names: bool) -> Result<ByteRecord, AllocError>
+    ensures { IfOk result (λ r. records.fields_of r ≡ header has_names) }
 {
     let fields: [&[u8]; 7] = [
         b"time",
@@ -246,21 +259,26 @@ fn header(alloc: Global) -> Result<ByteRecord, AllocError>
         b"value",
         b"status",
     ];
-    ByteRecord::from_fields(alloc, &fields)
+    let mut row = ByteRecord::from_fields(alloc, &fields)?;
+    if has_names {
+        row.push_field(b"name")?;
+    }
+    Ok(row)
 }
 
-fn header_text(alloc: Global) -> Result<Vec<u8>, AllocError>
-    ensures { IfOk result (λ t. t.items ≡ header_text) }
+fn header_text(alloc: Global, has_names: bool) -> Result<Vec<u8>, AllocError>
+    ensures { IfOk result (λ t. t.items ≡ header_text has_names) }
 {
-    let row = header(alloc)?;
+    let row = header(alloc, has_names)?;
     row_text(alloc, &row)
 }
 
-/// Prints the names of the columns. An Err is the writer's, or out of memory.
-pub fn print_csv_header<W: Write>(alloc: Global, out: &mut W) -> io::Result<()>
-    ensures { OnOk result (Appends (W.contents out.old) (W.contents out.new) header_text) }
+/// Prints the names of the columns; `name` is the last one where a line of the list has a name, otherwise there is no such column. An Err is the writer's, or
+/// out of memory.
+pub fn print_csv_header<W: Write>(alloc: Global, has_names: bool, out: &mut W) -> io::Result<()>
+    ensures { OnOk result (Appends (W.contents out.old) (W.contents out.new) (header_text has_names)) }
 {
-    let text = header_text(alloc)?;
+    let text = header_text(alloc, has_names)?;
     out.write_all(&text)
 }
 

@@ -10,5 +10,5 @@ mod record;
 mod time;
 
 pub use csv_row::{print_csv_header, print_csv_row};
-pub use object::print_ask_object;
-pub use record::{AskRecord, Outcome};
+pub use object::{print_ask_object, time_json};
+pub use record::{AskRecord, LineName, Outcome};

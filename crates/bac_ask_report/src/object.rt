@@ -2,8 +2,9 @@
 ghost use Rattle.std.specs.Prelude.{◌≡◌, IfOk, OnOk};
 ghost use Rattle.std.specs.Option.{option_map};
 ghost use Rattle.bac_ask_report.specs.Members.{answer_members_view, asked_members_view, end_members_view};
-ghost use Rattle.bac_ask_report.specs.Objects.{IsObject, ask_object, asked_members, end_members, index_or_null, property_or_null, with_answer, with_asked, with_end};
-ghost use Rattle.bac_ask_report.specs.Records.{record_view};
+ghost use Rattle.bac_ask_report.specs.Objects.{IsObject, ask_object, asked_members, end_members, index_or_null, property_or_null, with_answer, with_asked, with_end, with_name};
+ghost use Rattle.bac_ask_report.specs.Records.{name_view, record_view};
+ghost use Rattle.bac_ask_report.specs.Times.{IsTimeForm};
 ghost use Rattle.bac_json.specs.Forms.{optional_number, string_or_null};
 ghost use Rattle.bac_json_report.specs.Lines.{IsLineOf};
 ghost use Rattle.bac_npdu.specs.Views.{peer_view};
@@ -16,7 +17,7 @@ ghost use Rattle.serde_json.specs.View.{members_view, view};
 use crate::answer::{answer_of, status_word};
 use crate::members::{AnswerMembers, members_of};
 use crate::question::{object_asked, property_asked, verb};
-use crate::record::AskRecord;
+use crate::record::{AskRecord, LineName};
 use crate::time::{TimeText, time_text};
 use bac_json::{object_json, optional_json, property_json, text_json};
 use bac_json_report::print_json;
@@ -80,6 +81,16 @@ fn time_or_null(alloc: Global, time: &Option<TimeText>) -> Result<Json, AllocErr
     }
 }
 
+/// A moment in milliseconds since 1970 began in UTC, as `2026-11-27T07:10:00.000Z`; Null where it is not known, or beyond the year 9999. An Err is out of
+/// memory.
+#[tactic(auto, using(crate::proofs::Told::time_formed))]
+pub fn time_json(alloc: Global, time: Option<u64>) -> Result<Json, AllocError>
+    ensures { IfOk result (λ v. IsTimeForm time (view v)) }
+{
+    let text = time_text(time);
+    time_or_null(alloc, &text)
+}
+
 // ---- what was asked
 
 /// What was asked of whom.
@@ -121,6 +132,20 @@ fn put_asked(alloc: Global, asked: AskedMembers, members: &mut Members) -> Resul
     put(members, alloc, "peer", asked.peer)?;
     put(members, alloc, "property", asked.property)?;
     put(members, alloc, "request", asked.request)
+}
+
+/// The name of the line, where a line of the list has one.
+fn put_name(alloc: Global, name: LineName<'_>, members: &mut Members) -> Result<(), AllocError>
+    ensures { OnOk result (members_view members.new.entries ≡ with_name (name_view name) (members_view members.old.entries)) }
+{
+    match name {
+        LineName::Unnamed => Ok(()),
+        LineName::Without => put(members, alloc, "name", Json::Null),
+        LineName::Named(name) => {
+            let name = Json::try_from_str(alloc, name)?;
+            put(members, alloc, "name", name)
+        }
+    }
 }
 
 // ---- how it ended
@@ -177,14 +202,16 @@ fn put_answer(alloc: Global, answer: AnswerMembers, members: &mut Members) -> Re
 
 fn ask_object(
     alloc: Global,
+    name: LineName<'_>,
     asked: AskedMembers,
     end: EndMembers,
     answer: AnswerMembers,
 ) -> Result<Json, AllocError>
-    ensures { IfOk result (λ v. view v ≡ ask_object (asked_members_view asked) (end_members_view end) (answer_members_view answer)) }
+    ensures { IfOk result (λ v. view v ≡ ask_object (name_view name) (asked_members_view asked) (end_members_view end) (answer_members_view answer)) }
 {
     let mut members = Map::new(alloc);
     put_asked(alloc, asked, &mut members)?;
+    put_name(alloc, name, &mut members)?;
     put_end(alloc, end, &mut members)?;
     put_answer(alloc, answer, &mut members)?;
     Ok(Json::Object(members))
@@ -198,7 +225,7 @@ fn object_of(alloc: Global, ask: &AskRecord<'_, '_, '_>) -> Result<Json, NoMemor
     let asked = asked_members(alloc, ask)?;
     let end = end_members(alloc, ask, &time)?;
     let answer = members_of(alloc, answer_of(ask.request, ask.outcome))?;
-    Ok(ask_object(alloc, asked, end, answer)?)
+    Ok(ask_object(alloc, ask.name, asked, end, answer)?)
 }
 
 /// Prints an ask as one object of JSON on a line, whose members docs/COMMANDS.md ("JSON") lists. An Err is the writer's, or out of memory.

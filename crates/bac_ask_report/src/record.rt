@@ -23,6 +23,17 @@ pub enum Outcome<'a> {
     NoLink,
 }
 
+/// The name of the line that asks.
+#[derive(Clone, Copy, Debug, PartialEq, Eq)]
+pub enum LineName<'n> {
+    /// No line of the list has one, or no list asks: nothing is said of names.
+    Unnamed,
+    /// It has none, and another line of the list has one.
+    Without,
+    /// It has this one.
+    Named(&'n str),
+}
+
 /// An ask, and how it ended: what an object or a row says.
 #[derive(Clone, Copy)]
 pub struct AskRecord<'q, 'e, 'w> {
@@ -30,6 +41,8 @@ pub struct AskRecord<'q, 'e, 'w> {
     pub time: Option<u64>,
     /// The number of the line that asks, counted from 1, if one does.
     pub line: Option<u64>,
+    /// Its name.
+    pub name: LineName<'w>,
     /// The number of the round, counted from 1, where it is asked in rounds.
     pub round: Option<u64>,
     /// Whom it asks.

@@ -8,7 +8,7 @@ use Rattle.bac_text.specs.declared.status.Status.{Status}
 use Rattle.bac_text.specs.declared.status.Status.TheVariants as status
 use Rattle.bac_commands.specs.Statuses.{ByStatus}
 use Rattle.bac_driver.specs.Runs.{Timed}
-use Rattle.bac_command_line.specs.Asked.{AreAskedFrom, AsksFromHost, from_host}
+use Rattle.bac_command_line.specs.Asked.{AreAskedFrom, AsksFromHost, for_lines}
 use Rattle.bac_command_line.specs.AskedLines.{AreRead, AsksEach, AsksLine, line_view}
 use Rattle.bac_command_line.specs.Files.{OfFile}
 use Rattle.bac_command_line.specs.Online.{Clocks, Links}
@@ -33,16 +33,16 @@ one_more_asked IsOn asking lines others line so_far succeeded now rest before mi
 -- the lines that were read of a file were asked
 pub asked_from : (IsFile : Files) (IsOn : Links) (IsClock : Clocks) (s : Status) (asking sent : Asking) (host : Octets) (default : Option PeerView) (path : List ℕ)
     (lines asked : List LineQuestion) (old new : Option (List ℕ)) → OfFile IsFile path (AreRead default (Some (map line_view lines))) → asked ≡ lines
-    → sent ≡ from_host host asking
+    → sent ≡ for_lines host lines asking
     → ByStatus s (AsksFromHost IsOn IsClock sent asked true old new) (AsksFromHost IsOn IsClock sent asked false old new) ⊥
     → AreAskedFrom IsFile IsOn IsClock s asking default path old new
 asked_from IsFile IsOn IsClock s asking sent host default path lines asked old new file same from reports =
     lifted s (λ a. record { content = file.content; at = file.at; says = record { lines = lines; read = file.says; host = host; asks = put a } })
     (λ a. record { content = file.content; at = file.at; says = record { lines = lines; read = file.says; host = host; asks = put a } })
     (λ (no : ⊥). absurd no) reports where
-      put : {all : Bool} → AsksFromHost IsOn IsClock sent asked all old new → AsksFromHost IsOn IsClock (from_host host asking) lines all old new
+      put : {all : Bool} → AsksFromHost IsOn IsClock sent asked all old new → AsksFromHost IsOn IsClock (for_lines host lines asking) lines all old new
       put {all} a =
-          subst (λ (l : List LineQuestion). AsksFromHost IsOn IsClock (from_host host asking) l all old new) same
+          subst (λ (l : List LineQuestion). AsksFromHost IsOn IsClock (for_lines host lines asking) l all old new) same
           (subst (λ (s : Asking). AsksFromHost IsOn IsClock s asked all old new) from a)
 
 -- nothing was asked or printed

@@ -5,7 +5,8 @@ use Rattle.bac_driver.specs.Views.{question_view}
 use Rattle.bac_command_line.specs.declared.question_lines.LineQuestion as code
 use Rattle.bac_npdu.specs.Peers.{PeerView}
 use Rattle.bac_text.specs.Notes.{read_of}
-use Rattle.bac_command_line.specs.AskedLines.{AddsLine, AreQuestions, AskNothing, AsksIn, AsksWords, HaveBadLine, IsBadRead, Numbered, WordsAsk, AreBadWords, line_view}
+use Rattle.bac_command_line.specs.AskedLines.{AddsLine, AreQuestions, AskNothing, AsksIn, AsksOne, HaveBadLine, IsBadRead, Numbered, WordsAsk, AreBadWords, line_view}
+use Rattle.bac_command_line.specs.LineNames.{has_bad_name, words_behind}
 use Rattle.bac_command_line.specs.LineWords.{words_of}
 
 -- what the lines from here on ask, behind those so far, is what all lines ask
@@ -57,7 +58,7 @@ blank_adds default number line read old new is none same =
 
 -- a request adds what it asks
 pub request_adds : (default : Option PeerView) (line read : List ℕ) (words : List (List ℕ)) (old new : List code.LineQuestion) (q : code.LineQuestion)
-    → read_of true line ≡ Some read → words_of read ≡ Some words → (words ≡ [] → ⊥) → AsksWords default words (question_view q.question)
+    → read_of true line ≡ Some read → words_of read ≡ Some words → (words ≡ [] → ⊥) → AsksOne default q.number words (line_view q ∷ [])
     → new ≡ old ++ q ∷ [] → AddsLine default q.number line (map line_view old) (map line_view new)
 request_adds default line read words old new q is are some asks pushed =
     record {
@@ -68,16 +69,22 @@ request_adds default line read words old new q is are some asks pushed =
       is = ap (map line_view) pushed ∙ map-append line_view old (q ∷ []);
     }
   where
-    go : (found : List (List ℕ)) → (found ≡ [] → ⊥) → AsksWords default found (question_view q.question)
+    go : (found : List (List ℕ)) → (found ≡ [] → ⊥) → AsksOne default q.number found (line_view q ∷ [])
         → WordsAsk default q.number (Some found) (line_view q ∷ [])
     go [] some asks = absurd (some refl)
-    go (word ∷ others) some asks = record { question = question_view q.question; asks = asks; is = refl }
+    go (word ∷ others) some asks = asks
 
--- words that ask nothing are bad, where there are any
-pub asking_nothing_bad : {A : Type 0} (default : Option PeerView) (f : A → List ℕ) (words : List A) → 0 < length words → AskNothing default (map f words)
-    → AreBadWords default (Some (map f words))
+-- words that ask nothing behind a name are bad, where there are any
+pub asking_nothing_bad : {A : Type 0} (default : Option PeerView) (f : A → List ℕ) (words : List A) → 0 < length words
+    → AskNothing default (words_behind (map f words)) → AreBadWords default (Some (map f words))
 asking_nothing_bad default f [] some nothing = absurd (omega arith)
-asking_nothing_bad default f (word ∷ words) some nothing = nothing
+asking_nothing_bad default f (word ∷ words) some nothing = inr nothing
+
+-- so is a name that is none
+pub bad_name_bad : {A : Type 0} (default : Option PeerView) (f : A → List ℕ) (words : List A) → 0 < length words → has_bad_name (map f words) ≡ true
+    → AreBadWords default (Some (map f words))
+bad_name_bad default f [] some bad = absurd (omega arith)
+bad_name_bad default f (word ∷ words) some bad = inl bad
 
 -- a line with bad words is bad
 pub bad_words_read : (default : Option PeerView) (line read : List ℕ) (words : Option (List (List ℕ))) → read_of true line ≡ Some read

@@ -13,7 +13,7 @@ use Rattle.bac_service.specs.Values.{Request}
 use Rattle.bac_text.specs.Texts.{AppendsText, line_end}
 use Rattle.bac_command_line.specs.Clients.{AsksFrom}
 use Rattle.bac_command_line.specs.Online.{AsksRecorded}
-use Rattle.bac_command_line.specs.Recording.{AreWordsOf, IsRecordText, PrintsRecord, outcome_of, without_end}
+use Rattle.bac_command_line.specs.Recording.{AreWordsOf, Asker, IsRecordText, PrintsRecord, no_line, outcome_of, without_end}
 use Rattle.bac_command_line.specs.declared.asking.Asking.{Asking}
 use Rattle.bac_command_line.specs.declared.recording.RecordForm.{RecordForm}
 
@@ -36,15 +36,15 @@ words_told strict request end before line words succeeded none told is =
 
 -- ---- the record
 
-abbrev pub told_of : (time line round : Option ℕ) → Question → Request → Outcome → (words : List ℕ) → AskRecord
-told_of time line round q request how words =
-    record { time = time; line = line; round = round; peer = q.peer; request = request; outcome = how; words = words }
+abbrev pub told_of : (time : Option ℕ) → Asker → (round : Option ℕ) → Question → Request → Outcome → (words : List ℕ) → AskRecord
+told_of time asker round q request how words =
+    record { time = time; line = asker.line; name = asker.name; round = round; peer = q.peer; request = request; outcome = how; words = words }
 
-pub record_printed : (form : RecordForm) (strict : Bool) (line time round : Option ℕ) (q : Question) (end : AskEnd) (succeeded : Bool) (words : List ℕ)
+pub record_printed : (form : RecordForm) (strict : Bool) (asker : Asker) (time round : Option ℕ) (q : Question) (end : AskEnd) (succeeded : Bool) (words : List ℕ)
     (request : Request) (how : Outcome) (shown : List ℕ) (a b c : Option (List ℕ)) → AreWordsOf strict q.request end words succeeded → request ≡ q.request
-    → how ≡ outcome_of end → shown ≡ words → AppendsText a b (IsRecordText form (told_of time line round q request how shown)) → Keeps b c
-    → PrintsRecord form strict line q end succeeded a c
-record_printed form strict line time round q end succeeded words request how shown a b c told request_is how_is shown_is p keeps =
+    → how ≡ outcome_of end → shown ≡ words → AppendsText a b (IsRecordText form (told_of time asker round q request how shown)) → Keeps b c
+    → PrintsRecord form strict asker q end succeeded a c
+record_printed form strict asker time round q end succeeded words request how shown a b c told request_is how_is shown_is p keeps =
     record {
       time = time;
       round = round;
@@ -52,15 +52,15 @@ record_printed form strict line time round q end succeeded words request how sho
       are = told.are;
       text = p.0;
       text_of =
-          subst (λ (w : List ℕ). IsRecordText form (told_of time line round q q.request (outcome_of end) w) p.0) shown_is
-          (subst (λ (o : Outcome). IsRecordText form (told_of time line round q q.request o shown) p.0) how_is
-          (subst (λ (r : Request). IsRecordText form (told_of time line round q r how shown) p.0) request_is p.1.0));
+          subst (λ (w : List ℕ). IsRecordText form (told_of time asker round q q.request (outcome_of end) w) p.0) shown_is
+          (subst (λ (o : Outcome). IsRecordText form (told_of time asker round q q.request o shown) p.0) how_is
+          (subst (λ (r : Request). IsRecordText form (told_of time asker round q r how shown) p.0) request_is p.1.0));
       printed = Appends-kept a b c p.0 p.1.1 keeps;
       is = told.is;
     }
 
 -- that of the one ask of a command line
 pub one_recorded : (form : RecordForm) (asking : Asking) (q : Question) (end : AskEnd) (succeeded : Bool) (before after : Timed) (old new : Option (List ℕ))
-    → AsksFrom asking q end before after → PrintsRecord form asking.output_format.strict None q end succeeded old new
+    → AsksFrom asking q end before after → PrintsRecord form asking.output_format.strict no_line q end succeeded old new
     → AsksRecorded form asking q succeeded before after old new
 one_recorded form asking q end succeeded before after old new asks told = record { start = asks.start; end = end; ends = asks.ends; told = told }

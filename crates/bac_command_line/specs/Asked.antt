@@ -7,7 +7,7 @@ use Rattle.bac_text.specs.declared.status.Status.{Status}
 use Rattle.bac_driver.specs.Runs.{Timed}
 use Rattle.bac_driver.specs.Views.{question_view}
 use Rattle.bac_commands.specs.Statuses.{ByStatus}
-use Rattle.bac_command_line.specs.AskedLines.{AreRead, line_view}
+use Rattle.bac_command_line.specs.AskedLines.{AreRead, have_names, line_view}
 use Rattle.bac_command_line.specs.Files.{OfFile}
 use Rattle.bac_command_line.specs.InFlight.{AsksLines}
 use Rattle.bac_command_line.specs.Online.{AsksOnce, ByClient, Clocks, Links}
@@ -33,9 +33,9 @@ abbrev pub ReportsClient : Links → Clocks → Status → Asking → Asked → 
 ReportsClient IsOn IsClock s asking asked old new =
     ByStatus s (ByClient IsOn IsClock asking (AsksAll IsOn asking asked) true old new) (ByClient IsOn IsClock asking (AsksAll IsOn asking asked) false old new) ⊥
 
--- asked from that address of this machine
-abbrev pub from_host : (host : Octets) → Asking → Asking
-from_host host asking = record asking { host = host }
+-- these lines are asked from that address of this machine, and told by their names where one has a name
+abbrev pub for_lines : (host : Octets) → List LineQuestion → Asking → Asking
+for_lines host lines asking = record asking { host = host; has_names = have_names lines }
 
 abbrev pub AsksFromHost : Links → Clocks → Asking → List LineQuestion → (all : Bool) → (old new : Option (List ℕ)) → Type 0
 AsksFromHost IsOn IsClock asking lines all old new = ByClient IsOn IsClock asking (AsksLines IsOn asking lines) all old new
@@ -46,7 +46,7 @@ pub record AsksRead (IsOn : Links) (IsClock : Clocks) (asking : Asking) (default
   pub lines : List LineQuestion
   pub read : AreRead default (Some (map line_view lines)) content
   pub host : Octets
-  pub asks : AsksFromHost IsOn IsClock (from_host host asking) lines all old new
+  pub asks : AsksFromHost IsOn IsClock (for_lines host lines asking) lines all old new
 
 -- the status that says why nothing is asked
 abbrev pub status_of : Unasked → Status

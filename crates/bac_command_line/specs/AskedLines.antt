@@ -1,6 +1,9 @@
 -- What `ask --lines` asks and prints: a client asks the requests of some lines in turn.
-use Rattle.std.specs.Prelude.{◌≡◌, ◌⊎◌, ℕ, ◌+◌, Bool, true, false, ◌==◌, ◌&&◌, List, [], ◌∷◌, ◌++◌, codes, decimal, if◌then◌else◌, Option, None, Some, IfSome}
+use Rattle.std.specs.Prelude.{◌≡◌, ◌⊎◌, ℕ, ◌+◌, Bool, true, false, ◌==◌, ◌&&◌, List, [], ◌∷◌, ◌++◌, codes, decimal, if◌then◌else◌, is_some, string_bytes, Option, None, Some, IfSome}
+use Rattle.std.specs.List.{list_any}
+use Rattle.std.specs.Option.{option_map}
 use Rattle.std.specs.Io.KnownBytes.{Appends}
+use Rattle.bac_ask_report.specs.Records.{LineName, Unnamed, Without, Named}
 use Rattle.bac_npdu.specs.Peers.{PeerView}
 use Rattle.bac_service_text.specs.Dispatch.{request_of}
 use Rattle.bac_text.specs.Lines.{LINE_END}
@@ -12,9 +15,10 @@ use Rattle.bac_driver.specs.declared.question.AskEnd.{AskEnd}
 use Rattle.bac_value_text.specs.Splits.{split_by}
 use Rattle.bac_commands.specs.Questions.{IsQuestion}
 use Rattle.bac_command_line.specs.Clients.{AsksOn}
-use Rattle.bac_command_line.specs.LineWords.{words_of}
+use Rattle.bac_command_line.specs.LineNames.{has_bad_name, name_of, words_behind}
+use Rattle.bac_command_line.specs.LineWords.{is_address, words_of}
 use Rattle.bac_command_line.specs.Online.{Links}
-use Rattle.bac_command_line.specs.Recording.{PrintsAsk}
+use Rattle.bac_command_line.specs.Recording.{Asker, PrintsAsk}
 use Rattle.bac_command_line.specs.Rounds.{DoesNothing, Doing, IsNext}
 use Rattle.bac_command_line.specs.declared.asking.Asking.{Asking}
 use Rattle.bac_command_line.specs.declared.question_lines.LineQuestion.{LineQuestion}
@@ -24,11 +28,6 @@ abbrev pub is_octet : (wanted octet : ℕ) → Bool
 is_octet wanted octet = octet == wanted
 
 -- ---- the requests of lines
-
--- a word that names whom a line is asked of begins with `@`
-abbrev pub is_address : (word : List ℕ) → Bool
-is_address [] = false
-is_address (octet ∷ text) = octet == 64
 
 abbrev pub names_peer : (words : List (List ℕ)) → Bool
 names_peer [] = false
@@ -57,28 +56,32 @@ pub record AsksWords (default : Option PeerView) (words : List (List ℕ)) (q : 
 abbrev pub AskNothing : (default : Option PeerView) → (words : List (List ℕ)) → Type 0
 AskNothing default words = HasNoPeer default words ⊎ (request_of (request_words words) ≡ None)
 
--- a line has a quote that is not closed, or its words ask nothing; one without words is none of these
+-- a line has a quote that is not closed, a name that is none, or the words behind its name ask nothing; one without words is none of these
 abbrev pub AreBadWords : (default : Option PeerView) → (words : Option (List (List ℕ))) → Type 0
 AreBadWords default None = Unit {0}
 AreBadWords default (Some []) = ⊥
-AreBadWords default (Some (word ∷ words)) = AskNothing default (word ∷ words)
+AreBadWords default (Some (word ∷ words)) = (has_bad_name (word ∷ words) ≡ true) ⊎ AskNothing default (words_behind (word ∷ words))
 
 abbrev pub IsBadLine : (default : Option PeerView) → (line : List ℕ) → Type 0
 IsBadLine default line = AreBadWords default (words_of line)
 
--- what a line asks, by its number
+-- what a line asks, by its number, and its name
 pub record Numbered : Type 0 where
   pub number : ℕ
+  pub name : Option (List ℕ)
   pub question : Question
+
+abbrev pub name_in_line : LineQuestion → Option (List ℕ)
+name_in_line l = option_map string_bytes l.name
 
 abbrev pub line_view : LineQuestion → Numbered
-line_view l = record { number = l.number; question = question_view l.question }
+line_view l = record { number = l.number; name = name_in_line l; question = question_view l.question }
 
--- the line of that number, with these words, asks that
+-- the line of that number, with these words, asks that; its name stands before the request
 pub record AsksOne (default : Option PeerView) (number : ℕ) (words : List (List ℕ)) (found : List Numbered) : Type 0 where
   pub question : Question
-  pub asks : AsksWords default words question
-  pub is : found ≡ record { number = number; question = question } ∷ []
+  pub asks : AsksWords default (words_behind words) question
+  pub is : found ≡ record { number = number; name = name_of words; question = question } ∷ []
 
 -- by its words: without any it asks nothing
 abbrev pub WordsAsk : (default : Option PeerView) → (number : ℕ) → (words : Option (List (List ℕ))) → (found : List Numbered) → Type 0
@@ -131,21 +134,41 @@ pub record AddsLine (default : Option PeerView) (number : ℕ) (line : List ℕ)
 
 -- ---- asking them
 
-abbrev pub number_text : (number : ℕ) → List ℕ
-number_text number = decimal number ++ codes ": "
+-- the name, where a line has one
+abbrev pub name_text : (name : Option (List ℕ)) → List ℕ
+name_text None = []
+name_text (Some name) = name ++ codes ": "
 
--- the number stands before what is printed of a line; in records it is a member, or is not printed
-abbrev pub PrintsNumber : Option RecordForm → (number : ℕ) → (old new : Option (List ℕ)) → Type 0
-PrintsNumber None number old new = Appends old new (number_text number)
-PrintsNumber (Some form) number old new = new ≡ old
+abbrev pub front_text : (number : ℕ) → (name : Option (List ℕ)) → List ℕ
+front_text number name = (decimal number ++ codes ": ") ++ name_text name
+
+-- the number and the name stand before what is printed of a line; in records they are members, or are not printed
+abbrev pub PrintsFront : Option RecordForm → LineQuestion → (old new : Option (List ℕ)) → Type 0
+PrintsFront None l old new = Appends old new (front_text l.number (name_in_line l))
+PrintsFront (Some form) l old new = new ≡ old
+
+-- what a record says of the name of a line, of a list in which lines have names or not
+abbrev pub naming : (has_names : Bool) → (name : Option (List ℕ)) → LineName
+naming has_names (Some name) = Named name
+naming has_names None = if has_names then Without else Unnamed
+
+abbrev pub asker_of : (has_names : Bool) → LineQuestion → Asker
+asker_of has_names l = record { line = Some l.number; name = naming has_names (name_in_line l) }
+
+abbrev pub is_named : LineQuestion → Bool
+is_named l = is_some l.name
+
+-- a line of a list has a name
+abbrev pub have_names : List LineQuestion → Bool
+have_names lines = list_any is_named lines
 
 -- the request of a line was asked, and how that ended was printed behind the line's number
 pub record AsksLine (IsOn : Links) (asking : Asking) (line : LineQuestion) (succeeded : Bool) (before after : Timed) (old new : Option (List ℕ)) : Type 0 where
   pub between : Option (List ℕ)
-  pub number : PrintsNumber asking.records line.number old between
+  pub front : PrintsFront asking.records line old between
   pub how : AskEnd
   pub asks : AsksOn IsOn asking (question_view line.question) how before after
-  pub told : PrintsAsk asking.records asking.output_format (Some line.number) (question_view line.question) how succeeded between new
+  pub told : PrintsAsk asking.records asking.output_format (asker_of asking.has_names line) (question_view line.question) how succeeded between new
 
 -- the requests of lines were asked, one after the other
 abbrev pub AsksEach : Links → Asking → List LineQuestion → Doing

@@ -1,5 +1,5 @@
 -- What the words of `ask` give, as they were read.
-use Rattle.std.specs.Prelude.{◌≡◌, ℕ, ◌<◌, ◌^◌, Bool, true, false, List, codes, decimal, Option, Some, None}
+use Rattle.std.specs.Prelude.{◌≡◌, ℕ, ◌<◌, ◌≤◌, ◌*◌, ◌^◌, Bool, true, false, List, codes, decimal, Option, Some, None}
 use Rattle.clap.specs.Words.{found_of, one_text}
 use Rattle.clap.specs.declared.parser.matches.ArgMatches.{ArgMatches}
 use Rattle.bac_commands.specs.declared.online.output_format.OutputFormat.{OutputFormat}
@@ -52,6 +52,11 @@ pub record AreRecordsOf (given : ArgMatches) (records : Option RecordForm) : Typ
   pub csv_is : IsFlag given (codes "csv") csv
   pub are : records ≡ records_by json csv
 
+-- of whole seconds the milliseconds between rounds
+pub record IsPace (given : ArgMatches) (is : Option ℕ) : Type 0 where
+  pub whole : (n : ℕ) → 0 < n → n ≤ 1_000_000_000 → text_of given (codes "every") ≡ Some (decimal n) → is ≡ Some (n * 1000)
+  pub none : text_of given (codes "every") ≡ None → is ≡ None
+
 abbrev pub rounds_by : (every times : Option ℕ) → Option Rounds
 rounds_by None times = None
 rounds_by (Some every) times = Some (record { every = every; times = times })
@@ -59,7 +64,7 @@ rounds_by (Some every) times = Some (record { every = every; times = times })
 pub record AreRoundsOf (given : ArgMatches) (rounds : Option Rounds) : Type 0 where
   pub every : Option ℕ
   pub times : Option ℕ
-  pub every_is : IsNumber given (codes "every") every
+  pub every_is : IsPace given every
   pub times_is : IsNumber given (codes "times") times
   pub are : rounds ≡ rounds_by every times
 
@@ -70,3 +75,4 @@ pub record IsGiven (given : ArgMatches) (asking : Asking) : Type 0 where
   pub timeout : IsNumber given (codes "timeout") asking.timeout
   pub rounds : AreRoundsOf given asking.rounds
   pub window : IsNumber given (codes "window") asking.window
+  pub unnamed : asking.has_names ≡ false

@@ -21,7 +21,7 @@ use Rattle.bac_driver.specs.declared.question.AskEnd.TheVariants as end
 use Rattle.bac_driver.specs.declared.turn.Turn.{Turn}
 use Rattle.bac_commands.specs.Spent.{is_spent}
 use Rattle.bac_commands.specs.declared.online.output_format.OutputFormat.{OutputFormat}
-use Rattle.bac_command_line.specs.AskedLines.{AsksEach, PrintsNumber}
+use Rattle.bac_command_line.specs.AskedLines.{AsksEach, PrintsFront, asker_of}
 use Rattle.bac_command_line.specs.Asking.{patience_for}
 use Rattle.bac_command_line.specs.Clients.{IsRenewed}
 use Rattle.bac_command_line.specs.Online.{Links}
@@ -274,11 +274,11 @@ pub record EndsLine (IsOn : Links) (plan : Plan) (place : ℕ) (how : AskEnd) (o
 -- ---- how it is printed
 
 -- how the ask of a line ended was printed behind the line's number; whether it succeeded
-pub record PrintsLine (records : Option RecordForm) (output_format : OutputFormat) (line : LineQuestion) (end : AskEnd) (succeeded : Bool) (old new : Option (List ℕ)) :
+pub record PrintsLine (asking : Asking) (line : LineQuestion) (end : AskEnd) (succeeded : Bool) (old new : Option (List ℕ)) :
     Type 0 where
   pub between : Option (List ℕ)
-  pub numbered : PrintsNumber records line.number old between
-  pub told : PrintsAsk records output_format (Some line.number) (question_view line.question) end succeeded between new
+  pub fronted : PrintsFront asking.records line old between
+  pub told : PrintsAsk asking.records asking.output_format (asker_of asking.has_names line) (question_view line.question) end succeeded between new
 
 -- ---- all lines
 
@@ -288,7 +288,7 @@ pub record TellsLine (IsOn : Links) (plan : Plan) (place : ℕ) (succeeded : Boo
   pub line_is : slice_get plan.lines place ≡ Some line
   pub how : AskEnd
   pub ends : EndsLine IsOn plan place how before after
-  pub tells : PrintsLine plan.asking.records plan.asking.output_format line how succeeded old new
+  pub tells : PrintsLine plan.asking line how succeeded old new
 
 -- what is left to be asked and printed, and what happens until then
 abbrev pub Printing : Type 1

@@ -1,5 +1,6 @@
 pub mod Files
 pub mod LineWords
+pub mod LineNames
 pub mod Lines
 pub mod Json
 pub mod Serving

@@ -7,6 +7,11 @@ use Rattle.bac_command_line.specs.declared.line_words.Begin.{Begin}
 abbrev pub is_blank : ℕ → Bool
 is_blank octet = (octet == 32) || (octet == 9)
 
+-- a word that names whom a line is asked of begins with `@`
+abbrev pub is_address : (word : List ℕ) → Bool
+is_address [] = false
+is_address (octet ∷ text) = octet == 64
+
 abbrev pub is_quote : ℕ → Bool
 is_quote octet = octet == 34
 

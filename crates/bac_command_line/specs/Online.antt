@@ -36,7 +36,7 @@ use Rattle.bac_commands.specs.declared.online.output_format.Style.TheVariants as
 use Rattle.bac_command_line.specs.Asking.{patience_for}
 use Rattle.bac_command_line.specs.Files.{OfFile}
 use Rattle.bac_command_line.specs.FileWords.{file_of, with_octets}
-use Rattle.bac_command_line.specs.Recording.{PrintsHeader, PrintsRecord}
+use Rattle.bac_command_line.specs.Recording.{PrintsHeader, PrintsRecord, no_line}
 use Rattle.bac_command_line.specs.Rounds.{AreRounds, Doing}
 use Rattle.bac_command_line.specs.Serving.{patience_of, restart_of, turns_of}
 use Rattle.bac_command_line.specs.declared.asking.Asking.{Asking}
@@ -148,7 +148,7 @@ pub record AsksRecorded (form : RecordForm) (asking : Asking) (q : Question) (su
   pub start : ℕ
   pub end : AskEnd
   pub ends : AskingEnds q end (patience_for asking.timeout start) 100000 (timed before.bound_node (with_moment before.told start)) after
-  pub told : PrintsRecord form asking.output_format.strict None q end succeeded old new
+  pub told : PrintsRecord form asking.output_format.strict no_line q end succeeded old new
 
 abbrev pub AsksOnceBy : Option RecordForm → Asking → Question → Doing
 AsksOnceBy None asking q succeeded before after old new = AsksPlain asking q succeeded before after old new
@@ -159,9 +159,9 @@ abbrev pub AsksOnce : Asking → Question → Doing
 AsksOnce asking q succeeded before after old new = AsksOnceBy asking.records asking q succeeded before after old new
 
 -- below what stands above records, that was done
-pub record IsHeaded (records : Option RecordForm) (Does : Doing) (all : Bool) (before after : Timed) (old new : Option (List ℕ)) : Type 0 where
+pub record IsHeaded (records : Option RecordForm) (has_names : Bool) (Does : Doing) (all : Bool) (before after : Timed) (old new : Option (List ℕ)) : Type 0 where
   pub begun : Option (List ℕ)
-  pub header : PrintsHeader records old begun
+  pub header : PrintsHeader records has_names old begun
   pub does : Does all before after begun new
 
 -- a client at any port, whose invoke IDs began anywhere, did that, in rounds where they are wanted
@@ -170,7 +170,7 @@ pub record ByClient (IsOn : Links) (IsClock : Clocks) (asking : Asking) (Round :
   pub after : Timed
   pub client : IsClient IsOn asking.host before.bound_node
   pub clock : IsClock before.told
-  pub rounds : IsHeaded asking.records (AreRounds asking.rounds Round) all before after old new
+  pub rounds : IsHeaded asking.records asking.has_names (AreRounds asking.rounds Round) all before after old new
 
 -- the question that some words are was asked
 pub record Asks (IsOn : Links) (IsClock : Clocks) (asking : Asking) (peer : PeerView) (succeeded : Bool) (words : List (List ℕ)) (old new : Option (List ℕ)) : Type 0 where

@@ -2,7 +2,7 @@
 use Rattle.std.specs.Prelude.{◌≡◌, ℕ, ◌-◌, Bool, List, length, take, Option, Some, None}
 use Rattle.std.specs.Io.KnownBytes.{Appends}
 use Rattle.bac_ask_report.specs.Objects.{IsObject}
-use Rattle.bac_ask_report.specs.Records.{AskRecord, Outcome, Outcome as outcome}
+use Rattle.bac_ask_report.specs.Records.{AskRecord, LineName, Outcome, Outcome as outcome, Unnamed, name_view}
 use Rattle.bac_ask_report.specs.Rows.{IsRow, header_text}
 use Rattle.bac_commands.specs.AskEnds.{PrintsEnd}
 use Rattle.bac_commands.specs.Reports.{is_success}
@@ -17,8 +17,21 @@ use Rattle.bac_requester.specs.declared.ending.Ending.{Ending}
 use Rattle.bac_requester.specs.declared.ending.Ending.TheVariants as ending
 use Rattle.bac_service.specs.Values.{Request}
 use Rattle.bac_service.specs.Views.{owned_reply_view}
+use Rattle.bac_command_line.specs.declared.recording.Asker as code_asker
 use Rattle.bac_command_line.specs.declared.recording.RecordForm.{RecordForm}
 use Rattle.bac_command_line.specs.declared.recording.RecordForm.TheVariants as form
+
+-- ---- the line that asks, if one does: its number, and its name
+
+pub record Asker : Type 0 where
+  pub line : Option ℕ
+  pub name : LineName
+
+abbrev pub asker_view : code_asker.Asker → Asker
+asker_view a = record { line = a.line; name = name_view a.name }
+
+abbrev pub no_line : Asker
+no_line = record { line = None; name = Unnamed }
 
 -- ---- how an ask ended
 
@@ -45,10 +58,11 @@ without_end line = take (length line - 1) line
 
 -- ---- records
 
-abbrev pub record_of : (time line round : Option ℕ) → Question → AskEnd → (words : List ℕ) → AskRecord
-record_of time line round q end words = record {
+abbrev pub record_of : (time : Option ℕ) → Asker → (round : Option ℕ) → Question → AskEnd → (words : List ℕ) → AskRecord
+record_of time asker round q end words = record {
   time = time;
-  line = line;
+  line = asker.line;
+  name = asker.name;
   round = round;
   peer = q.peer;
   request = q.request;
@@ -61,24 +75,24 @@ IsRecordText form.Json r text = IsLineOf (IsObject r) text
 IsRecordText form.Csv r text = IsRow r text
 
 -- how an ask of a line, or of none, ended was printed as a record, with the words of `ask --text`; whether it succeeded
-pub record PrintsRecord (form : RecordForm) (strict : Bool) (line : Option ℕ) (q : Question) (end : AskEnd) (succeeded : Bool) (old new : Option (List ℕ)) :
+pub record PrintsRecord (form : RecordForm) (strict : Bool) (asker : Asker) (q : Question) (end : AskEnd) (succeeded : Bool) (old new : Option (List ℕ)) :
     Type 0 where
   pub time : Option ℕ
   pub round : Option ℕ
   pub words : List ℕ
   pub are : AreEndWords q.request end words
   pub text : List ℕ
-  pub text_of : IsRecordText form (record_of time line round q end words) text
+  pub text_of : IsRecordText form (record_of time asker round q end words) text
   pub printed : Appends old new text
   pub is : is_success strict q.request end ≡ succeeded
 
 -- or in that format
-abbrev pub PrintsAsk : Option RecordForm → OutputFormat → (line : Option ℕ) → Question → AskEnd → (succeeded : Bool) → (old new : Option (List ℕ)) → Type 0
-PrintsAsk None output_format line q end succeeded old new = PrintsEnd output_format q.request end succeeded old new
-PrintsAsk (Some form) output_format line q end succeeded old new = PrintsRecord form output_format.strict line q end succeeded old new
+abbrev pub PrintsAsk : Option RecordForm → OutputFormat → Asker → Question → AskEnd → (succeeded : Bool) → (old new : Option (List ℕ)) → Type 0
+PrintsAsk None output_format asker q end succeeded old new = PrintsEnd output_format q.request end succeeded old new
+PrintsAsk (Some form) output_format asker q end succeeded old new = PrintsRecord form output_format.strict asker q end succeeded old new
 
 -- what stands above records: of rows the names of their columns
-abbrev pub PrintsHeader : Option RecordForm → (old new : Option (List ℕ)) → Type 0
-PrintsHeader None old new = new ≡ old
-PrintsHeader (Some form.Json) old new = new ≡ old
-PrintsHeader (Some form.Csv) old new = Appends old new header_text
+abbrev pub PrintsHeader : Option RecordForm → (has_names : Bool) → (old new : Option (List ℕ)) → Type 0
+PrintsHeader None has_names old new = new ≡ old
+PrintsHeader (Some form.Json) has_names old new = new ≡ old
+PrintsHeader (Some form.Csv) has_names old new = Appends old new (header_text has_names)

@@ -42,6 +42,7 @@ IsPerformed IsAt IsOn IsClock IsOnDatabase (task.Serve serving objects) s old ne
 IsPerformed IsAt IsOn IsClock IsOnDatabase (task.ServeKept serving objects path) s old new =
     IsServedKept IsAt (option_map (λ p. p.now) objects) IsOnDatabase IsOn IsClock s serving path.now old new
 IsPerformed IsAt IsOn IsClock IsOnDatabase (task.Keep path) s old new = IsListed s old new
+IsPerformed IsAt IsOn IsClock IsOnDatabase (task.KeepJson path) s old new = IsListed s old new
 IsPerformed IsAt IsOn IsClock IsOnDatabase (task.Forget forgetting) s old new = IsListed s old new
 IsPerformed IsAt IsOn IsClock IsOnDatabase (task.Ask asking peer words) s old new =
     IsAskedFrom IsAt IsOn IsClock s asking (peer_view peer) (map (λ w. w.now) words.now) old new

@@ -1,14 +1,16 @@
 //! From where a node is to ask, how long it waits, how the end is printed, and how often.
 ghost use Rattle.std.specs.Prelude.{◌≡◌};
+ghost use Rattle.bac_command_line.specs.Asked.{for_lines};
 ghost use Rattle.bac_command_line.specs.Asking.{patience_for};
-ghost use Rattle.bac_command_line.specs.Given.{AreRecordsOf, AreRoundsOf, IsFlag, IsGiven, IsManner, IsNumber, records_by, rounds_by, style_by};
+ghost use Rattle.bac_command_line.specs.Given.{AreRecordsOf, AreRoundsOf, IsFlag, IsGiven, IsManner, IsNumber, IsPace, records_by, rounds_by, style_by};
 ghost use Rattle.bac_command_line.specs.Rounds.{next_from};
 ghost use Rattle.bac_command_line.specs.Serving.{turns_of};
 
 use crate::address::{EVERY_HOST, LOCAL_HOST, host_towards, link_at, read_link, read_route};
 use crate::online::Machine;
-use crate::question_lines::LineQuestion;
+use crate::question_lines::{LineQuestion, have_names};
 use crate::recording::RecordForm;
+use crate::seconds::read_seconds;
 use bac_commands::{OutputFormat, Style};
 use bac_driver::WaitLimit;
 use bac_npdu::{LinkAddress, Peer, Route};
@@ -17,7 +19,7 @@ use clap::ArgMatches;
 /// How often it asks the same.
 #[derive(Clone, Copy, Debug, PartialEq, Eq)]
 pub(crate) struct Rounds {
-    /// A round begins so many seconds after the one before it began.
+    /// A round begins so many milliseconds after the one before it began.
     pub every: u64,
     /// How many rounds there are; None for any number.
     pub times: Option<u64>,
@@ -38,7 +40,7 @@ impl Rounds {
     pub(crate) fn next_from(&self, began: u64) -> u64
         ensures { result ≡ next_from self.now.every began }
     {
-        began.saturating_add(self.every.saturating_mul(1_000))
+        began.saturating_add(self.every)
     }
 }
 
@@ -55,6 +57,8 @@ pub(crate) struct Asking {
     pub records: Option<RecordForm>,
     /// Whether its progress is shown on standard error.
     pub shows_progress: bool,
+    /// Whether a line of the list that it asks has a name.
+    pub has_names: bool,
     /// How often it asks the same; None where it asks once.
     pub rounds: Option<Rounds>,
     /// So many asks of lines are under way at most; None where each is asked once the one before is printed.
@@ -70,12 +74,18 @@ impl Asking {
         Asking { host, ..self }
     }
 
-    /// The same, asked from the address of this machine that all peers of these lines see; where there is none such, from any.
-    pub(crate) fn towards_all<M: Machine>(self, machine: &M, lines: &[LineQuestion]) -> Asking
-        ensures { result ≡ record self { host = result.host } }
+    /// The same for these lines: asked from the address of this machine that all their peers see, or from any where there is none such; and told by their
+    /// names, where one has a name.
+    pub(crate) fn for_lines<M: Machine>(self, machine: &M, lines: &[LineQuestion]) -> Asking
+        ensures { result ≡ for_lines result.host lines.now self }
     {
         let host = source_towards_all(machine, lines);
-        Asking { host, ..self }
+        let has_names = have_names(lines);
+        Asking {
+            host,
+            has_names,
+            ..self
+        }
     }
 
     /// How long its turns wait, where it begins at that moment: until something is due, and when it waits no longer.
@@ -202,11 +212,18 @@ fn rounds_by(every: Option<u64>, times: Option<u64>) -> Option<Rounds>
     })
 }
 
+/// How many milliseconds lie between rounds, where a number of seconds is given.
+fn every_of(given: &ArgMatches<'_>) -> Option<u64>
+    ensures { IsPace given.now result }
+{
+    read_seconds(given.get_str("every")?)
+}
+
 /// None where no rounds are given.
 fn rounds_of(given: &ArgMatches<'_>) -> Option<Rounds>
     ensures { AreRoundsOf given.now result }
 {
-    let every = number_of(given, "every");
+    let every = every_of(given);
     let times = number_of(given, "times");
     rounds_by(every, times)
 }
@@ -238,6 +255,7 @@ pub(crate) fn asking_of(given: &ArgMatches<'_>, shows_progress: bool) -> Asking
         output_format: manner_of(given),
         records: records_of(given),
         shows_progress,
+        has_names: false,
         rounds: rounds_of(given),
         window: number_of(given, "window"),
     }

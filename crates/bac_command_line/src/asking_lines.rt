@@ -13,7 +13,7 @@ ghost use Rattle.bac_command_line.specs.Online.{OnClock, OnPort};
 
 use crate::asking::Asking;
 use crate::client::Client;
-use crate::ends::print_front;
+use crate::ends::{print_front, write_front};
 use crate::environment::Environment;
 use crate::files::{OpenFiles, opened};
 use crate::objects::octets_of;
@@ -93,8 +93,8 @@ pub(crate) fn print_unasked<O: Write>(
     if let Some(form) = printer.asking.records {
         return print_unasked_record(printer, form, line, out);
     }
-    let number = line.number;
-    writeln!(out, "{number}: link fault")?;
+    write_front(line, out)?;
+    out.writeln("link fault")?;
     out.flush()
 }
 
@@ -150,8 +150,8 @@ fn ask_line<M: Machine, O: Write, E: Write>(
         asking,
         stamp: client.stamp(),
     };
-    let number = Some(line.number);
-    print_ask(&printer, number, &line.question, &end, out, err)
+    let asker = line.asker(asking.has_names);
+    print_ask(&printer, asker, &line.question, &end, out, err)
 }
 
 pub(crate) fn both(first: bool, second: bool) -> bool
@@ -256,7 +256,7 @@ pub(crate) fn ask_lines<F: OpenFiles, M: Machine, O: Write, E: Write>(
     let alloc = environment.alloc;
     match questions_at(alloc, environment.files, default, path, err) {
         Ok(lines) => {
-            let asking = asking.towards_all(environment.machine, &lines);
+            let asking = asking.for_lines(environment.machine, &lines);
             let asked = Asked::Lines(lines);
             ask_by_client(alloc, environment.machine, &asking, &asked, out, err)
         }

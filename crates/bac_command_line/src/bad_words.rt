@@ -90,6 +90,21 @@ pub(crate) fn print_open_quote<E: Write>(number: u64, err: &mut E) -> Status
     Status::CommandLine
 }
 
+/// Complains of the line with that number, whose first word ends with a colon as a name does, and is none.
+pub(crate) fn print_bad_name<E: Write>(number: u64, word: &[u8], err: &mut E) -> Status
+    ensures { IsStop result }
+{
+    // if that fails too, only the status is left
+    let _ = print_no_name(number, word, err);
+    Status::CommandLine
+}
+
+fn print_no_name<E: Write>(number: u64, word: &[u8], err: &mut E) -> io::Result<()> {
+    write!(err, "line {number}: bad name: \"")?;
+    err.write_all(word)?;
+    writeln!(err, "\" is no NAME: of letters, digits, `_`, `-` and `.`")
+}
+
 /// Complains of the line with that number, which is asked of no peer: its first word is none, or it names none.
 pub(crate) fn print_no_peer<E: Write>(number: u64, words: &[&[u8]], err: &mut E) -> Status
     ensures { IsStop result }

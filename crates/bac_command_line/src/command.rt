@@ -14,7 +14,7 @@ use crate::help::tell;
 use crate::json::{check_json, check_json_lines, decode_json};
 use crate::keeping::serve_kept;
 use crate::lines::{check_lines, decode};
-use crate::listing::list_kept;
+use crate::listing::{ListForm, list_kept};
 use crate::objects::{answer, serve};
 use crate::online::Machine;
 use crate::reasons::print_no_task;
@@ -58,7 +58,8 @@ fn perform<F: OpenFiles, M: Machine, O: Write, E: Write>(
             objects,
             path,
         } => serve_kept(environment, &serving, objects, path, out, err),
-        Task::Keep(path) => list_kept(environment, path, out, err),
+        Task::Keep(path) => list_kept(environment, path, ListForm::Lines, out, err),
+        Task::KeepJson(path) => list_kept(environment, path, ListForm::Objects, out, err),
         Task::Forget(forgetting) => forget_kept(environment, forgetting, out, err),
         Task::Ask {
             asking,

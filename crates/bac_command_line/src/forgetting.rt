@@ -8,7 +8,7 @@ ghost use Rattle.bac_command_line.specs.Keeping.{IsListed};
 use crate::environment::Environment;
 use crate::files::{OpenFiles, opened};
 use crate::keeping::{open_kept, print_not_kept};
-use crate::listing::print_cells;
+use crate::listing::{ListForm, print_cells};
 use crate::online::Machine;
 use crate::part_words::print_about;
 use bac_commands::CommandError;
@@ -143,7 +143,7 @@ pub(crate) fn forget_kept<F: OpenFiles, M: Machine, O: Write, E: Write>(
     if cells.is_empty() {
         return print_nothing_kept(alloc, path, selection, err);
     }
-    match print_cells(alloc, &cells, out) {
+    match print_cells(alloc, ListForm::Lines, &cells, out) {
         Ok(()) => Status::Done,
         Err(error) => output_failed(err, &error),
     }

@@ -188,7 +188,8 @@ fn serve_round<M: Machine, K: Keeper, O: Write, E: Write>(
         clock: timer,
         round,
     };
-    serve_kept_from(alloc, serving, start, &mut server, out, err)
+    let serving = serving.beginning_at(start, machine.time_of_day());
+    serve_kept_from(alloc, &serving, start, &mut server, out, err)
 }
 
 /// A node serves with the store that a database, which may be new, makes over a document.

@@ -7,6 +7,7 @@ use crate::keeping::{open_kept, print_not_kept};
 use crate::online::Machine;
 use crate::part_words::part_words;
 use bac_keep::{Cell, Part, kept_cells};
+use bac_log_json::{KeptPart, print_cell_object};
 use bac_text::{Status, output_failed};
 use bac_value::{NoMemory, ObjectIdentifier, read_data};
 use bac_value_text::data_text;
@@ -59,45 +60,83 @@ fn file_line(alloc: Global, object: ObjectIdentifier, octets: u64) -> Result<Vec
     Ok(line)
 }
 
-/// The line of the cell at this place in the list; none of a chunk.
-fn line_of(alloc: Global, cells: &[Cell], at: usize) -> Result<Vec<u8>, NoMemory> {
-    let Some(rest) = cells.get(at..) else {
-        return Ok(Vec::new(alloc));
-    };
-    let Some((cell, more)) = rest.split_first() else {
-        return Ok(Vec::new(alloc));
-    };
-    match cell.part() {
-        Some(Part::Values { object, property }) => {
-            values_line(alloc, object, property, &cell.octets)
-        }
-        Some(Part::Count { object }) => {
+/// What the cell at this place in the list begins: the values of a property, or a file; None of a chunk.
+fn part_at(cells: &[Cell], at: usize) -> Option<KeptPart<'_>> {
+    let (cell, more) = cells.get(at..)?.split_first()?;
+    match cell.part()? {
+        Part::Values { object, property } => Some(KeptPart::Values {
+            object,
+            property,
+            octets: &cell.octets,
+        }),
+        Part::Count { object } => {
             let count = match cell.octets.as_slice() {
                 [count] => *count,
                 _ => 0,
             };
-            file_line(alloc, object, octets_in(more, object, count))
+            let length = octets_in(more, object, count);
+            Some(KeptPart::File { object, length })
         }
-        _ => Ok(Vec::new(alloc)),
+        Part::Chunk { .. } => None,
     }
 }
 
-/// Prints a line for each property and each file of some cells.
-pub(crate) fn print_cells<O: Write>(alloc: Global, cells: &[Cell], out: &mut O) -> io::Result<()> {
+/// The line of what is kept of a property, or of a file.
+fn line_of(alloc: Global, part: KeptPart<'_>) -> Result<Vec<u8>, NoMemory> {
+    match part {
+        KeptPart::Values {
+            object,
+            property,
+            octets,
+        } => values_line(alloc, object, property, octets),
+        KeptPart::File { object, length } => file_line(alloc, object, length),
+    }
+}
+
+/// The form of a list of what is kept.
+#[derive(Clone, Copy, Debug, PartialEq, Eq)]
+pub(crate) enum ListForm {
+    Lines,
+    /// An object of JSON a line.
+    Objects,
+}
+
+fn print_part<O: Write>(
+    alloc: Global,
+    form: ListForm,
+    part: KeptPart<'_>,
+    out: &mut O,
+) -> io::Result<()> {
+    match form {
+        ListForm::Lines => match line_of(alloc, part) {
+            Ok(line) => out.write_all(line.as_slice()),
+            Err(_) => Err(io::Error::from(ErrorKind::OutOfMemory)),
+        },
+        ListForm::Objects => print_cell_object(alloc, part, out),
+    }
+}
+
+/// Prints a line, or an object, for each property and each file of some cells.
+pub(crate) fn print_cells<O: Write>(
+    alloc: Global,
+    form: ListForm,
+    cells: &[Cell],
+    out: &mut O,
+) -> io::Result<()> {
     for at in 0..cells.len() {
-        let Ok(line) = line_of(alloc, cells, at) else {
-            return Err(io::Error::from(ErrorKind::OutOfMemory));
-        };
-        out.write_all(line.as_slice())?;
+        if let Some(part) = part_at(cells, at) {
+            print_part(alloc, form, part, out)?;
+        }
     }
     out.flush()
 }
 
-/// Prints what the file at a path keeps, a line for each property and each file, in ascending order. A file that is not there, that is damaged, or in use:
+/// Prints what the file at a path keeps, a line or an object for each property and each file, in ascending order. A file that is not there, that is damaged, or in use:
 /// why on `err`.
 pub(crate) fn list_kept<F: OpenFiles, M: Machine, O: Write, E: Write>(
     environment: &Environment<'_, F, M>,
     path: &str,
+    form: ListForm,
     out: &mut O,
     err: &mut E,
 ) -> Status
@@ -115,7 +154,7 @@ pub(crate) fn list_kept<F: OpenFiles, M: Machine, O: Write, E: Write>(
         Ok(cells) => cells,
         Err(fault) => return print_not_kept(alloc, path, fault, err),
     };
-    match print_cells(alloc, &cells, out) {
+    match print_cells(alloc, form, &cells, out) {
         Ok(()) => Status::Done,
         Err(error) => output_failed(err, &error),
     }

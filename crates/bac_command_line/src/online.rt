@@ -116,7 +116,8 @@ pub(crate) fn serve<M: Machine, O: Write, E: Write>(
         bound_node,
         clock: timer,
     };
-    serve_from(serving, start, &mut station, out, err)
+    let serving = serving.beginning_at(start, machine.time_of_day());
+    serve_from(&serving, start, &mut station, out, err)
 }
 
 /// The question for a peer that some words are.

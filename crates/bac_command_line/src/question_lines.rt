@@ -1,17 +1,22 @@
 //! Requests of lines: those of a text, each by its number.
-ghost use Rattle.std.specs.Prelude.{◌≡◌, ◌<◌, length, map, true, IfErr, IfOk, IfSome, IsErrOf, IsTrue, None, Some};
+ghost use Rattle.std.specs.Prelude.{◌≡◌, ◌<◌, [], ◌∷◌, length, map, string_bytes, true, IfErr, IfOk, IfSome, IsErrOf, IsTrue, None, Some};
 ghost use Rattle.std.specs.Option.{option_map};
+ghost use Rattle.bac_ask_report.specs.Records.{name_view};
 ghost use Rattle.bac_npdu.specs.Views.{peer_view};
 ghost use Rattle.bac_driver.specs.Views.{question_view};
 ghost use Rattle.bac_text.specs.Statuses.{IsStop};
 ghost use Rattle.bac_text.specs.Notes.{read_of as read_in};
-ghost use Rattle.bac_command_line.specs.AskedLines.{AddsLine, AreQuestions, AreBadWords, AsksWords, HasNoPeer, HaveBadLine, IsAskedOf, IsBadRead, is_address, line_view, lines_in, names_peer, request_words, without_mark};
-ghost use Rattle.bac_command_line.specs.LineWords.{words_of};
+ghost use Rattle.bac_command_line.specs.Recording.{asker_view};
+ghost use Rattle.bac_command_line.specs.AskedLines.{asker_of, have_names, AddsLine, AreQuestions, AreBadWords, AskNothing, AsksOne, AsksWords, HasNoPeer, HaveBadLine, IsAskedOf, IsBadRead, line_view, name_in_line, naming, lines_in, names_peer, request_words, without_mark};
+ghost use Rattle.bac_command_line.specs.LineWords.{is_address, words_of};
 
 use crate::address::read_peer;
-use crate::bad_words::{print_bad_line, print_no_peer, print_open_quote};
+use crate::bad_words::{print_bad_line, print_bad_name, print_no_peer, print_open_quote};
+use crate::line_name::named_words;
 use crate::line_words::{WordsFault, words_of};
 use crate::parts::parts_of;
+use crate::recording::Asker;
+use bac_ask_report::LineName;
 use bac_commands::read_question;
 use bac_driver::Question;
 use bac_npdu::Peer;
@@ -26,11 +31,43 @@ use std::str;
 pub(crate) struct LineQuestion {
     /// The line's number, counted from 1.
     pub number: u64,
+    /// The name that it begins with, if it does.
+    pub name: Option<String>,
     pub question: Question,
 }
 
+impl LineQuestion {
+    /// What a record says of its name, in a list in which lines have names or not.
+    fn naming(&self, has_names: bool) -> LineName<'_>
+        ensures { name_view result ≡ naming has_names (name_in_line self.now) }
+    {
+        match &self.name {
+            Some(name) => LineName::Named(name.as_str()),
+            None if has_names => LineName::Without,
+            None => LineName::Unnamed,
+        }
+    }
+
+    /// The same line, as records name who asks.
+    pub(crate) fn asker(&self, has_names: bool) -> Asker<'_>
+        ensures { asker_view result ≡ asker_of has_names self.now }
+    {
+        Asker {
+            line: Some(self.number),
+            name: self.naming(has_names),
+        }
+    }
+}
+
+/// Whether a line of a list has a name.
+pub(crate) fn have_names(lines: &[LineQuestion]) -> bool
+    ensures { result ≡ have_names lines.now }
+{
+    lines.iter().any(|line| line.name.is_some())
+}
+
 /// Whether a word names whom a line is asked of.
-fn is_address(word: &[u8]) -> bool
+pub(crate) fn is_address(word: &[u8]) -> bool
     ensures { result ≡ is_address word.now }
 {
     match word.split_first() {
@@ -98,7 +135,6 @@ fn words_in<'a, E: Write>(
 }
 
 /// What the words of a line ask, where lines that name no peer are asked of that one. Where they ask nothing of anyone, `err` and the status say so.
-#[tactic(auto, using(crate::proofs::ReadLines::asking_nothing_bad))]
 fn question_of<E: Write>(
     alloc: Global,
     default: Option<Peer>,
@@ -106,9 +142,8 @@ fn question_of<E: Write>(
     words: &[&[u8]],
     err: &mut E,
 ) -> Result<Question, Status>
-    requires { 0 < length words.now }
     ensures question { IfOk result (λ q. AsksWords (option_map peer_view default) (map (λ w. w.now) words.now) (question_view q)) }
-    ensures refused { IsErrOf result Status.CommandLine → AreBadWords (option_map peer_view default) (Some (map (λ w. w.now) words.now)) }
+    ensures refused { IsErrOf result Status.CommandLine → AskNothing (option_map peer_view default) (map (λ w. w.now) words.now) }
     ensures told { IfErr result IsStop }
 {
     let Some(peer) = peer_of(default, words) else {
@@ -120,6 +155,52 @@ fn question_of<E: Write>(
         Err(FormFault::NoForm) => Err(print_bad_line(alloc, number, request, err)),
         Err(FormFault::NoMemory) => Err(no_memory(err)),
     }
+}
+
+/// The name of a line, which its question keeps.
+fn kept_name<E: Write>(
+    alloc: Global,
+    name: Option<&str>,
+    err: &mut E,
+) -> Result<Option<String>, Status>
+    ensures kept { IfOk result (λ n. option_map string_bytes n ≡ option_map (λ t. t.now) name) }
+    ensures refused { IsErrOf result Status.CommandLine → ⊥ }
+    ensures told { IfErr result IsStop }
+{
+    let Some(name) = name else {
+        return Ok(None);
+    };
+    match String::from_str(alloc, name) {
+        Ok(name) => Ok(Some(name)),
+        Err(_) => Err(no_memory(err)),
+    }
+}
+
+/// What a line with these words asks, and its name. Where they ask nothing of anyone, or the name is none, `err` and the status say so.
+#[tactic(auto, using(crate::proofs::ReadLines::asking_nothing_bad, crate::proofs::ReadLines::bad_name_bad))]
+fn line_of<E: Write>(
+    alloc: Global,
+    default: Option<Peer>,
+    number: u64,
+    words: &[&[u8]],
+    err: &mut E,
+) -> Result<LineQuestion, Status>
+    requires { 0 < length words.now }
+    ensures asks { IfOk result (λ l. AsksOne (option_map peer_view default) number (map (λ w. w.now) words.now) (line_view l ∷ [])) }
+    ensures refused { IsErrOf result Status.CommandLine → AreBadWords (option_map peer_view default) (Some (map (λ w. w.now) words.now)) }
+    ensures told { IfErr result IsStop }
+{
+    let named = match named_words(words) {
+        Ok(named) => named,
+        Err(word) => return Err(print_bad_name(number, word, err)),
+    };
+    let name = kept_name(alloc, named.name, err)?;
+    let question = question_of(alloc, default, number, named.words, err)?;
+    Ok(LineQuestion {
+        number,
+        name,
+        question,
+    })
 }
 
 /// Adds what a line asks; nothing where it is a note.
@@ -143,8 +224,8 @@ fn add_line<E: Write>(
     if words.is_empty() {
         return Ok(());
     }
-    let question = question_of(alloc, default, number, &words, err)?;
-    match questions.push(LineQuestion { number, question }) {
+    let line = line_of(alloc, default, number, &words, err)?;
+    match questions.push(line) {
         Ok(()) => Ok(()),
         Err(_) => Err(no_memory(err)),
     }
@@ -178,8 +259,8 @@ fn without_mark(text: &[u8]) -> &[u8]
     }
 }
 
-/// What the lines of a text ask: a request a line, its words separated by blanks and tabs; one with blanks in it stands in quotes. The first may be `@` and the
-/// peer that is asked, as `@192.168.1.20:47809`, or `@192.168.1.20/5:2A` behind a router; the others are asked of that one, if there is one. Lines may end in
+/// What the lines of a text ask: a request a line, its words separated by blanks and tabs; one with blanks in it stands in quotes. The first may be the line's name
+/// and a colon, as `flow:`; the next one `@` and the peer that is asked, as `@192.168.1.20:47809`, or `@192.168.1.20/5:2A` behind a router; the others are asked of that one, if there is one. Lines may end in
 /// CRLF, and in a note that begins with `#`; blank ones are passed over. Where a line names no peer, or its words are no request, `err` and the status say so.
 pub(crate) fn questions_in<E: Write>(
     alloc: Global,

@@ -4,6 +4,7 @@ ghost use Rattle.bac_text.specs.declared.status.Status.TheVariants as status;
 
 use crate::address::{read_end, read_host, read_link, read_route};
 use crate::serving::{read_memory, remembers_in_vain};
+use crate::seconds::{bad_pace, print_bad_pace};
 use bac_objects::{DocumentFault, document_findings};
 use bac_text::{Status, complain};
 use clap::ArgMatches;
@@ -113,7 +114,13 @@ pub(crate) fn print_no_task<E: Write>(matches: &ArgMatches<'_>, err: &mut E) -> 
     match matches.subcommand() {
         Some(("explain", given)) => print_bad_address(bad_peer(given), err),
         Some(("serve", given)) => print_no_serving(given, err),
-        Some(("ask", given)) => print_bad_address(bad_node(given), err),
+        Some(("ask", given)) => match bad_pace(given) {
+            Some(text) => {
+                print_bad_pace(text, err);
+                Status::CommandLine
+            }
+            None => print_bad_address(bad_node(given), err),
+        },
         _ => complain(err, "no command", Status::CommandLine),
     }
 }

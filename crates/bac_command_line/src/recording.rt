@@ -1,7 +1,7 @@
 //! Asks whose ends are printed as records: objects of JSON, or rows of CSV.
 ghost use Rattle.std.specs.Prelude.{◌≡◌, IfErr, IfOk, OnOk};
 ghost use Rattle.bac_ask_report.specs.Records.{outcome_view, record_view};
-ghost use Rattle.bac_command_line.specs.Recording.{AreWordsOf, IsRecordText, PrintsAsk, PrintsHeader, PrintsRecord, outcome_of, outcome_of_ending, without_end};
+ghost use Rattle.bac_command_line.specs.Recording.{AreWordsOf, IsRecordText, PrintsAsk, PrintsHeader, PrintsRecord, asker_view, outcome_of, outcome_of_ending, without_end};
 ghost use Rattle.bac_driver.specs.Views.{question_view};
 ghost use Rattle.bac_service.specs.Views.{owned_request_view};
 ghost use Rattle.bac_text.specs.Statuses.{IsFailure};
@@ -9,7 +9,9 @@ ghost use Rattle.bac_text.specs.Texts.{AppendsText};
 
 use crate::asking::Asking;
 use crate::question_lines::LineQuestion;
-use bac_ask_report::{AskRecord, Outcome, print_ask_object, print_csv_header, print_csv_row};
+use bac_ask_report::{
+    AskRecord, LineName, Outcome, print_ask_object, print_csv_header, print_csv_row,
+};
 use bac_commands::{OutputFormat, Style, print_ask_end};
 use bac_driver::{AskEnd, Question};
 use bac_requester::Ending;
@@ -36,6 +38,20 @@ pub(crate) struct Stamp {
     /// Counted from 1; None where there are no rounds.
     pub round: Option<u64>,
 }
+
+/// The line that asks.
+#[derive(Clone, Copy, Debug)]
+pub(crate) struct Asker<'n> {
+    /// Its number; None where no line asks.
+    pub line: Option<u64>,
+    pub name: LineName<'n>,
+}
+
+/// No line of a list asks.
+pub(crate) const NO_LINE: Asker<'static> = Asker {
+    line: None,
+    name: LineName::Unnamed,
+};
 
 /// How the ends of asks are printed, and when.
 #[derive(Clone, Copy)]
@@ -129,12 +145,12 @@ fn print_in<O: Write>(
 pub(crate) fn print_record<O: Write>(
     printer: &Printer<'_>,
     form: RecordForm,
-    line: Option<u64>,
+    asker: Asker<'_>,
     question: &Question,
     end: &AskEnd,
     out: &mut O,
 ) -> io::Result<bool>
-    ensures { IfOk result (λ succeeded. PrintsRecord form printer.now.asking.now.output_format.strict line (question_view question.now) end.now succeeded
+    ensures { IfOk result (λ succeeded. PrintsRecord form printer.now.asking.now.output_format.strict (asker_view asker) (question_view question.now) end.now succeeded
         (O.contents out.old) (O.contents out.new)) }
 {
     let alloc = printer.alloc;
@@ -142,7 +158,8 @@ pub(crate) fn print_record<O: Write>(
     let told = words_of(alloc, strict, &question.request, end)?;
     let ask = AskRecord {
         time: printer.stamp.time,
-        line,
+        line: asker.line,
+        name: asker.name,
         round: printer.stamp.round,
         peer: question.peer,
         request: question.request.as_request(),
@@ -157,19 +174,19 @@ pub(crate) fn print_record<O: Write>(
 /// Prints how an ask of a line, or of none, ended, without the line's number before it. Answers whether it succeeded.
 fn print_end<O: Write, E: Write>(
     printer: &Printer<'_>,
-    line: Option<u64>,
+    asker: Asker<'_>,
     question: &Question,
     end: &AskEnd,
     out: &mut O,
     err: &mut E,
 ) -> io::Result<bool>
-    ensures { IfOk result (λ succeeded. PrintsAsk printer.now.asking.now.records printer.now.asking.now.output_format line (question_view question.now) end.now succeeded
+    ensures { IfOk result (λ succeeded. PrintsAsk printer.now.asking.now.records printer.now.asking.now.output_format (asker_view asker) (question_view question.now) end.now succeeded
         (O.contents out.old) (O.contents out.new)) }
 {
     let request = &question.request;
     let output_format = printer.asking.output_format;
     match printer.asking.records {
-        Some(form) => print_record(printer, form, line, question, end, out),
+        Some(form) => print_record(printer, form, asker, question, end, out),
         None => print_ask_end(printer.alloc, output_format, request, end, out, err),
     }
 }
@@ -177,17 +194,17 @@ fn print_end<O: Write, E: Write>(
 /// The same; where that fails, `err` and the status say so.
 pub(crate) fn print_ask<O: Write, E: Write>(
     printer: &Printer<'_>,
-    line: Option<u64>,
+    asker: Asker<'_>,
     question: &Question,
     end: &AskEnd,
     out: &mut O,
     err: &mut E,
 ) -> Result<bool, Status>
-    ensures told { IfOk result (λ succeeded. PrintsAsk printer.now.asking.now.records printer.now.asking.now.output_format line (question_view question.now) end.now succeeded
+    ensures told { IfOk result (λ succeeded. PrintsAsk printer.now.asking.now.records printer.now.asking.now.output_format (asker_view asker) (question_view question.now) end.now succeeded
         (O.contents out.old) (O.contents out.new)) }
     ensures failed { IfErr result IsFailure }
 {
-    match print_end(printer, line, question, end, out, err) {
+    match print_end(printer, asker, question, end, out, err) {
         Ok(succeeded) => Ok(succeeded),
         Err(error) => Err(output_failed(err, &error)),
     }
@@ -200,9 +217,11 @@ pub(crate) fn print_unasked_record<O: Write>(
     line: &LineQuestion,
     out: &mut O,
 ) -> io::Result<()> {
+    let asker = line.asker(printer.asking.has_names);
     let ask = AskRecord {
         time: printer.stamp.time,
-        line: Some(line.number),
+        line: asker.line,
+        name: asker.name,
         round: printer.stamp.round,
         peer: line.question.peer,
         request: line.question.request.as_request(),
@@ -213,11 +232,16 @@ pub(crate) fn print_unasked_record<O: Write>(
     out.flush()
 }
 
-fn print_names<O: Write>(alloc: Global, records: Option<RecordForm>, out: &mut O) -> io::Result<()>
-    ensures { OnOk result (PrintsHeader records (O.contents out.old) (O.contents out.new)) }
+fn print_names<O: Write>(
+    alloc: Global,
+    records: Option<RecordForm>,
+    has_names: bool,
+    out: &mut O,
+) -> io::Result<()>
+    ensures { OnOk result (PrintsHeader records has_names (O.contents out.old) (O.contents out.new)) }
 {
     match records {
-        Some(RecordForm::Csv) => print_csv_header(alloc, out),
+        Some(RecordForm::Csv) => print_csv_header(alloc, has_names, out),
         Some(RecordForm::Json) => Ok(()),
         None => Ok(()),
     }
@@ -226,14 +250,14 @@ fn print_names<O: Write>(alloc: Global, records: Option<RecordForm>, out: &mut O
 /// Prints what stands above records: of rows the names of their columns.
 pub(crate) fn print_header<O: Write, E: Write>(
     alloc: Global,
-    records: Option<RecordForm>,
+    asking: &Asking,
     out: &mut O,
     err: &mut E,
 ) -> Result<(), Status>
-    ensures printed { IfOk result (λ _. PrintsHeader records (O.contents out.old) (O.contents out.new)) }
+    ensures printed { IfOk result (λ _. PrintsHeader asking.now.records asking.now.has_names (O.contents out.old) (O.contents out.new)) }
     ensures failed { IfErr result IsFailure }
 {
-    match print_names(alloc, records, out) {
+    match print_names(alloc, asking.records, asking.has_names, out) {
         Ok(()) => Ok(()),
         Err(error) => Err(output_failed(err, &error)),
     }

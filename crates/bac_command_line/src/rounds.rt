@@ -13,8 +13,9 @@ use crate::asking::{Asking, Rounds};
 use crate::asking_lines::{ask_each, ask_from, both};
 use crate::client::Client;
 use crate::online::{Machine, ask_once};
+use crate::pace::{is_behind, print_late};
 use crate::question_lines::LineQuestion;
-use crate::recording::{Printer, RecordForm, print_header, print_record};
+use crate::recording::{NO_LINE, Printer, RecordForm, print_header, print_record};
 use crate::station::Station;
 use crate::window::ask_ahead;
 use bac_commands::CommandError;
@@ -74,7 +75,7 @@ fn ask_recorded<M: Machine, O: Write, E: Write>(
         asking,
         stamp: client.stamp(),
     };
-    match print_record(&printer, form, None, question, &end, out) {
+    match print_record(&printer, form, NO_LINE, question, &end, out) {
         Ok(succeeded) => Ok(succeeded),
         Err(error) => Err(output_failed(err, &error)),
     }
@@ -152,7 +153,7 @@ struct RoundEnd {
     succeeded: bool,
 }
 
-/// Once a moment has come, a round begins, in which a node asks all that.
+/// Once a moment has come, a round begins, in which a node asks all that. Where the round before took longer than that, `err` says how late this one is.
 fn ask_round<M: Machine, O: Write, E: Write>(
     asking: &Asking,
     client: &mut Client<'_, M>,
@@ -168,8 +169,14 @@ fn ask_round<M: Machine, O: Write, E: Write>(
     ensures failed { IfErr result IsFailure }
 {
     client.rounds = client.rounds.saturating_add(1);
+    let ended = client.station.bound_node.node().latest();
     rest(&mut client.station, from, err)?;
+    let has_rested = client.station.bound_node.node().latest() > ended;
     let began = client.station.clock.now();
+    let late = began.saturating_sub(from);
+    if client.rounds > 1 && is_behind(late, has_rested) {
+        print_late(client.rounds, late, err);
+    }
     let succeeded = ask_all(asking, client, asked, out, err)?;
     Ok(RoundEnd { began, succeeded })
 }
@@ -228,13 +235,13 @@ fn ask_headed<M: Machine, O: Write, E: Write>(
     out: &mut O,
     err: &mut E,
 ) -> Result<bool, Status>
-    ensures asked { IfOk result (λ all. IsHeaded asking.now.records (AreRounds asking.now.rounds (AsksAll (OnPort M.is_bound M.Link.failures M.Link.calls) asking.now asked.now)) all
+    ensures asked { IfOk result (λ all. IsHeaded asking.now.records asking.now.has_names (AreRounds asking.now.rounds (AsksAll (OnPort M.is_bound M.Link.failures M.Link.calls) asking.now asked.now)) all
         (timed client.old.station.bound_node (M.Timer.told client.old.station.clock))
         (timed client.new.station.bound_node (M.Timer.told client.new.station.clock))
         (O.contents out.old) (O.contents out.new)) }
     ensures failed { IfErr result IsFailure }
 {
-    print_header(client.station.alloc, asking.records, out, err)?;
+    print_header(client.station.alloc, asking, out, err)?;
     ask_so(asking, client, asked, out, err)
 }
 
@@ -247,7 +254,7 @@ fn ask_and_report<M: Machine, O: Write, E: Write>(
     out: &mut O,
     err: &mut E,
 ) -> Status
-    ensures { ReportsDoing result (IsHeaded asking.now.records (AreRounds asking.now.rounds (AsksAll (OnPort M.is_bound M.Link.failures M.Link.calls) asking.now asked.now)))
+    ensures { ReportsDoing result (IsHeaded asking.now.records asking.now.has_names (AreRounds asking.now.rounds (AsksAll (OnPort M.is_bound M.Link.failures M.Link.calls) asking.now asked.now)))
         (timed client.old.station.bound_node (M.Timer.told client.old.station.clock))
         (timed client.new.station.bound_node (M.Timer.told client.new.station.clock))
         (O.contents out.old) (O.contents out.new) }

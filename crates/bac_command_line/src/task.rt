@@ -4,6 +4,7 @@ use crate::files::{CaptureFile, ScriptFile};
 use crate::forgetting::Forgetting;
 use crate::help::Telling;
 use crate::online::Machine;
+use crate::seconds::bad_pace;
 use crate::selecting::options_of;
 use crate::serving::{Serving, serving_of};
 use bac_explain_report::{ChartFormat, ReportOptions};
@@ -66,6 +67,8 @@ pub(crate) enum Task<'m, 'a> {
     },
     /// What the file at this path keeps.
     Keep(&'a str),
+    /// The same as objects of JSON.
+    KeepJson(&'a str),
     /// That the file at a path forgets something.
     Forget(Forgetting<'a>),
     /// The request that some words are.
@@ -211,8 +214,12 @@ pub(crate) fn task_of<'m, 'a>(
                     property,
                 }));
             }
+            if given.get_flag("json") {
+                return Some(Task::KeepJson(path));
+            }
             Some(Task::Keep(path))
         }
+        ("ask", given) if bad_pace(given).is_some() => None,
         ("ask", given) => {
             let asking = asking_of(given, shows_progress);
             if let Some(path) = given.get_str("lines") {

@@ -382,13 +382,21 @@ const SERVE: &[Word] = &[
         against: &[],
         help: "Logs each datagram that arrives, and what was done for it, on standard error",
     },
+    Word {
+        name: "json",
+        form: WordForm::Flag,
+        need: Need::Beside("log"),
+        against: &[],
+        help: "The log has an object of JSON a line",
+    },
 ];
 
 /// Examples for `keep`.
 const KEEP_EXAMPLES: &str = "\
 Example: bac keep plant.db
 Example: bac keep plant.db --forget analog-value:1 present-value
-Example: bac keep plant.db --forget file:1";
+Example: bac keep plant.db --forget file:1
+Example: bac keep plant.db --json";
 
 /// What `keep` takes.
 const KEEP: &[Word] = &[
@@ -412,6 +420,13 @@ const KEEP: &[Word] = &[
         need: Need::Beside("forget"),
         against: &[],
         help: "The property to forget, by number or name; without it --forget forgets all of the object, its file too",
+    },
+    Word {
+        name: "json",
+        form: WordForm::Flag,
+        need: Need::Never,
+        against: &["forget"],
+        help: "Prints each property and each file as an object of JSON, one a line",
     },
 ];
 
@@ -509,7 +524,7 @@ const ASK: &[Word] = &[
         form: WordForm::Text("FILE"),
         need: Need::Never,
         against: &["WORDS", "raw"],
-        help: "Asks the requests in FILE, one a line, in turn, and prefixes each result with its line number; `-` reads standard input. A line may begin with the address of its own node, `@A.B.C.D[:P]` or `@A.B.C.D[:P]/NET:MAC`; the others are asked of the node that --to or --port gives. Skips blank lines, and notes that begin with `#`; blanks separate words, a word with blanks in it stands in quotes, and `@FILE` is not allowed. A bad line is reported before anything is asked",
+        help: "Asks the requests in FILE, one a line, in turn, and prefixes each result with its line number; `-` reads standard input. A line may begin with a name, `flow:`, which its result carries, and then with the address of its own node, `@A.B.C.D[:P]` or `@A.B.C.D[:P]/NET:MAC`; the others are asked of the node that --to or --port gives. Skips blank lines, and notes that begin with `#`; blanks separate words, a word with blanks in it stands in quotes, and `@FILE` is not allowed. A bad line is reported before anything is asked",
     },
     Word {
         name: "window",
@@ -520,10 +535,10 @@ const ASK: &[Word] = &[
     },
     Word {
         name: "every",
-        form: WordForm::Number("S", 1_000_000_000),
+        form: WordForm::Text("S"),
         need: Need::Never,
         against: &[],
-        help: "Repeats the requests in rounds: one begins S seconds, 1 to 1000000000, after the one before began, or at once if that took longer",
+        help: "Repeats the requests in rounds: one begins S seconds, 0.001 to 1000000000, after the one before began, or at once if that took longer; then standard error says how late it is",
     },
     Word {
         name: "times",

@@ -9,10 +9,13 @@ mod came;
 mod cause;
 mod done;
 mod facts;
+mod fault_words;
 mod frames;
 mod fresh_node;
 mod lines;
 mod log;
+mod log_manner;
+mod objects;
 mod online;
 mod serving;
 mod turned_away;
@@ -22,6 +25,8 @@ pub use facts::{
     ending_words, print_asked, print_changed, print_ended, print_ending, print_ending_line,
     print_fault, print_nothing, print_performed, print_refused, print_sent,
 };
+pub use fault_words::ask_fault_words;
+pub use log_manner::{LogForm, LogManner};
 pub use online::{
     AskCommand, CommandError, KeptServer, OutputFormat, Style, TURNS, ask, ask_unprinted,
     bound_client, bound_house, bound_server, clock_fault, is_spent, link_fault, pair,

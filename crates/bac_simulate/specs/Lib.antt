@@ -8,6 +8,7 @@ pub mod Lines
 pub mod Scripts
 pub mod Printed
 pub mod Traces
+pub mod FaultWords
 pub mod Worded
 pub mod Drawn
 pub mod Views

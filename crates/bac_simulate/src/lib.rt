@@ -4,6 +4,7 @@
 mod bad_line;
 mod capture;
 mod clock_words;
+mod fault_words;
 mod line;
 mod line_reading;
 mod line_words;

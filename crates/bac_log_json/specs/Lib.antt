@@ -1,0 +1,5 @@
+pub mod Cells
+pub mod Logs
+pub mod LogMembers
+pub mod Events
+pub mod EventMembers
