@@ -1,5 +1,5 @@
 //! The lines of a transaction.
-ghost use Rattle.std.specs.Prelude.{◌≡◌, IfOk, Some, string_bytes};
+ghost use Rattle.std.specs.Prelude.{◌≡◌, IfOk, string_bytes};
 ghost use Rattle.std.specs.Option.{option_map};
 ghost use Rattle.bac_explain.specs.Closings.{closed_view};
 ghost use Rattle.bac_explain.specs.KeyViews.{key_view};
@@ -7,12 +7,9 @@ ghost use Rattle.bac_explain.specs.SentViews.{sent_view};
 ghost use Rattle.bac_explain.specs.Views.{transaction_view};
 ghost use Rattle.bac_explain_report.specs.Blocks.{answer_name, asked_front, answered_front, counts_text, end_text, head_text, naks_text, part_text, rest_text, tail_text};
 ghost use Rattle.bac_explain_report.specs.Blocks.{IsAnsweredLine, IsAnswerLine, IsAskedLine, IsBlock};
-ghost use Rattle.bac_explain_report.specs.FrameReports.{IsOptionalBlock};
-ghost use Rattle.bac_explain_report.specs.Selections.{shown};
 
 use crate::ending::answer_ending;
 use crate::keys::key_text;
-use crate::selection::Selection;
 use crate::{answer_words, request_words};
 use bac_explain::{Closed, Sent, Transaction, TransactionKey};
 use bac_value::NoMemory;
@@ -165,19 +162,4 @@ pub(crate) fn block(alloc: Global, closed: &Closed) -> Result<Vec<u8>, NoMemory>
     text.extend_from_slice(answer.as_slice())?;
     text.extend_from_slice(tail.as_slice())?;
     Ok(text)
-}
-
-/// The lines of a transaction, if it passes.
-pub(crate) fn shown_block(
-    alloc: Global,
-    selection: Selection,
-    closed: &Closed,
-) -> Result<Vec<u8>, NoMemory>
-    ensures { IfOk result (λ t. IsOptionalBlock (shown selection (Some (closed_view closed.now))) t.items) }
-{
-    if selection.passes(closed.key, &closed.transaction) {
-        block(alloc, closed)
-    } else {
-        Ok(Vec::new(alloc))
-    }
 }
