@@ -1,7 +1,6 @@
 pub mod Records
 pub mod Questions
 pub mod Answers
-pub mod Times
 pub mod Rows
 pub mod Cells
 pub mod Objects

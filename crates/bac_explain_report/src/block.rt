@@ -8,9 +8,10 @@ ghost use Rattle.bac_explain.specs.Views.{transaction_view};
 ghost use Rattle.bac_explain_report.specs.Blocks.{answer_name, asked_front, answered_front, counts_text, end_text, head_text, naks_text, part_text, rest_text, tail_text};
 ghost use Rattle.bac_explain_report.specs.Blocks.{IsAnsweredLine, IsAnswerLine, IsAskedLine, IsBlock};
 
+use crate::answer_words::told_words;
 use crate::ending::answer_ending;
 use crate::keys::key_text;
-use crate::{answer_words, request_words};
+use crate::request_words::asked_words;
 use bac_explain::{Closed, Sent, Transaction, TransactionKey};
 use bac_value::NoMemory;
 use std::alloc::{AllocError, Global};
@@ -41,7 +42,7 @@ fn asked_front(alloc: Global, sent: &Sent) -> Result<Vec<u8>, AllocError>
 fn asked_line(alloc: Global, sent: &Sent) -> Result<Vec<u8>, NoMemory>
     ensures { IfOk result (λ t. IsAskedLine (sent_view sent.now) t.items) }
 {
-    let words = request_words::octets_words(alloc, &sent.octets)?;
+    let words = asked_words(alloc, &sent.octets)?;
     let mut text = asked_front(alloc, sent)?;
     text.extend_from_slice(words.as_slice())?;
     text.push(b'\n')?;
@@ -73,7 +74,7 @@ fn answered_front(alloc: Global, asked: u64, sent: &Sent) -> Result<Vec<u8>, All
 fn answered_line(alloc: Global, asked: u64, sent: &Sent) -> Result<Vec<u8>, NoMemory>
     ensures { IfOk result (λ t. IsAnsweredLine asked (sent_view sent.now) t.items) }
 {
-    let words = answer_words::octets_words(alloc, &sent.octets)?;
+    let words = told_words(alloc, &sent.octets)?;
     let mut text = answered_front(alloc, asked, sent)?;
     text.extend_from_slice(words.as_slice())?;
     text.push(b'\n')?;

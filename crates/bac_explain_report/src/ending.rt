@@ -22,7 +22,8 @@ pub enum Ending {
 }
 
 impl Ending {
-    pub(crate) fn name(self) -> &'static str
+    /// The word for it.
+    pub fn name(self) -> &'static str
         ensures { result.now ≡ ending_name self }
     {
         match self {

@@ -25,6 +25,7 @@ mod tally;
 mod unread;
 
 pub use account::Account;
+pub use answer_words::told_words;
 pub use bac_chart::ChartFormat;
 pub use chart::chart_over;
 pub use ending::{Ending, delay_of, ending_of, is_unanswered};
@@ -32,6 +33,7 @@ pub use explain::explain_over;
 pub use form::ReportForm;
 pub use frame_report::{FrameReport, Hearing};
 pub use reporter::Reporter;
+pub use request_words::asked_words;
 pub use seeing::seen_of;
 pub use selection::{PeerFilter, ReportOptions, Selection};
 pub use tally::Tally;

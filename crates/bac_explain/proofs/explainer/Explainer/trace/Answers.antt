@@ -12,10 +12,10 @@ use Rattle.bac_explain.proofs.Hearing.{alive_of, goes_heard, none_heard, same_sl
 use Rattle.bac_explain.proofs.explainer.Explainer.trace.Goals as goal
 
 -- the same as the result of an APDU
-step_heard : Key → Step → Option TransactionView → Transactions → Heard
+abbrev step_heard : Key → Step → Option TransactionView → Transactions → Heard
 step_heard key step t slots = record { slots = traced_in key step t slots; closed = None; finding = None }
 
-slots_of : Heard → Transactions
+abbrev slots_of : Heard → Transactions
 slots_of h = h.slots
 
 pub returns-in_default-clause-ok : goal.returns-in_default-clause-ok

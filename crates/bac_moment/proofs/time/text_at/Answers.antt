@@ -1,5 +1,5 @@
-use Rattle.bac_ask_report.proofs.Times.{time_told}
-use Rattle.bac_ask_report.proofs.time.text_at.Goals as goal
+use Rattle.bac_moment.proofs.Times.{time_told}
+use Rattle.bac_moment.proofs.time.text_at.Goals as goal
 
 pub returns-in-Some : goal.returns-in-Some
 returns-in-Some c =

@@ -5,7 +5,7 @@ use Rattle.jiff_core.specs.declared.civil.datetime.DateTime.{DateTime}
 use Rattle.jiff_fmt.specs.Printer.{IsTimestampText, options}
 use Rattle.jiff_fmt.specs.Text.{datetime_text, zulu_text}
 use Rattle.jiff_fmt.specs.declared.temporal.printer.DateTimePrinter.{DateTimePrinter}
-use Rattle.bac_ask_report.specs.Times.{IsTimeText, nanoseconds}
+use Rattle.bac_moment.specs.Times.{IsTimeText, nanoseconds}
 
 abbrev printed_by : DateTime → Bool × ℕ × Option ℕ → List ℕ
 printed_by at o = datetime_text o.0 o.1 o.2 at ++ zulu_text o.0

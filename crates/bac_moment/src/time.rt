@@ -2,14 +2,14 @@
 ghost use Rattle.std.specs.Prelude.{◌≡◌, IfSome};
 ghost use Rattle.std.specs.Option.{option_map};
 ghost use Rattle.jiff_core.specs.Timestamp.{IsTimestampNanos};
-ghost use Rattle.bac_ask_report.specs.Times.{IsTextAt, IsTextOf, nanoseconds};
+ghost use Rattle.bac_moment.specs.Times.{IsTextAt, IsTextOf, nanoseconds};
 
 use arrayvec::ArrayString;
 use jiff_core::Timestamp;
 use jiff_fmt::temporal::DateTimePrinter;
 
 /// The most octets of such a text.
-pub(crate) type TimeText = ArrayString<33>;
+pub type TimeText = ArrayString<33>;
 
 fn nanoseconds(milliseconds: u64) -> i128
     ensures { result ≡ nanoseconds milliseconds }
@@ -41,8 +41,8 @@ fn text_at(milliseconds: u64) -> Option<TimeText>
     }
 }
 
-/// The same where the time of day is known.
-pub(crate) fn time_text(time: Option<u64>) -> Option<TimeText>
+/// The moment so many milliseconds after 1970 began in UTC, as `2026-11-27T07:10:00.012Z`. None where it is not known, or beyond the year 9999.
+pub fn time_text(time: Option<u64>) -> Option<TimeText>
     ensures { IsTextOf time (option_map (λ t. t.bytes) result) }
 {
     match time {
