@@ -19,6 +19,8 @@ enum Kind {
     Seen(Print),
     /// A capture file of datagrams that are seen, behind a line of options.
     Selected,
+    /// The same, printed as objects of JSON.
+    SelectedJson,
     /// A capture file in hexadecimal digits.
     File(Print),
     /// How a chart ends.
@@ -34,6 +36,7 @@ const KINDS: &[(&str, Kind)] = &[
     ("worlds", Kind::Worlds),
     ("explain", Kind::Seen(Print::Explain(ALL))),
     ("explain-with", Kind::Selected),
+    ("explain-json", Kind::SelectedJson),
     ("chart", Kind::Seen(Print::Chart(ChartFormat::Chart))),
     ("mermaid", Kind::Seen(Print::Chart(ChartFormat::Mermaid))),
     ("end", Kind::End),
@@ -68,6 +71,10 @@ fn play_lines(alloc: Global, kind: Kind, lines: &str, out: &mut Vec<u8>) -> Opti
         Kind::Selected => {
             let (options, lines) = lines.split_once('\n')?;
             print_seen(alloc, Print::Explain(options_of(options)?), lines, out)
+        }
+        Kind::SelectedJson => {
+            let (options, lines) = lines.split_once('\n')?;
+            print_seen(alloc, Print::ExplainJson(options_of(options)?), lines, out)
         }
         Kind::File(print) => print_octets(alloc, print, lines, out),
         Kind::End => print_end_of_chart(alloc, lines, out),

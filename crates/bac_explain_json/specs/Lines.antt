@@ -73,4 +73,4 @@ IsSummaryLine s t text = IsLineOf (λ d. d ≡ summary_form t) text
 -- ---- a file: the records, their order and the status are those of the plain lines
 
 abbrev pub IsReportOf : ReportOptions → (also : Option ℕ) → (input old new : Option (List ℕ)) → Status → Type 0
-IsReportOf o also input old new status = report.IsReportOf IsFrameLine IsTransactionLine IsSummaryLine o also input old new status
+IsReportOf o also input old new status = report.IsReportOf [] IsFrameLine IsTransactionLine IsSummaryLine o also input old new status

@@ -45,12 +45,19 @@ struct JsonLines;
 
 impl ReportForm for JsonLines {
     ghost use Rattle.bac_explain_json.specs.Lines.{IsFrameLine, IsSummaryLine, IsTransactionLine};
+    ghost use Rattle.std.specs.Prelude.{[]};
+
+    ghost front = { [] };
 
     ghost IsOne = { IsTransactionLine };
 
     ghost IsTold = { IsFrameLine };
 
     ghost AreLast = { IsSummaryLine };
+
+    fn front_text(&self) -> &'static str {
+        ""
+    }
 
     fn transaction_text(&self, alloc: Global, closed: &Closed) -> Result<Vec<u8>, NoMemory> {
         transaction_line(alloc, closed)

@@ -39,4 +39,4 @@ AreLastLines s t text = text ≡ last_lines s t
 
 -- a file is explained frame by frame, and no other input
 abbrev pub IsReportOf : ReportOptions → Option ℕ → Option (List ℕ) → Option (List ℕ) → Option (List ℕ) → Status → Type 0
-IsReportOf o also input old new status = report.IsReportOf IsFrameReport IsBlock AreLastLines o also input old new status
+IsReportOf o also input old new status = report.IsReportOf [] IsFrameReport IsBlock AreLastLines o also input old new status

@@ -2,7 +2,7 @@
 use Rattle.std.specs.Prelude.{◌≡◌, ℕ, ◌++◌, List, Option}
 use Rattle.bac_capture.specs.declared.fault.FileFault.{FileFault}
 use Rattle.bac_capture.specs.Blocks.{FrameView}
-use Rattle.bac_capture.specs.FileReports.{no_heading, no_report}
+use Rattle.bac_capture.specs.FileReports.{no_report}
 use Rattle.bac_capture.specs.FileReports as report
 use Rattle.bac_capture.specs.Walks.{Prints}
 use Rattle.bac_text.specs.declared.status.Status.{Status}
@@ -42,7 +42,7 @@ pub record EndsFile (IsOne : Printing) (AreLast : Closing) (a : Account) (text :
   pub told : text ≡ rest ++ last
   pub is : status ≡ status_of a.options.strict tally
 
--- a file is explained frame by frame, and no other input
-abbrev pub IsReportOf : Telling → Printing → Closing → ReportOptions → (also : Option ℕ) → (input old new : Option (List ℕ)) → Status → Type 0
-IsReportOf IsTold IsOne AreLast o also input old new status =
-    report.IsReportOf Account (SeesFrame IsTold also) (BreaksFile IsTold) no_heading (EndsFile IsOne AreLast) no_report (fresh o) input old new status
+-- a file is explained frame by frame, below the front, and no other input
+abbrev pub IsReportOf : (front : List ℕ) → Telling → Printing → Closing → ReportOptions → (also : Option ℕ) → (input old new : Option (List ℕ)) → Status → Type 0
+IsReportOf front IsTold IsOne AreLast o also input old new status =
+    report.IsReportOf Account (SeesFrame IsTold also) (BreaksFile IsTold) (λ _. front) (EndsFile IsOne AreLast) no_report (fresh o) input old new status

@@ -23,12 +23,19 @@ impl ReportForm for Lines {
     ghost use Rattle.bac_explain_report.specs.Blocks.{IsBlock};
     ghost use Rattle.bac_explain_report.specs.Explained.{AreLastLines};
     ghost use Rattle.bac_explain_report.specs.FrameReports.{IsFrameReport};
+    ghost use Rattle.std.specs.Prelude.{[]};
+
+    ghost front = { [] };
 
     ghost IsOne = { IsBlock };
 
     ghost IsTold = { IsFrameReport };
 
     ghost AreLast = { AreLastLines };
+
+    fn front_text(&self) -> &'static str {
+        ""
+    }
 
     fn transaction_text(&self, alloc: Global, closed: &Closed) -> Result<Vec<u8>, NoMemory> {
         block(alloc, closed)

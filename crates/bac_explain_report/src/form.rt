@@ -1,5 +1,5 @@
 //! The forms in which a report on transactions is printed.
-ghost use Rattle.std.specs.Prelude.{ℕ, List, IfOk};
+ghost use Rattle.std.specs.Prelude.{◌≡◌, ℕ, List, IfOk};
 ghost use Rattle.bac_explain.specs.Closings.{closed_view};
 ghost use Rattle.bac_explain.specs.Tables.{ClosedView};
 ghost use Rattle.bac_explain_report.specs.AccountViews.{report_view};
@@ -16,6 +16,9 @@ use std::alloc::Global;
 
 /// A form in which a report on transactions is printed: the text of each of its parts.
 pub trait ReportForm {
+    // What is printed above the frames.
+    ghost front: { List ℕ };
+
     // What is printed of a transaction.
     ghost IsOne: { ClosedView → (text : List ℕ) → Type 0 };
 
@@ -24,6 +27,10 @@ pub trait ReportForm {
 
     // What is printed at the end.
     ghost AreLast: { Picked → Counts → (text : List ℕ) → Type 0 };
+
+    /// The text above the frames.
+    fn front_text(&self) -> &'static str
+        ensures { result.now ≡ front };
 
     /// The text of a transaction. An Err is out of memory.
     fn transaction_text(&self, alloc: Global, closed: &Closed) -> Result<Vec<u8>, NoMemory>

@@ -133,7 +133,7 @@ impl<W: Write, F: ReportForm + Drop> FileReport<W> for Reporter<F> {
     ghost use Rattle.bac_explain_report.specs.Accounts.{Account as Plain};
     ghost use Rattle.bac_explain_report.specs.AccountViews.{account_view};
     ghost use Rattle.bac_explain_report.specs.Reported.{BreaksFile, EndsFile, SeesFrame};
-    ghost use Rattle.bac_capture.specs.FileReports.{no_heading, no_report};
+    ghost use Rattle.bac_capture.specs.FileReports.{no_report};
 
     ghost State = { Plain };
 
@@ -143,7 +143,7 @@ impl<W: Write, F: ReportForm + Drop> FileReport<W> for Reporter<F> {
 
     ghost Breaks = { BreaksFile F.IsTold };
 
-    ghost heading = { no_heading };
+    ghost heading = { λ _. F.front };
 
     ghost Ends = { EndsFile F.IsOne F.AreLast };
 
@@ -179,7 +179,7 @@ impl<W: Write, F: ReportForm + Drop> FileReport<W> for Reporter<F> {
     }
 
     fn heading_text(&self) -> &'static str {
-        ""
+        self.form.front_text()
     }
 
     fn end(&mut self, out: &mut W) -> Result<Status, CheckError> {
