@@ -38,13 +38,13 @@ role_words GivesUp = codes "abort of the client"
 -- what is wrong with a frame
 abbrev pub mark : Option Finding → List ℕ
 mark None = []
-mark (Some finding) = codes "<tspan class=\"f\"> " ++ (finding_text finding ++ codes "</tspan>")
+mark (Some finding) = codes "<div class=\"m\">" ++ (finding_text finding ++ codes "</div>")
 
 -- the arrow of a frame, with its moment after the request, its number, and what its APDU is
 abbrev pub arrow : (asked : ℕ) → Step → List ℕ
 arrow asked s =
     arrow_front s.role ++ (codes "+" ++ (decimal (s.moment - asked) ++ (codes " ms, frame " ++ (decimal s.frame ++ (codes ": " ++ (role_words s.role
-    ++ (mark s.finding ++ codes "</text></svg>\n")))))))
+    ++ (codes "</text></svg>" ++ (mark s.finding ++ codes "\n"))))))))
 
 -- of each of the frames, from the first on
 abbrev pub arrows : (asked : ℕ) → List Step → List ℕ

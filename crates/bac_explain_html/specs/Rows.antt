@@ -1,5 +1,5 @@
 -- The row of a transaction.
-use Rattle.std.specs.Prelude.{◌≡◌, ℕ, List, [], ◌∷◌, ◌++◌, codes, decimal, Option, Some, None}
+use Rattle.std.specs.Prelude.{◌≡◌, ℕ, List, [], ◌∷◌, ◌++◌, codes, decimal, Option, Some, None, if◌then◌else◌}
 use Rattle.bac_explain.specs.Keys.{Key}
 use Rattle.bac_explain.specs.Sent.{SentView}
 use Rattle.bac_explain.specs.Tables.{ClosedView}
@@ -8,7 +8,7 @@ use Rattle.bac_explain.specs.Transactions.{TransactionView}
 use Rattle.bac_explain.specs.declared.finding.Finding.{Finding}
 use Rattle.bac_explain.specs.declared.step.Step.{Step}
 use Rattle.bac_explain_report.specs.AnswerWords as answer
-use Rattle.bac_explain_report.specs.Endings.{delay_of, ending_name, ending_of}
+use Rattle.bac_explain_report.specs.Endings.{delay_of, ending_name, ending_of, is_unanswered}
 use Rattle.bac_explain_report.specs.RequestWords as request
 use Rattle.bac_text.specs.Peers.{peer_text}
 use Rattle.bac_explain_html.specs.Escapes.{cell}
@@ -71,6 +71,10 @@ findings_cell steps = (codes "<td class=\"f\">" ++ findings_lines steps) ++ code
 abbrev pub row_end : TransactionView → List ℕ
 row_end t = end_cells t ++ findings_cell t.steps
 
+-- one without an answer has a class of its own
+abbrev pub entry_front : TransactionView → List ℕ
+entry_front t = if is_unanswered t then codes "<tbody class=\"t u\"><tr>" else codes "<tbody class=\"t\"><tr>"
+
 -- one row, and one picture below it
 pub record IsEntry (c : ClosedView) (text : List ℕ) : Type 0 where
   pub words : List ℕ
@@ -78,5 +82,5 @@ pub record IsEntry (c : ClosedView) (text : List ℕ) : Type 0 where
   pub picture : List ℕ
   pub is_picture : IsPicture c.key c.transaction.request.moment c.transaction.steps picture
   pub is : text
-      ≡ (((((codes "<tbody class=\"t\"><tr>" ++ key_cells c.key) ++ words) ++ row_end c.transaction) ++ codes "</tr><tr class=\"p\"><td colspan=\"9\">") ++ picture)
+      ≡ (((((entry_front c.transaction ++ key_cells c.key) ++ words) ++ row_end c.transaction) ++ codes "</tr><tr class=\"p\"><td colspan=\"9\">") ++ picture)
       ++ codes "</td></tr></tbody>\n"

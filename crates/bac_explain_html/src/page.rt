@@ -29,9 +29,11 @@ th button { padding: 0; font: inherit; font-weight: 600; color: inherit; backgro
 th[aria-sort=ascending] button::after { content: ' \\25B2'; }
 th[aria-sort=descending] button::after { content: ' \\25BC'; }
 tbody { border-top: 1px solid #d7dce2; }
-td { overflow-wrap: anywhere; }
+td:nth-child(4), td:nth-child(5) { overflow-wrap: anywhere; min-width: 10em; }
 td.n { text-align: right; font-variant-numeric: tabular-nums; }
-td.f, .f { color: #a40e26; fill: #a40e26; }
+tbody.t tr:first-child td:nth-child(-n+3), td.answered, td.unanswered, td.aborted, td.rejected { white-space: nowrap; }
+td.f, .m { color: #a40e26; }
+.m { max-width: 640px; padding: 0 60px; font-size: 13px; text-align: center; }
 td.unanswered, td.aborted, td.rejected { color: #a40e26; font-weight: 600; }
 tr.p td { padding-top: 0; }
 summary { cursor: pointer; color: #49525e; }
@@ -48,7 +50,8 @@ svg .a { stroke: #1f5fbf; stroke-width: 1.5; fill: none; }
   tbody { padding: 8px 0; }
   td, td.n { padding: 2px 10px; text-align: left; }
   td:empty { display: none; }
-  tbody.t tr:first-child td::before { display: inline-block; width: 84px; color: #6a737d; font-weight: 400; }
+  tbody.t tr:first-child td { position: relative; padding-left: 104px; white-space: normal; overflow-wrap: anywhere; }
+  tbody.t tr:first-child td::before { position: absolute; left: 10px; color: #6a737d; font-weight: 400; }
   tbody.t tr:first-child td:nth-child(1)::before { content: 'client'; }
   tbody.t tr:first-child td:nth-child(2)::before { content: 'server'; }
   tbody.t tr:first-child td:nth-child(3)::before { content: 'invoke ID'; }
@@ -57,6 +60,7 @@ svg .a { stroke: #1f5fbf; stroke-width: 1.5; fill: none; }
   tbody.t tr:first-child td:nth-child(6)::before { content: 'end'; }
   tbody.t tr:first-child td:nth-child(7)::before { content: 'after ms'; }
   tbody.t tr:first-child td:nth-child(8)::before { content: 'times'; }
+  tbody.t tr:first-child td:nth-child(9)::before { content: 'findings'; }
   svg text { font-size: 17px; }
 }
 </style>
@@ -98,7 +102,7 @@ const [word, silent, wrong] = ['q', 'u', 'w'].map(id => document.getElementById(
 function filter() {
   const wanted = word.value.toLowerCase();
   rows.forEach(row => {
-    const shown = row.textContent.toLowerCase().includes(wanted) && (!silent.checked || text(row, 6) === '') && (!wrong.checked || text(row, 8) !== '');
+    const shown = row.textContent.toLowerCase().includes(wanted) && (!silent.checked || row.classList.contains('u')) && (!wrong.checked || text(row, 8) !== '');
     row.hidden = !shown;
   });
   others.forEach(row => row.hidden = silent.checked || !row.textContent.toLowerCase().includes(wanted));

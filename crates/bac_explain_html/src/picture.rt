@@ -71,12 +71,12 @@ fn role_words(alloc: Global, role: Role) -> Result<String, AllocError>
     }
 }
 
-/// What is wrong with a frame, as the end of its text.
+/// What is wrong with a frame, below its arrow.
 fn mark(alloc: Global, finding: Option<Finding>) -> Result<String, AllocError>
     ensures { IfOk result (λ t. string_bytes t ≡ mark finding) }
 {
     match finding {
-        Some(finding) => format!(in alloc; "<tspan class=\"f\"> {finding}</tspan>"),
+        Some(finding) => format!(in alloc; "<div class=\"m\">{finding}</div>"),
         None => Ok(String::new(alloc)),
     }
 }
@@ -90,7 +90,7 @@ fn arrow(alloc: Global, asked: u64, step: Step) -> Result<String, AllocError>
     let after = step.moment.saturating_sub(asked);
     let words = role_words(alloc, step.role)?;
     let mark = mark(alloc, step.finding)?;
-    format!(in alloc; "{front}+{after} ms, frame {frame}: {words}{mark}</text></svg>\n")
+    format!(in alloc; "{front}+{after} ms, frame {frame}: {words}</text></svg>{mark}\n")
 }
 
 /// The arrows of frames, from the first on.

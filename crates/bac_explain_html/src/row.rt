@@ -5,12 +5,12 @@ ghost use Rattle.bac_explain.specs.Closings.{closed_view};
 ghost use Rattle.bac_explain.specs.KeyViews.{key_view};
 ghost use Rattle.bac_explain.specs.SentViews.{sent_view};
 ghost use Rattle.bac_explain.specs.Views.{transaction_view};
-ghost use Rattle.bac_explain_html.specs.Rows.{AreWordCells, IsAnswerCell, IsAskedCell, IsEntry, after_text, end_cells, findings_cell, key_cells, listed, row_end};
+ghost use Rattle.bac_explain_html.specs.Rows.{AreWordCells, IsAnswerCell, IsAskedCell, IsEntry, after_text, end_cells, entry_front, findings_cell, key_cells, listed, row_end};
 
 use crate::escape::cell;
 use crate::picture::picture;
 use bac_explain::{Closed, Finding, Sent, Step, Transaction, TransactionKey};
-use bac_explain_report::{asked_words, delay_of, ending_of, told_words};
+use bac_explain_report::{asked_words, delay_of, ending_of, is_unanswered, told_words};
 use bac_text::peer_text;
 use bac_value::NoMemory;
 use std::alloc::{AllocError, Global};
@@ -110,6 +110,17 @@ fn row_end(alloc: Global, transaction: &Transaction) -> Result<Vec<u8>, AllocErr
     Ok(text)
 }
 
+/// The beginning of the row: one without an answer has a class of its own.
+fn entry_front(transaction: &Transaction) -> &'static str
+    ensures { result.now ≡ entry_front (transaction_view transaction.now) }
+{
+    if is_unanswered(transaction) {
+        "<tbody class=\"t u\"><tr>"
+    } else {
+        "<tbody class=\"t\"><tr>"
+    }
+}
+
 /// The row of a transaction, and one with its picture.
 pub(crate) fn entry(alloc: Global, closed: &Closed) -> Result<Vec<u8>, NoMemory>
     ensures { IfOk result (λ t. IsEntry (closed_view closed.now) t.items) }
@@ -124,7 +135,7 @@ pub(crate) fn entry(alloc: Global, closed: &Closed) -> Result<Vec<u8>, NoMemory>
         transaction.request.moment,
         &transaction.steps,
     )?;
-    let mut text = Vec::from_slice(alloc, b"<tbody class=\"t\"><tr>")?;
+    let mut text = Vec::from_slice(alloc, entry_front(transaction).as_bytes())?;
     text.extend_from_slice(key.as_bytes())?;
     text.extend_from_slice(&words)?;
     text.extend_from_slice(&end)?;
