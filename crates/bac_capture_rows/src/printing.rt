@@ -2,6 +2,7 @@
 use crate::seen::file_of;
 use crate::words::octets_of;
 use bac_capture::{Ports, check_capture_over};
+use bac_explain_html::explain_html_over;
 use bac_explain_json::explain_json_over;
 use bac_explain_report::{ChartFormat, ReportOptions, chart_over, explain_over};
 use std::alloc::Global;
@@ -19,6 +20,8 @@ pub(crate) enum Print {
     Explain(ReportOptions),
     /// The same as objects of JSON.
     ExplainJson(ReportOptions),
+    /// The same as a page of HTML.
+    ExplainHtml(ReportOptions),
     /// A chart of them.
     Chart(ChartFormat),
 }
@@ -35,6 +38,7 @@ pub(crate) fn status_of<R: BufRead, O: Write>(
         Print::Check => check_capture_over(alloc, input, PORTS, false, out, err),
         Print::Named => check_capture_over(alloc, input, PORTS, true, out, err),
         Print::Explain(options) => explain_over(alloc, options, input, PORTS, out, err),
+        Print::ExplainHtml(options) => { explain_html_over(alloc, options, input, PORTS, out, err) }
         Print::ExplainJson(options) => { explain_json_over(alloc, options, input, PORTS, out, err) }
         Print::Chart(form) => chart_over(alloc, form, input, PORTS, out, err),
     };
