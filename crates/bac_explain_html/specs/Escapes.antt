@@ -1,5 +1,5 @@
 -- Texts as HTML.
-use Rattle.std.specs.Prelude.{ℕ, ◌==◌, List, [], ◌∷◌, ◌++◌, codes, Option, Some, None, if◌then◌else◌}
+use Rattle.std.specs.Prelude.{ℕ, ◌==◌, ◌||◌, Bool, false, List, [], ◌∷◌, ◌++◌, codes, Option, Some, None, if◌then◌else◌}
 
 -- what stands for an octet that HTML would read as its own: an ampersand, an angle bracket or a quote
 abbrev pub entity : ℕ → Option (List ℕ)
@@ -17,3 +17,11 @@ escaped (octet ∷ text) = shown_as octet (entity octet) ++ escaped text
 
 abbrev pub cell : List ℕ → List ℕ
 cell text = (codes "<td>" ++ escaped text) ++ codes "</td>"
+
+-- an angle bracket or a quote
+abbrev pub is_markup : ℕ → Bool
+is_markup octet = octet == 60 || (octet == 62 || (octet == 34 || octet == 39))
+
+abbrev pub has_markup : List ℕ → Bool
+has_markup [] = false
+has_markup (octet ∷ text) = is_markup octet || has_markup text

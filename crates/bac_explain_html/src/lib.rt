@@ -6,9 +6,11 @@
 
 mod escape;
 mod explain;
+mod laws;
 mod note;
 mod page;
 mod picture;
 mod row;
 
 pub use explain::explain_html_over;
+pub use laws::escaped_texts_have_no_markup;
