@@ -2,11 +2,12 @@
 """`bac explain` of generated captures: explain.py PROGRAM FIRST COUNT [--tshark]
 
 Seeds FIRST and on, COUNT of them, each with transactions of three clients and two servers (exchanges.py) as capture files in several formats. What the rules of
-docs/COMMANDS.md, told again in transactions.py, make of the frames has to be what `bac explain` prints, but for the words of requests and answers; so too with filters, and where more
+docs/COMMANDS.md, told again in transactions.py, make of the frames has to be what `bac explain` prints, as lines and as objects of JSON, but for what requests and answers carry; so too with filters, and where more
 transactions are open than may be. And README.md has to be right about docs/lost.pcapng. With --tshark, text2pcap and mergecap write the files as pcapng, editcap as
 pcap with micro- and nanoseconds, and tshark tells the frames' moments and addresses; what it shows of their APDUs has to be what was read from the octets here.
 """
 
+import json
 import random
 import subprocess
 import sys
@@ -160,9 +161,25 @@ def is_explained(program, path, watch, title):
     done = subprocess.run([program, 'explain', *watch.selection.words(), str(path)], capture_output=True, text=True, timeout=120)
     ours = [without_words(line) for line in done.stdout.split('\n')[:-1]]
     if ours == watch.lines and done.returncode == watch.status() and not done.stderr:
-        return True
+        return are_objects(program, path, watch, title)
     differ = [(one, two) for one, two in zip(ours, watch.lines) if one != two]
     print(f'WRONG {title}: {differ[:3]}, {len(ours)} lines, not {len(watch.lines)}, status {done.returncode}, {done.stderr}')
+    return False
+
+
+CARRIED = ('request', 'request_text', 'answer', 'answer_text')
+
+
+def are_objects(program, path, watch, title):
+    """Whether `bac explain --json` prints those objects of a file, apart from what APDUs carry, and ends with their status."""
+    done = subprocess.run([program, 'explain', '--json', *watch.selection.words(), str(path)], capture_output=True, text=True, timeout=120)
+    whole = [json.loads(line) for line in done.stdout.split('\n')[:-1]]
+    ours = [{name: value for name, value in it.items() if name not in CARRIED} for it in whole]
+    carried = all(set(CARRIED) <= set(it) for it in whole if it['kind'] == 'transaction')
+    if ours == watch.objects and carried and done.returncode == watch.status() and not done.stderr:
+        return True
+    differ = [(one, two) for one, two in zip(ours, watch.objects) if one != two]
+    print(f'WRONG {title}, JSON: {differ[:2]}, {len(ours)} objects, not {len(watch.objects)}, status {done.returncode}, {done.stderr}')
     return False
 
 

@@ -1,8 +1,9 @@
 """What frames make of transactions by the rules of docs/COMMANDS.md (Explain), told again: the model that explain.py holds `bac explain` against."""
 
 from dataclasses import dataclass, field
+from datetime import datetime, timezone
 
-from sightings import ABORT, COMPLEX_ACK, REJECT
+from sightings import ABORT, COMPLEX_ACK, ERROR, REJECT
 
 KEEP, LIFE, MOST_SENDS, ROUND, OPEN_LIMIT = 65_000, 5_000, 4, 128, 16_384
 APPEND, WRITE_FILE = bytes.fromhex('07C4028000010E31FF61AA0F'), 7
@@ -101,6 +102,8 @@ class Transaction:
     naks: int = 0
     gave_up: bool = False
     findings: int = 0
+    frames: list = field(default_factory=list)
+    wrongs: list = field(default_factory=list)
 
     def ending(self):
         """How it counts, whatever was seen of an answer whose end was not."""
@@ -126,6 +129,18 @@ class Transaction:
             name = self.ending() if self.answer.whole else 'began'
             asked.append(f'  {name} after={self.delay()} {counts(self.answer)}')
         return asked + ([f'  negative SegmentACKs={self.naks}'] if self.naks else []) + self.last_line()
+
+    def status(self):
+        """The word of its object of JSON."""
+        return 'error' if self.answer and self.answer.whole and self.answer.apdu.kind == ERROR else self.ending()
+
+    def members(self):
+        """Its object of JSON, but for what its APDUs carry."""
+        answered = {'after': self.delay(), 'answers': self.answer.times, 'answer_segments': self.answer.more} if self.answer else {
+            'after': None, 'answers': 0, 'answer_segments': 0}
+        return answered | {'kind': 'transaction', 'asked_at': self.request.moment, 'time': rfc_3339(self.request.moment), 'requests': self.request.times,
+                           'segments': self.request.more, 'status': self.status(), 'unanswered': self.is_unanswered(), 'given_up': self.gave_up,
+                           'negative_acks': self.naks, 'frames': self.frames, 'findings': self.wrongs}
 
     def delay(self):
         return max(self.answer.moment - self.request.moment, 0)
@@ -165,6 +180,15 @@ class Transaction:
         if self.answer and isinstance(self.answer.grant, tuple):
             self.answer.grant = (*self.answer.grant[:2], 0)
         return finding
+
+
+def rfc_3339(moment):
+    seconds = datetime.fromtimestamp(moment // 1000, timezone.utc)
+    return f'{seconds:%Y-%m-%dT%H:%M:%S}.{moment % 1000:03d}Z'
+
+
+def ends_of(key):
+    return {'client': key[0], 'server': key[1], 'invoke_id': key[2]}
 
 
 def counts(sent):
@@ -209,6 +233,7 @@ class Watch:
     selection: Selection = field(default_factory=Selection)
     open: dict = field(default_factory=dict)
     lines: list = field(default_factory=list)
+    objects: list = field(default_factory=list)
     ends: dict = field(default_factory=lambda: {'answered': 0, 'rejected': 0, 'aborted': 0, 'unanswered': 0})
     findings: int = 0
     frames: int = 0
@@ -221,6 +246,7 @@ class Watch:
         it = self.open.pop(key)
         if self.selection.passes(key, it):
             self.lines += [f'transaction {key[0]} > {key[1]} id {key[2]}', *it.lines()]
+            self.objects.append(it.members() | ends_of(key))
             self.shown += 1
             self.wrong += it.is_unanswered() or it.findings > 0
         if it.answer:
@@ -276,6 +302,10 @@ class Watch:
         if first and seen.moment - self.open[first].request.last > KEEP:
             self.close(first)
         finding = {'asks': self.asks, 'answers': self.answers, 'gives up': self.gives_up}.get(seen.apdu.role(), self.takes)(seen)
+        it = self.awaited(seen)
+        if it:
+            it.frames.append(seen.number)
+            it.wrongs += [finding] if finding else []
         if finding:
             self.find(seen, finding)
 
@@ -288,12 +318,14 @@ class Watch:
         if self.selection.passes(seen.key, it):
             self.wrong += it is None
             self.lines.append(f'frame {seen.number}: {finding}, {seen.key[0]} > {seen.key[1]} id {seen.key[2]}')
+            self.objects.append({'kind': 'finding', 'frame': seen.number, 'finding': finding} | ends_of(seen.key))
 
     def see_unread(self, number, why):
         """One frame that cannot be looked at."""
         self.frames += 1
         self.unread += 1
         self.lines.append(f'frame {number}: {why}')
+        self.objects.append({'kind': 'unread', 'frame': number, 'text': why})
 
     def end(self):
         for key in list(self.open):
@@ -303,6 +335,8 @@ class Watch:
         if self.selection.is_narrow():
             self.lines.append(f'shown={self.shown} of {sum(self.ends.values())}')
         self.lines.append(f'transactions={sum(self.ends.values())} {ends} slowest={slowest} findings={self.findings} frames={self.frames} unread={self.unread}')
+        self.objects.append(self.ends | {'kind': 'summary', 'transactions': sum(self.ends.values()), 'shown': self.shown, 'slowest': self.slowest,
+                                         'findings': self.findings, 'frames': self.frames, 'unread': self.unread})
 
     def status(self):
         return 1 if self.unread or (self.wrong if self.selection.fail else self.findings) else 0

@@ -1,3 +1,2 @@
-pub mod Times
 pub mod Sole
 pub mod Told

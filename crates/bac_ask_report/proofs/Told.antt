@@ -10,7 +10,8 @@ use Rattle.bac_ask_report.specs.Objects.{AnswerMembers, AreMembers, AskedMembers
 use Rattle.bac_ask_report.specs.Questions.{object_asked, property_asked, verb}
 use Rattle.bac_ask_report.specs.Records.{AskRecord}
 use Rattle.bac_ask_report.specs.Rows.{AreCells, AreSoleCells, AreValueCells, Cells, IsRow, fields_of, sole_value}
-use Rattle.bac_ask_report.specs.Times.{IsTextOf, IsTimeForm}
+use Rattle.bac_ask_report.specs.TimeForms.{IsTimeForm}
+use Rattle.bac_moment.specs.Times.{IsTextOf}
 
 -- by the only value, or none
 pub values_told : (run words : List ℕ) (values : Items) (sole : Option (Data × Data)) (c : Cells) → AreElementForms values run → sole ≡ sole_value values

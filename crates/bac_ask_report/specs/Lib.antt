@@ -1,7 +1,7 @@
 pub mod Records
+pub mod TimeForms
 pub mod Questions
 pub mod Answers
-pub mod Times
 pub mod Rows
 pub mod Cells
 pub mod Objects

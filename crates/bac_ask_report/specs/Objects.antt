@@ -10,7 +10,7 @@ use Rattle.bac_ask_report.specs.Answers.{Answer, answer_of, status_word}
 use Rattle.bac_ask_report.specs.Answers.Answer.{Values, Other, File, Written, Done, Fault, Reason, Nothing}
 use Rattle.bac_ask_report.specs.Questions.{object_asked, property_asked, verb}
 use Rattle.bac_ask_report.specs.Records.{AskRecord, LineName, Unnamed, Without, Named}
-use Rattle.bac_ask_report.specs.Times.{IsTextOf}
+use Rattle.bac_moment.specs.Times.{IsTextOf}
 
 -- ---- what came
 

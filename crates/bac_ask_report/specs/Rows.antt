@@ -11,7 +11,7 @@ use Rattle.bac_ask_report.specs.Answers.{Answer, answer_of}
 use Rattle.bac_ask_report.specs.Answers.Answer.{Values, Other, File, Written, Done, Fault, Reason, Nothing}
 use Rattle.bac_ask_report.specs.Questions.{object_asked, property_asked, property_column}
 use Rattle.bac_ask_report.specs.Records.{AskRecord, LineName, Unnamed, Without, Named}
-use Rattle.bac_ask_report.specs.Times.{IsTextOf}
+use Rattle.bac_moment.specs.Times.{IsTextOf}
 
 -- ---- the kind and the value
 

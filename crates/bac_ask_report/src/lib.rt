@@ -7,7 +7,6 @@ mod members;
 mod object;
 mod question;
 mod record;
-mod time;
 
 pub use csv_row::{print_csv_header, print_csv_row};
 pub use object::{print_ask_object, time_json};

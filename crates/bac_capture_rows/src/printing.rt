@@ -2,6 +2,8 @@
 use crate::seen::file_of;
 use crate::words::octets_of;
 use bac_capture::{Ports, check_capture_over};
+use bac_explain_html::explain_html_over;
+use bac_explain_json::explain_json_over;
 use bac_explain_report::{ChartFormat, ReportOptions, chart_over, explain_over};
 use std::alloc::Global;
 use std::io::{BufRead, BufReader, Write};
@@ -16,6 +18,10 @@ pub(crate) enum Print {
     Named,
     /// The transactions, as those options say.
     Explain(ReportOptions),
+    /// The same as objects of JSON.
+    ExplainJson(ReportOptions),
+    /// The same as a page of HTML.
+    ExplainHtml(ReportOptions),
     /// A chart of them.
     Chart(ChartFormat),
 }
@@ -32,6 +38,8 @@ pub(crate) fn status_of<R: BufRead, O: Write>(
         Print::Check => check_capture_over(alloc, input, PORTS, false, out, err),
         Print::Named => check_capture_over(alloc, input, PORTS, true, out, err),
         Print::Explain(options) => explain_over(alloc, options, input, PORTS, out, err),
+        Print::ExplainHtml(options) => { explain_html_over(alloc, options, input, PORTS, out, err) }
+        Print::ExplainJson(options) => { explain_json_over(alloc, options, input, PORTS, out, err) }
         Print::Chart(form) => chart_over(alloc, form, input, PORTS, out, err),
     };
     status.code()

@@ -19,6 +19,10 @@ enum Kind {
     Seen(Print),
     /// A capture file of datagrams that are seen, behind a line of options.
     Selected,
+    /// The same, printed as objects of JSON.
+    SelectedJson,
+    /// The same, printed as a page of HTML.
+    SelectedHtml,
     /// A capture file in hexadecimal digits.
     File(Print),
     /// How a chart ends.
@@ -34,6 +38,8 @@ const KINDS: &[(&str, Kind)] = &[
     ("worlds", Kind::Worlds),
     ("explain", Kind::Seen(Print::Explain(ALL))),
     ("explain-with", Kind::Selected),
+    ("explain-json", Kind::SelectedJson),
+    ("explain-html", Kind::SelectedHtml),
     ("chart", Kind::Seen(Print::Chart(ChartFormat::Chart))),
     ("mermaid", Kind::Seen(Print::Chart(ChartFormat::Mermaid))),
     ("end", Kind::End),
@@ -68,6 +74,14 @@ fn play_lines(alloc: Global, kind: Kind, lines: &str, out: &mut Vec<u8>) -> Opti
         Kind::Selected => {
             let (options, lines) = lines.split_once('\n')?;
             print_seen(alloc, Print::Explain(options_of(options)?), lines, out)
+        }
+        Kind::SelectedJson => {
+            let (options, lines) = lines.split_once('\n')?;
+            print_seen(alloc, Print::ExplainJson(options_of(options)?), lines, out)
+        }
+        Kind::SelectedHtml => {
+            let (options, lines) = lines.split_once('\n')?;
+            print_seen(alloc, Print::ExplainHtml(options_of(options)?), lines, out)
         }
         Kind::File(print) => print_octets(alloc, print, lines, out),
         Kind::End => print_end_of_chart(alloc, lines, out),

@@ -5,6 +5,7 @@ use Rattle.bac_npdu.specs.Views.{peer_view}
 use Rattle.bac_text.specs.declared.status.Status.{Status}
 use Rattle.bac_text.specs.declared.status.Status.TheVariants as status
 use Rattle.bac_command_line.specs.Asked.{AreAskedFrom}
+use Rattle.bac_command_line.specs.Explaining.{IsJsonFile, IsPageFile}
 use Rattle.bac_command_line.specs.Files.{IsChartedFile, IsCheckedFile, IsExplainedFile, IsShownFile, IsSimulatedFile}
 use Rattle.bac_command_line.specs.Json as json
 use Rattle.bac_command_line.specs.Keeping.{Databases, IsListed, IsServedKept}
@@ -34,6 +35,8 @@ IsPerformed IsAt IsOn IsClock IsOnDatabase (task.CheckJsonLines path) s old new 
 IsPerformed IsAt IsOn IsClock IsOnDatabase (task.Check named capture) s old new = IsCheckedFile IsAt named capture.path.now capture.port s old new
 IsPerformed IsAt IsOn IsClock IsOnDatabase (task.CheckLines path) s old new = AreCheckedLines IsAt path.now s old new
 IsPerformed IsAt IsOn IsClock IsOnDatabase (task.Explain options capture) s old new = IsExplainedFile IsAt options capture.path.now capture.port s old new
+IsPerformed IsAt IsOn IsClock IsOnDatabase (task.ExplainJson options capture) s old new = IsJsonFile IsAt options capture.path.now capture.port s old new
+IsPerformed IsAt IsOn IsClock IsOnDatabase (task.ExplainHtml options capture) s old new = IsPageFile IsAt options capture.path.now capture.port s old new
 IsPerformed IsAt IsOn IsClock IsOnDatabase (task.Chart form capture) s old new = IsChartedFile IsAt form capture.path.now capture.port s old new
 IsPerformed IsAt IsOn IsClock IsOnDatabase (task.Simulate script) s old new = IsSimulatedFile IsAt script.notes script.path.now s old new
 IsPerformed IsAt IsOn IsClock IsOnDatabase (task.Show view script) s old new = IsShownFile IsAt view script.notes script.path.now s old new

@@ -7,6 +7,7 @@ ghost use Rattle.bac_command_line.specs.Tasks.{IsPerformed};
 
 use crate::asking_lines::ask_lines;
 use crate::environment::Environment;
+use crate::explaining::{explain_html, explain_json};
 use crate::files::{OpenFiles, chart, check, explain, show, simulate};
 use crate::forgetting::forget_kept;
 use crate::grammar::matches;
@@ -49,6 +50,12 @@ fn perform<F: OpenFiles, M: Machine, O: Write, E: Write>(
         Task::Check { named, capture } => check(alloc, files, named, &capture, out, err),
         Task::CheckLines(path) => check_lines(alloc, files, path, out, err),
         Task::Explain { options, capture } => { explain(alloc, files, options, &capture, out, err) }
+        Task::ExplainJson { options, capture } => {
+            explain_json(alloc, files, options, &capture, out, err)
+        }
+        Task::ExplainHtml { options, capture } => {
+            explain_html(alloc, files, options, &capture, out, err)
+        }
         Task::Chart { form, capture } => chart(alloc, files, form, &capture, out, err),
         Task::Simulate(script) => simulate(alloc, files, &script, out, err),
         Task::Show { view, script } => show(alloc, files, view, &script, out, err),

@@ -11,6 +11,7 @@ mod command;
 mod completion;
 mod ends;
 mod environment;
+mod explaining;
 mod file_words;
 mod files;
 mod flights;

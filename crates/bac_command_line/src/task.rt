@@ -42,6 +42,16 @@ pub(crate) enum Task<'m, 'a> {
         options: ReportOptions,
         capture: CaptureFile<'a>,
     },
+    /// The same as objects of JSON.
+    ExplainJson {
+        options: ReportOptions,
+        capture: CaptureFile<'a>,
+    },
+    /// The same as a page of HTML.
+    ExplainHtml {
+        options: ReportOptions,
+        capture: CaptureFile<'a>,
+    },
     /// The datagrams of this capture, drawn as that.
     Chart {
         form: ChartFormat,
@@ -175,13 +185,17 @@ pub(crate) fn task_of<'m, 'a>(
         }
         ("explain", given) => {
             let capture = capture_of(given)?;
-            match form_of(given) {
-                Some(form) => Some(Task::Chart { form, capture }),
-                None => Some(Task::Explain {
-                    options: options_of(given)?,
-                    capture,
-                }),
+            if let Some(form) = form_of(given) {
+                return Some(Task::Chart { form, capture });
             }
+            let options = options_of(given)?;
+            if given.get_flag("json") {
+                return Some(Task::ExplainJson { options, capture });
+            }
+            if given.get_flag("html") {
+                return Some(Task::ExplainHtml { options, capture });
+            }
+            Some(Task::Explain { options, capture })
         }
         ("simulate", given) => {
             let path = given.get_str("FILE")?;

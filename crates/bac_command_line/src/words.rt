@@ -145,7 +145,9 @@ const EXPLAIN_EXAMPLES: &str = "\
 Example: bac explain capture.pcapng
 Example: bac explain --chart capture.pcapng
 Example: bac explain --peer 192.168.1.20 --slower 1000 capture.pcapng
-Example: bac explain --unanswered --fail capture.pcapng";
+Example: bac explain --unanswered --fail capture.pcapng
+Example: bac explain --json capture.pcapng | jq 'select(.unanswered)'
+Example: bac explain --html capture.pcapng > capture.html";
 
 /// What `explain` takes.
 const EXPLAIN: &[Word] = &[
@@ -211,6 +213,20 @@ const EXPLAIN: &[Word] = &[
         need: Need::Never,
         against: &["chart", "mermaid"],
         help: "Ends with status 1 if a transaction that is printed is unanswered or has a finding, or a frame cannot be read",
+    },
+    Word {
+        name: "json",
+        form: WordForm::Flag,
+        need: Need::Never,
+        against: &["chart", "mermaid"],
+        help: "Prints each transaction, and the counts, as an object of JSON, one a line",
+    },
+    Word {
+        name: "html",
+        form: WordForm::Flag,
+        need: Need::Never,
+        against: &["chart", "mermaid", "json"],
+        help: "Prints a page of HTML: the transactions as a table that sorts and filters, with a picture of each",
     },
 ];
 

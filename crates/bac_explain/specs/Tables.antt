@@ -8,11 +8,12 @@ use Rattle.bac_explain.specs.declared.part.Role.{Role}
 use Rattle.bac_explain.specs.declared.part.Role.TheVariants.{Request, Answer, Acknowledgement, GivesUp}
 use Rattle.bac_explain.specs.declared.part.Taken.{Taken}
 use Rattle.bac_explain.specs.declared.sent.Place.{Place}
+use Rattle.bac_explain.specs.declared.step.Step.{Step}
 use Rattle.bac_explain.specs.declared.table.TheConstants.{OPEN_LIMIT}
 use Rattle.bac_explain.specs.Keys.{Key, same_key}
 use Rattle.bac_explain.specs.Sent.{is_other, place_of}
 use Rattle.bac_explain.specs.Transactions.{TransactionView, first_finding, first_request, is_live, is_awaited, requested, reuse_finding}
-use Rattle.bac_explain.specs.Transactions.{answered, acknowledged, given_up, noted}
+use Rattle.bac_explain.specs.Transactions.{answered, acknowledged, given_up, noted, traced}
 
 abbrev pub Transactions : Type 0
 Transactions = List (Slot Key TransactionView)
@@ -120,3 +121,13 @@ heard now key (Request number) octets slots = request_heard now key number octet
 heard now key (Answer number) octets slots = answer_heard now key number octets (awaited now key slots) slots
 heard now key (Acknowledgement taken) octets slots = acknowledgement_heard key taken (awaited now key slots) slots
 heard now key GivesUp octets slots = giving_up_heard key (awaited now key slots) slots
+
+-- ---- a frame
+
+-- a frame is kept with the transaction that awaits replies
+abbrev pub traced_in : Key → Step → Option TransactionView → Transactions → Transactions
+traced_in key step None slots = slots
+traced_in key step (Some t) slots = with_value same_key key (traced step t) slots
+
+abbrev pub with_step : ℕ → Key → Step → Transactions → Transactions
+with_step now key step slots = traced_in key step (awaited now key slots) slots

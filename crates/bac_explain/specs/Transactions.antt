@@ -1,5 +1,5 @@
 -- One transaction as it is seen: the effect of each of its APDUs, and what is wrong with that APDU.
-use Rattle.std.specs.Prelude.{ℕ, ◌+◌, ◌-◌, ◌==◌, ◌&&◌, nat_le, nat_lt, not, Bool, true, false, if◌then◌else◌, List, Option, Some, None, is_none, is_some}
+use Rattle.std.specs.Prelude.{ℕ, ◌+◌, ◌-◌, ◌==◌, ◌&&◌, nat_le, nat_lt, not, Bool, true, false, if◌then◌else◌, List, [], ◌∷◌, ◌++◌, Option, Some, None, is_none, is_some}
 use Rattle.std.specs.Option.{option_map}
 use Rattle.bac_protocol.specs.declared.times.TheConstants.{KEEP, LIFE}
 use Rattle.bac_explain.specs.declared.finding.Finding.{Finding}
@@ -10,6 +10,7 @@ use Rattle.bac_explain.specs.declared.grant.Grant.TheVariants.{First, Unknown, W
 use Rattle.bac_explain.specs.declared.numbers.TheConstants.{MOST_SENDS}
 use Rattle.bac_explain.specs.declared.part.Taken.{Taken}
 use Rattle.bac_explain.specs.declared.sent.Place.{Place}
+use Rattle.bac_explain.specs.declared.step.Step.{Step}
 use Rattle.bac_explain.specs.declared.sent.Place.TheVariants.{Again, Next, Back, Ahead, Other}
 use Rattle.bac_explain.specs.Appends.{is_performed_twice}
 use Rattle.bac_explain.specs.Choices.{asked_by, is_of_service, keeps_answer}
@@ -19,7 +20,8 @@ use Rattle.bac_explain.specs.Sent.{SentView, first_sent, counted, place_of, with
 use Rattle.bac_explain.specs.Wholes.{is_server_abort}
 
 -- its request, whether that came soon after another with its key, the first of its replies, whether an Abort of the server was seen within
--- that, how many negative SegmentACKs were seen, whether an Abort of the client was, and how many of its APDUs had something wrong
+-- that, how many negative SegmentACKs were seen, whether an Abort of the client was, how many of its APDUs had something wrong, and the frames
+-- that are kept of it, in the order in which they were seen
 pub record TransactionView : Type 0 where
   pub request : SentView
   pub reused : Bool
@@ -28,6 +30,7 @@ pub record TransactionView : Type 0 where
   pub naks : ℕ
   pub gave_up : Bool
   pub findings : ℕ
+  pub steps : List Step
 
 abbrev pub first_request : ℕ → Option ℕ → List ℕ → (reused : Bool) → TransactionView
 first_request now number octets reused = record {
@@ -38,6 +41,7 @@ first_request now number octets reused = record {
   naks = 0;
   gave_up = false;
   findings = 0;
+  steps = [];
 }
 
 -- what is wrong with one of its APDUs, if anything, is counted
@@ -158,3 +162,7 @@ acknowledged a t = with_noted (nak_counted a.nak (segments_taken a t))
 -- an Abort of the client is seen
 abbrev pub given_up : TransactionView → TransactionView
 given_up t = record t { gave_up = true }
+
+-- a frame of it is kept
+abbrev pub traced : Step → TransactionView → TransactionView
+traced step t = record t { steps = t.steps ++ step ∷ [] }

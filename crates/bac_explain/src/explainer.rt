@@ -1,8 +1,8 @@
 //! What a capture shows of transactions, APDU by APDU.
-ghost use Rattle.std.specs.Prelude.{◌≡◌, [], None, Some, IfOk, OnErr, is_some};
+ghost use Rattle.std.specs.Prelude.{◌≡◌, [], None, Some, IfOk, OnErr, OnOk, is_some};
 ghost use Rattle.std.specs.Option.{option_map};
 ghost use Rattle.bac_explain.specs.KeyViews.{key_view};
-ghost use Rattle.bac_explain.specs.Tables.{acknowledgement_heard, awaited, begins, giving_up_heard, goes_on, heard, live, oldest_out, over_out};
+ghost use Rattle.bac_explain.specs.Tables.{acknowledgement_heard, awaited, begins, giving_up_heard, goes_on, heard, live, oldest_out, over_out, with_step};
 ghost use Rattle.bac_slots.specs.Slots.{value_at};
 ghost use Rattle.bac_explain.specs.Keys.{same_key};
 ghost use Rattle.bac_explain.specs.Transactions.{TransactionView, requested, reuse_finding};
@@ -14,6 +14,7 @@ use crate::finding::Finding;
 use crate::key::TransactionKey;
 use crate::part::{Role, Taken};
 use crate::sent::Place;
+use crate::step::Step;
 use crate::table::{Closed, OPEN_LIMIT, OpenTable, enter, find, take_oldest, take_over};
 use crate::transaction::{Transaction, first_finding};
 use bac_slots::SlotTable;
@@ -234,6 +235,21 @@ impl Explainer {
             return;
         };
         transaction.given_up();
+    }
+
+    /// Keeps a frame with the transaction that has its key, if that awaits replies. Returns an `Err` only if an allocation fails; nothing
+    /// has changed then.
+    pub fn trace(&mut self, now: u64, key: &TransactionKey, step: Step) -> Result<(), AllocError>
+        ensures ok { OnOk result (self.new ≡ with_step now (key_view key.now) step self.old) }
+        ensures err { OnErr result (self.new ≡ self.old) }
+    {
+        if !self.is_awaited(now, key) {
+            return Ok(());
+        }
+        let Some(transaction) = self.table.get_mut(key) else {
+            return Ok(());
+        };
+        transaction.trace(step)
     }
 
     /// Handles an APDU of the transaction with this key, seen at a moment in milliseconds. Returns what is wrong with it, and the

@@ -1,9 +1,9 @@
 //! One transaction, as it was seen.
-ghost use Rattle.std.specs.Prelude.{◌≡◌, ◌-◌, IfOk, OnErr, nat_le, Some};
+ghost use Rattle.std.specs.Prelude.{◌≡◌, ◌-◌, IfOk, OnErr, OnOk, nat_le, Some};
 ghost use Rattle.std.specs.Option.{option_map};
 ghost use Rattle.bac_explain.specs.Transactions.{acknowledged, again_finding, answer_finding, answer_taken, answered, breaks_off, first_finding, first_request, given_up};
 ghost use Rattle.bac_explain.specs.Transactions.{is_awaited, is_live, is_old, nak_counted, noted, other_answer, request_finding, requested, reuse_finding};
-ghost use Rattle.bac_explain.specs.Transactions.{segment_finding, segments_taken};
+ghost use Rattle.bac_explain.specs.Transactions.{segment_finding, segments_taken, traced};
 ghost use Rattle.bac_explain.specs.Views.{transaction_view};
 ghost use Rattle.bac_explain.specs.SentViews.{sent_view};
 
@@ -14,6 +14,7 @@ use crate::grant::Grant;
 use crate::numbers::{MOST_SENDS, one_more};
 use crate::part::Taken;
 use crate::sent::{Place, Sent};
+use crate::step::Step;
 use crate::whole::is_server_abort;
 use bac_protocol::times::{KEEP, LIFE};
 use std::alloc::{AllocError, Global};
@@ -35,6 +36,8 @@ pub struct Transaction {
     pub gave_up: bool,
     /// How many of its APDUs had something wrong; the count saturates.
     pub findings: u64,
+    /// The frames that are kept of it, in the order in which they were seen.
+    pub steps: Vec<Step>,
 }
 
 /// What is wrong with the first APDU that is seen of a request or a reply.
@@ -134,6 +137,7 @@ impl Transaction {
             naks: 0,
             gave_up: false,
             findings: 0,
+            steps: Vec::new(alloc),
         })
     }
 
@@ -286,6 +290,15 @@ impl Transaction {
         let finding = Some(Finding::NegativeAck);
         self.note(finding);
         finding
+    }
+
+    /// Keeps a frame of it. Nothing changes if the allocation fails.
+    pub(crate) fn trace(&mut self, step: Step) -> Result<(), AllocError>
+        ensures ok { OnOk result (transaction_view self.new ≡ traced step (transaction_view self.old)) }
+        ensures err { OnErr result (transaction_view self.new ≡ transaction_view self.old) }
+    {
+        self.steps.push(step)?;
+        Ok(())
     }
 
     /// An Abort of the client is seen.

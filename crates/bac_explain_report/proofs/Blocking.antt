@@ -4,63 +4,65 @@ use Rattle.std.specs.Io.KnownBytes.{Appends}
 use Rattle.std.proofs.KnownBytes.{Appends-nil, Appends-trans}
 use Rattle.bac_explain.specs.Tables.{Transactions}
 use Rattle.bac_explain_report.specs.Accounts.{Account}
-use Rattle.bac_explain_report.specs.Rest.{AreBlocks, ArePrinted, IsStep, IsStepIn}
+use Rattle.bac_explain_report.specs.Rest.{AreShown, ArePrinted, IsStep, IsStepIn, Printing}
 use Rattle.bac_explain_report.specs.declared.selection.ReportOptions.{ReportOptions}
 use Rattle.bac_explain_report.specs.declared.tally.Tally.{Tally}
 
--- some were printed, and the others follow
-pub record IsSoFar (start now : Account) (old new : Option (List ℕ)) : Type 0 where
-  pub text : List ℕ
-  pub printed : Appends old new text
-  pub then : (more : List ℕ) (final : Tally) → AreBlocks now.options.selection now.slots now.tally more final → AreBlocks start.options.selection start.slots start.tally (text ++ more) final
+module _ (IsOne : Printing) where
+  -- some were printed, and the others follow
+  pub record IsSoFar (start now : Account) (old new : Option (List ℕ)) : Type 0 where
+    pub text : List ℕ
+    pub printed : Appends old new text
+    pub then : (more : List ℕ) (final : Tally) → AreShown IsOne now.options.selection now.slots now.tally more final
+        → AreShown IsOne start.options.selection start.slots start.tally (text ++ more) final
 
-pub none_so_far : (a : Account) (out : Option (List ℕ)) → IsSoFar a a out out
-none_so_far a out = record { text = []; printed = Appends-nil out; then = λ more final r. r }
+  pub none_so_far : (a : Account) (out : Option (List ℕ)) → IsSoFar a a out out
+  none_so_far a out = record { text = []; printed = Appends-nil out; then = λ more final r. r }
 
--- the lines of a step, and the others after them
-record GoesOn (o : ReportOptions) (slots : Transactions) (tally : Tally) (next : Account) (old new : Option (List ℕ)) : Type 0 where
-  pub text : List ℕ
-  pub printed : Appends old new text
-  pub then : (more : List ℕ) (final : Tally) → AreBlocks next.options.selection next.slots next.tally more final
-      → AreBlocks o.selection slots tally (text ++ more) final
+  -- what a step prints, and the others after it
+  record GoesOn (o : ReportOptions) (slots : Transactions) (tally : Tally) (next : Account) (old new : Option (List ℕ)) : Type 0 where
+    pub text : List ℕ
+    pub printed : Appends old new text
+    pub then : (more : List ℕ) (final : Tally) → AreShown IsOne next.options.selection next.slots next.tally more final
+        → AreShown IsOne o.selection slots tally (text ++ more) final
 
-goes_on : (o : ReportOptions) (slots : Transactions) (tally : Tally) (next : Account) (b c : Option (List ℕ)) → IsStepIn o slots tally next b c true
-    → GoesOn o slots tally next b c
-goes_on o [] tally next b c t = absurd t
-goes_on o (s ∷ slots) tally next b c t = record {
-  text = t.1.text;
-  printed = t.1.printed;
-  then = λ more final r. record {
-    first = t.1.text;
-    is_block = t.1.is_block;
-    others = more;
-    is = refl;
-    are_others = subst (λ (a : Account). AreBlocks a.options.selection a.slots a.tally more final) t.0 r;
-  };
-}
+  goes_on : (o : ReportOptions) (slots : Transactions) (tally : Tally) (next : Account) (b c : Option (List ℕ)) → IsStepIn IsOne o slots tally next b c true
+      → GoesOn o slots tally next b c
+  goes_on o [] tally next b c t = absurd t
+  goes_on o (s ∷ slots) tally next b c t = record {
+    text = t.1.text;
+    printed = t.1.printed;
+    then = λ more final r. record {
+      first = t.1.text;
+      is_shown = t.1.is_shown;
+      others = more;
+      is = refl;
+      are_others = subst (λ (a : Account). AreShown IsOne a.options.selection a.slots a.tally more final) t.0 r;
+    };
+  }
 
-pub more_so_far : (start now next : Account) (a b c : Option (List ℕ)) (m : Bool) → IsSoFar start now a b → IsStep now next b c m → m ≡ true
-    → IsSoFar start next a c
-more_so_far start now next a b c m sofar step e =
-    let g = goes_on now.options now.slots now.tally next b c (subst (λ (q : Bool). IsStep now next b c q) e step) in
-    record {
-      text = sofar.text ++ g.text;
-      printed = Appends-trans a b c _ _ sofar.printed g.printed;
-      then = λ more final r. subst (λ (l : List ℕ). AreBlocks start.options.selection start.slots start.tally l final) (sym (append_assoc sofar.text g.text more))
-          (sofar.then (g.text ++ more) final (g.then more final r));
-    }
+  pub more_so_far : (start now next : Account) (a b c : Option (List ℕ)) (m : Bool) → IsSoFar start now a b → IsStep IsOne now next b c m → m ≡ true
+      → IsSoFar start next a c
+  more_so_far start now next a b c m sofar step e =
+      let g = goes_on now.options now.slots now.tally next b c (subst (λ (q : Bool). IsStep IsOne now next b c q) e step) in
+      record {
+        text = sofar.text ++ g.text;
+        printed = Appends-trans a b c _ _ sofar.printed g.printed;
+        then = λ more final r. subst (λ (l : List ℕ). AreShown IsOne start.options.selection start.slots start.tally l final)
+            (sym (append_assoc sofar.text g.text more)) (sofar.then (g.text ++ more) final (g.then more final r));
+      }
 
-finished : (o : ReportOptions) (slots : Transactions) (tally : Tally) (next : Account) (b c : Option (List ℕ)) → IsStepIn o slots tally next b c false
-    → AreBlocks o.selection slots tally [] next.tally × (c ≡ b)
-finished o [] tally next b c t = ((refl, ap (λ (a : Account). a.tally) t.0), t.1)
-finished o (s ∷ slots) tally next b c t = absurd t
+  finished : (o : ReportOptions) (slots : Transactions) (tally : Tally) (next : Account) (b c : Option (List ℕ)) → IsStepIn IsOne o slots tally next b c false
+      → AreShown IsOne o.selection slots tally [] next.tally × (c ≡ b)
+  finished o [] tally next b c t = ((refl, ap (λ (a : Account). a.tally) t.0), t.1)
+  finished o (s ∷ slots) tally next b c t = absurd t
 
-pub all_printed : (start now next : Account) (a b c : Option (List ℕ)) (m : Bool) → IsSoFar start now a b → IsStep now next b c m → m ≡ false
-    → ArePrinted start next.tally a c
-all_printed start now next a b c m sofar step e =
-    let f = finished now.options now.slots now.tally next b c (subst (λ (q : Bool). IsStep now next b c q) e step) in
-    record {
-      text = sofar.text ++ [];
-      are = sofar.then [] next.tally f.0;
-      printed = Appends-trans a b c _ _ sofar.printed (subst (λ (o : Option (List ℕ)). Appends b o []) (sym f.1) (Appends-nil b));
-    }
+  pub all_printed : (start now next : Account) (a b c : Option (List ℕ)) (m : Bool) → IsSoFar start now a b → IsStep IsOne now next b c m → m ≡ false
+      → ArePrinted IsOne start next.tally a c
+  all_printed start now next a b c m sofar step e =
+      let f = finished now.options now.slots now.tally next b c (subst (λ (q : Bool). IsStep IsOne now next b c q) e step) in
+      record {
+        text = sofar.text ++ [];
+        are = sofar.then [] next.tally f.0;
+        printed = Appends-trans a b c _ _ sofar.printed (subst (λ (o : Option (List ℕ)). Appends b o []) (sym f.1) (Appends-nil b));
+      }

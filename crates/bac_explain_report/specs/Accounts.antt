@@ -4,9 +4,11 @@ use Rattle.bac_capture.specs.Blocks.{FrameView}
 use Rattle.bac_capture.specs.declared.fault.FileFault.{FileFault}
 use Rattle.bac_explain.specs.Keys.{Key}
 use Rattle.bac_explain.specs.Sightings.{SightingView}
-use Rattle.bac_explain.specs.Tables.{Transactions, ClosedView, Heard, awaited, heard, over_out}
+use Rattle.bac_explain.specs.Tables.{Transactions, ClosedView, Heard, awaited, heard, over_out, with_step}
 use Rattle.bac_explain.specs.Transactions.{TransactionView}
 use Rattle.bac_explain.specs.declared.finding.Finding.{Finding}
+use Rattle.bac_explain.specs.declared.part.Role.{Role}
+use Rattle.bac_explain.specs.declared.step.Step.{Step}
 use Rattle.bac_explain_report.specs.Seen.{seen_of}
 use Rattle.bac_explain_report.specs.Selections.{shown, told_finding}
 use Rattle.bac_explain_report.specs.Tallies.{no_frames, with_alone, with_blocks, with_finding, with_frame, with_unread}
@@ -59,10 +61,17 @@ hearing_in o key over h its t = hearing_of o key over h its (told_finding o.sele
 abbrev pub hearing : ReportOptions → ℕ → Key → (over : Option ClosedView) → Heard → Tally → FrameReportView × Account
 hearing o now key over h t = hearing_in o key over h (awaited now key h.slots) t
 
+-- the frame with this number is kept with the transaction
+abbrev pub step_of : (number now : ℕ) → Role → Option Finding → Step
+step_of number now role finding = record { frame = number; moment = now; role = role; finding = finding }
+
+abbrev pub kept : (number now : ℕ) → SightingView → Heard → Heard
+kept number now s h = record h { slots = with_step now s.key (step_of number now s.role h.finding) h.slots }
+
 -- the transaction that began first is closed if it is over; then the APDU is handled
 abbrev pub sighting_heard : ℕ → SightingView → Account → FrameReportView × Account
 sighting_heard now s a =
-    hearing a.options now s.key (over_out now a.slots).0 (heard now s.key s.role s.octets (over_out now a.slots).1) a.tally
+    hearing a.options now s.key (over_out now a.slots).0 (kept a.tally.frames now s (heard now s.key s.role s.octets (over_out now a.slots).1)) a.tally
 
 abbrev pub unheard : Unread → Account → FrameReportView × Account
 unheard why a = (UnreadReported why, record a { tally = with_unread a.tally })

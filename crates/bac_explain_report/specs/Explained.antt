@@ -1,15 +1,9 @@
 -- What `bac explain` prints for a capture file, and its status.
 use Rattle.std.specs.Prelude.{◌≡◌, ℕ, ◌++◌, List, [], codes, decimal, Option, Some, None, if◌then◌else◌}
-use Rattle.bac_capture.specs.declared.fault.FileFault.{FileFault}
-use Rattle.bac_capture.specs.Blocks.{FrameView}
-use Rattle.bac_capture.specs.FileReports.{no_heading, no_report}
-use Rattle.bac_capture.specs.FileReports as report
-use Rattle.bac_capture.specs.Walks.{Prints}
 use Rattle.bac_text.specs.declared.status.Status.{Status}
-use Rattle.bac_explain_report.specs.Accounts.{Account, FrameReportView, fresh, frame_heard, broken_off}
-use Rattle.bac_explain_report.specs.Rest.{AreBlocks}
-use Rattle.bac_explain_report.specs.Tallies.{status_of}
+use Rattle.bac_explain_report.specs.Blocks.{IsBlock}
 use Rattle.bac_explain_report.specs.FrameReports.{IsFrameReport}
+use Rattle.bac_explain_report.specs.Reported as report
 use Rattle.bac_explain_report.specs.Selections.{is_narrow}
 use Rattle.bac_explain_report.specs.declared.selection.ReportOptions.{ReportOptions}
 use Rattle.bac_explain_report.specs.declared.selection.Selection.{Selection}
@@ -38,29 +32,11 @@ shown_line s t = if is_narrow s then codes "shown=" ++ (decimal t.shown ++ (code
 abbrev pub last_lines : Selection → Tally → List ℕ
 last_lines s t = shown_line s t ++ summary_text t
 
+abbrev pub AreLastLines : Selection → Tally → (text : List ℕ) → Type 0
+AreLastLines s t text = text ≡ last_lines s t
+
 -- ---- a file
-
--- the report on the frame is printed with its number, and this is the next state
-pub record IsPrintedNext (what : FrameReportView × Account) (text : List ℕ) (next : Account) : Type 0 where
-  pub is : next ≡ what.1
-  pub told : IsFrameReport next.tally.frames what.0 text
-
--- a frame is handled; `also` is a port in addition to the sixteen
-abbrev pub SeesFrame : (also : Option ℕ) → Prints FrameView Account
-SeesFrame also frame a text next = IsPrintedNext (frame_heard also frame a) text next
-
-abbrev pub BreaksFile : Prints FileFault Account
-BreaksFile fault a text next = IsPrintedNext (broken_off fault a) text next
-
--- below the frames the transactions that are open are printed as far as they pass, and then the last lines
-pub record EndsFile (a : Account) (text : List ℕ) (status : Status) : Type 0 where
-  pub rest : List ℕ
-  pub tally : Tally
-  pub are : AreBlocks a.options.selection a.slots a.tally rest tally
-  pub told : text ≡ rest ++ last_lines a.options.selection tally
-  pub is : status ≡ status_of a.options.strict tally
 
 -- a file is explained frame by frame, and no other input
 abbrev pub IsReportOf : ReportOptions → Option ℕ → Option (List ℕ) → Option (List ℕ) → Option (List ℕ) → Status → Type 0
-IsReportOf o also input old new status =
-    report.IsReportOf Account (SeesFrame also) BreaksFile no_heading EndsFile no_report (fresh o) input old new status
+IsReportOf o also input old new status = report.IsReportOf [] IsFrameReport IsBlock AreLastLines o also input old new status

@@ -8,6 +8,7 @@ use Rattle.bac_explain_report.specs.Accounts.{HearingView, FrameReportView}
 use Rattle.bac_explain_report.specs.Accounts.FrameReportView.{NothingReported, UnreadReported, HeardReported}
 use Rattle.bac_explain_report.specs.Blocks.{IsBlock}
 use Rattle.bac_explain_report.specs.Keys.{key_text}
+use Rattle.bac_explain_report.specs.Rest.{IsOptional}
 use Rattle.bac_explain_report.specs.Unread.{unread_text}
 use Rattle.bac_explain_report.specs.declared.unread.Unread.{Unread}
 
@@ -22,8 +23,7 @@ finding_line number key (Some finding) =
     codes "frame " ++ (decimal number ++ (codes ": " ++ (finding_text finding ++ (codes ", " ++ (key_text key ++ codes "\n")))))
 
 abbrev pub IsOptionalBlock : Option ClosedView → List ℕ → Type 0
-IsOptionalBlock None text = text ≡ []
-IsOptionalBlock (Some c) text = IsBlock c text
+IsOptionalBlock c text = IsOptional IsBlock c text
 
 -- the transactions that close come first
 pub record IsHearing (number : ℕ) (h : HearingView) (text : List ℕ) : Type 0 where

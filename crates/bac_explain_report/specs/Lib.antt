@@ -9,8 +9,9 @@ pub mod Unread
 pub mod Seen
 pub mod Accounts
 pub mod AccountViews
-pub mod FrameReports
 pub mod Rest
+pub mod FrameReports
+pub mod Reported
 pub mod Explained
 pub mod Columns
 pub mod EndViews

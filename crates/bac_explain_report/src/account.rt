@@ -15,12 +15,12 @@ use crate::selection::ReportOptions;
 use crate::tally::Tally;
 use crate::unread::Unread;
 use bac_capture::{FileFault, Frame, Ports};
-use bac_explain::{Explainer, Finding, Sighting, TransactionKey};
+use bac_explain::{Explainer, Finding, Sighting, Step, TransactionKey};
 use std::alloc::{AllocError, Global};
 
 /// What is printed, the open transactions, and the counts.
 #[derive(Drop)]
-pub(crate) struct Account {
+pub struct Account {
     pub alloc: Global,
     pub options: ReportOptions,
     pub explainer: Explainer,
@@ -29,7 +29,7 @@ pub(crate) struct Account {
 
 impl Account {
     /// The state before the first frame. Returns an Err if the allocation of the table of transactions fails.
-    pub(crate) fn new(alloc: Global, options: ReportOptions) -> Result<Account, AllocError>
+    pub fn new(alloc: Global, options: ReportOptions) -> Result<Account, AllocError>
         ensures { IfOk result (λ a. account_view a ≡ fresh options) }
     {
         let explainer = Explainer::new(alloc)?;
@@ -78,6 +78,13 @@ impl Account {
             sighting.role,
             sighting.octets,
         )?;
+        let step = Step {
+            frame: self.tally.frames,
+            moment: now,
+            role: sighting.role,
+            finding: heard.finding,
+        };
+        self.explainer.trace(now, &sighting.key, step)?;
         let selection = self.options.selection;
         let finding = self.told_finding(now, sighting.key, heard.finding);
         self.tally = self

@@ -45,8 +45,8 @@ fn answer_words(alloc: Global, apdu: Apdu<'_>) -> Result<Vec<u8>, NoMemory>
     }
 }
 
-/// The words of a reply, from the octets of its APDU.
-pub(crate) fn octets_words(alloc: Global, octets: &[u8]) -> Result<Vec<u8>, NoMemory>
+/// The words of a reply, from the octets of its APDU; none if it is no reply. An Err is out of memory.
+pub fn told_words(alloc: Global, octets: &[u8]) -> Result<Vec<u8>, NoMemory>
     ensures { IfOk result (λ t. AreOctetsWords octets.now t.items) }
 {
     match read(octets) {

@@ -1,5 +1,5 @@
 //! The lines of a transaction.
-ghost use Rattle.std.specs.Prelude.{◌≡◌, IfOk, Some, string_bytes};
+ghost use Rattle.std.specs.Prelude.{◌≡◌, IfOk, string_bytes};
 ghost use Rattle.std.specs.Option.{option_map};
 ghost use Rattle.bac_explain.specs.Closings.{closed_view};
 ghost use Rattle.bac_explain.specs.KeyViews.{key_view};
@@ -7,13 +7,11 @@ ghost use Rattle.bac_explain.specs.SentViews.{sent_view};
 ghost use Rattle.bac_explain.specs.Views.{transaction_view};
 ghost use Rattle.bac_explain_report.specs.Blocks.{answer_name, asked_front, answered_front, counts_text, end_text, head_text, naks_text, part_text, rest_text, tail_text};
 ghost use Rattle.bac_explain_report.specs.Blocks.{IsAnsweredLine, IsAnswerLine, IsAskedLine, IsBlock};
-ghost use Rattle.bac_explain_report.specs.FrameReports.{IsOptionalBlock};
-ghost use Rattle.bac_explain_report.specs.Selections.{shown};
 
+use crate::answer_words::told_words;
 use crate::ending::answer_ending;
 use crate::keys::key_text;
-use crate::selection::Selection;
-use crate::{answer_words, request_words};
+use crate::request_words::asked_words;
 use bac_explain::{Closed, Sent, Transaction, TransactionKey};
 use bac_value::NoMemory;
 use std::alloc::{AllocError, Global};
@@ -44,7 +42,7 @@ fn asked_front(alloc: Global, sent: &Sent) -> Result<Vec<u8>, AllocError>
 fn asked_line(alloc: Global, sent: &Sent) -> Result<Vec<u8>, NoMemory>
     ensures { IfOk result (λ t. IsAskedLine (sent_view sent.now) t.items) }
 {
-    let words = request_words::octets_words(alloc, &sent.octets)?;
+    let words = asked_words(alloc, &sent.octets)?;
     let mut text = asked_front(alloc, sent)?;
     text.extend_from_slice(words.as_slice())?;
     text.push(b'\n')?;
@@ -76,7 +74,7 @@ fn answered_front(alloc: Global, asked: u64, sent: &Sent) -> Result<Vec<u8>, All
 fn answered_line(alloc: Global, asked: u64, sent: &Sent) -> Result<Vec<u8>, NoMemory>
     ensures { IfOk result (λ t. IsAnsweredLine asked (sent_view sent.now) t.items) }
 {
-    let words = answer_words::octets_words(alloc, &sent.octets)?;
+    let words = told_words(alloc, &sent.octets)?;
     let mut text = answered_front(alloc, asked, sent)?;
     text.extend_from_slice(words.as_slice())?;
     text.push(b'\n')?;
@@ -165,19 +163,4 @@ pub(crate) fn block(alloc: Global, closed: &Closed) -> Result<Vec<u8>, NoMemory>
     text.extend_from_slice(answer.as_slice())?;
     text.extend_from_slice(tail.as_slice())?;
     Ok(text)
-}
-
-/// The lines of a transaction, if it passes.
-pub(crate) fn shown_block(
-    alloc: Global,
-    selection: Selection,
-    closed: &Closed,
-) -> Result<Vec<u8>, NoMemory>
-    ensures { IfOk result (λ t. IsOptionalBlock (shown selection (Some (closed_view closed.now))) t.items) }
-{
-    if selection.passes(closed.key, &closed.transaction) {
-        block(alloc, closed)
-    } else {
-        Ok(Vec::new(alloc))
-    }
 }

@@ -10,7 +10,7 @@ use bac_explain::{Sent, Transaction};
 
 /// How a transaction ended.
 #[derive(Clone, Copy, Debug, PartialEq, Eq)]
-pub(crate) enum Ending {
+pub enum Ending {
     /// By a SimpleACK, a ComplexACK or an Error.
     Answered,
     /// By a Reject.
@@ -22,7 +22,8 @@ pub(crate) enum Ending {
 }
 
 impl Ending {
-    pub(crate) fn name(self) -> &'static str
+    /// The word for it.
+    pub fn name(self) -> &'static str
         ensures { result.now ≡ ending_name self }
     {
         match self {
@@ -77,7 +78,7 @@ fn seen_ending(broken_off: bool, gave_up: bool, answer: &Sent) -> Ending
 }
 
 /// The ending of a transaction: by its reply, or by an Abort if there is no whole reply.
-pub(crate) fn ending_of(transaction: &Transaction) -> Ending
+pub fn ending_of(transaction: &Transaction) -> Ending
     ensures { result ≡ ending_of (transaction_view transaction.now) }
 {
     match &transaction.answer {
@@ -87,7 +88,7 @@ pub(crate) fn ending_of(transaction: &Transaction) -> Ending
 }
 
 /// Whether the end of no answer was seen, nor an Abort of the server within one. The client may have given up.
-pub(crate) fn is_unanswered(transaction: &Transaction) -> bool
+pub fn is_unanswered(transaction: &Transaction) -> bool
     ensures { result ≡ is_unanswered (transaction_view transaction.now) }
 {
     match &transaction.answer {
@@ -97,7 +98,7 @@ pub(crate) fn is_unanswered(transaction: &Transaction) -> bool
 }
 
 /// The delay of the reply of a transaction, in milliseconds.
-pub(crate) fn delay_of(transaction: &Transaction) -> Option<u64>
+pub fn delay_of(transaction: &Transaction) -> Option<u64>
     ensures { result ≡ delay_of (transaction_view transaction.now) }
 {
     match &transaction.answer {

@@ -15,7 +15,7 @@ use std::alloc::{AllocError, Global};
 
 /// The report on an APDU of a transaction, as far as it is printed.
 #[derive(Debug, Drop)]
-pub(crate) struct Hearing {
+pub struct Hearing {
     /// Its transaction.
     pub key: TransactionKey,
     /// A transaction that is over by then, if any.
@@ -28,7 +28,7 @@ pub(crate) struct Hearing {
 
 /// The report on a frame.
 #[derive(Debug, Drop)]
-pub(crate) enum FrameReport {
+pub enum FrameReport {
     Nothing,
     /// It cannot be read.
     Unread(Unread),

@@ -27,8 +27,8 @@ fn asking_words(alloc: Global, apdu: Apdu<'_>) -> Result<Vec<u8>, NoMemory>
     }
 }
 
-/// The words of a request, from the octets of its APDU.
-pub(crate) fn octets_words(alloc: Global, octets: &[u8]) -> Result<Vec<u8>, NoMemory>
+/// The words of a request, from the octets of its APDU; none if it is no request. An Err is out of memory.
+pub fn asked_words(alloc: Global, octets: &[u8]) -> Result<Vec<u8>, NoMemory>
     ensures { IfOk result (λ t. AreOctetsWords octets.now t.items) }
 {
     match read(octets) {

@@ -11,7 +11,7 @@ use bac_text::Status;
 
 /// Counts of the frames and transactions so far. Each count saturates.
 #[derive(Clone, Copy, Debug)]
-pub(crate) struct Tally {
+pub struct Tally {
     pub frames: u64,
     /// Frames that cannot be read.
     pub unread: u64,

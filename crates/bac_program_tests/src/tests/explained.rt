@@ -197,6 +197,28 @@ transactions=2 answered=1 rejected=0 aborted=0 unanswered=1 slowest=4 findings=1
             0,
         ),
     ),
+    (
+        "explain --json --port 4660 capture --unanswered --fail",
+        (
+            "\
+{\"after\":null,\"answer\":null,\"answer_segments\":0,\"answer_text\":null,\"answers\":0,\"asked_at\":8,\"client\":\"10.0.0.5:4660\",\"findings\":[],\"frames\":[3],\"given_up\":false,\"invoke_id\":1,\"kind\":\"transaction\",\"negative_acks\":0,\"request\":null,\"request_text\":\"service 26\",\"requests\":1,\"segments\":0,\"server\":\"10.0.0.8:4660\",\"status\":\"unanswered\",\"time\":\"1970-01-01T00:00:00.008Z\",\"unanswered\":true}
+{\"aborted\":0,\"answered\":1,\"findings\":1,\"frames\":4,\"kind\":\"summary\",\"rejected\":0,\"shown\":1,\"slowest\":4,\"transactions\":2,\"unanswered\":1,\"unread\":0}
+",
+            "",
+            1,
+        ),
+    ),
+    (
+        "explain --json --port 4660 capture --peer 10.0.0.9 --fail",
+        (
+            "\
+{\"after\":4,\"answer\":null,\"answer_segments\":0,\"answer_text\":\"acknowledged\",\"answers\":1,\"asked_at\":0,\"client\":\"10.0.0.5:4660\",\"findings\":[],\"frames\":[1,2],\"given_up\":false,\"invoke_id\":0,\"kind\":\"transaction\",\"negative_acks\":0,\"request\":null,\"request_text\":\"service 26\",\"requests\":1,\"segments\":0,\"server\":\"10.0.0.9:4660\",\"status\":\"answered\",\"time\":\"1970-01-01T00:00:00.000Z\",\"unanswered\":false}
+{\"aborted\":0,\"answered\":1,\"findings\":1,\"frames\":4,\"kind\":\"summary\",\"rejected\":0,\"shown\":1,\"slowest\":4,\"transactions\":2,\"unanswered\":1,\"unread\":0}
+",
+            "",
+            0,
+        ),
+    ),
 ];
 
 fn ends_so(alloc: Global, (line, ending): &FilterRow) -> Result<bool, Fail> {

@@ -1,0 +1,52 @@
+//! What `explain --json` and `explain --html` do.
+ghost use Rattle.bac_command_line.specs.Explaining.{IsJsonFile, IsPageFile};
+ghost use Rattle.bac_command_line.specs.Files.{OnFile};
+
+use crate::files::{CaptureFile, OpenFiles, reader_of};
+use bac_capture::Ports;
+use bac_explain_html::explain_html_over;
+use bac_explain_json::explain_json_over;
+use bac_explain_report::ReportOptions;
+use bac_text::Status;
+use std::alloc::Global;
+use std::io::Write;
+
+/// Explains the capture in a file as objects of JSON. A file that cannot be opened: `cannot read` on `err`.
+pub(crate) fn explain_json<F: OpenFiles, O: Write, E: Write>(
+    alloc: Global,
+    files: &F,
+    options: ReportOptions,
+    capture: &CaptureFile<'_>,
+    out: &mut O,
+    err: &mut E,
+) -> Status
+    ensures { IsJsonFile (OnFile F.is_file F.File.remaining) options capture.now.path.now capture.now.port result (O.contents out.old) (O.contents out.new) }
+{
+    match reader_of(alloc, files, capture.path, err) {
+        Ok(mut input) => {
+            let ports = Ports { also: capture.port };
+            explain_json_over(alloc, options, &mut input, ports, out, err)
+        }
+        Err(status) => status,
+    }
+}
+
+/// Explains the capture in a file as a page of HTML. A file that cannot be opened: `cannot read` on `err`.
+pub(crate) fn explain_html<F: OpenFiles, O: Write, E: Write>(
+    alloc: Global,
+    files: &F,
+    options: ReportOptions,
+    capture: &CaptureFile<'_>,
+    out: &mut O,
+    err: &mut E,
+) -> Status
+    ensures { IsPageFile (OnFile F.is_file F.File.remaining) options capture.now.path.now capture.now.port result (O.contents out.old) (O.contents out.new) }
+{
+    match reader_of(alloc, files, capture.path, err) {
+        Ok(mut input) => {
+            let ports = Ports { also: capture.port };
+            explain_html_over(alloc, options, &mut input, ports, out, err)
+        }
+        Err(status) => status,
+    }
+}

@@ -1,0 +1,53 @@
+-- What `bac explain --html` prints of a capture file: a page with a row and a picture for each printed transaction.
+use Rattle.std.specs.Prelude.{◌≡◌, ℕ, List, [], ◌++◌, codes, decimal, Option, Some, None}
+use Rattle.bac_explain_report.specs.Accounts.{FrameReportView, HearingView}
+use Rattle.bac_explain_report.specs.Accounts.FrameReportView.{NothingReported, UnreadReported, HeardReported}
+use Rattle.bac_explain_report.specs.Explained.{slowest_text}
+use Rattle.bac_explain_report.specs.Reported as report
+use Rattle.bac_explain_report.specs.Rest.{IsOptional}
+use Rattle.bac_explain_report.specs.declared.selection.ReportOptions.{ReportOptions}
+use Rattle.bac_explain_report.specs.declared.selection.Selection.{Selection}
+use Rattle.bac_explain_report.specs.declared.tally.Tally.{Tally}
+use Rattle.bac_text.specs.declared.status.Status.{Status}
+use Rattle.bac_explain_html.specs.Notes.{finding_note, unread_note}
+use Rattle.bac_explain_html.specs.Rows.{IsEntry}
+use Rattle.bac_explain_html.specs.declared.page.TheConstants.{BACK, FRONT}
+
+-- the transactions that close come first
+pub record IsHearing (frame : ℕ) (h : HearingView) (text : List ℕ) : Type 0 where
+  pub over : List ℕ
+  pub closed : List ℕ
+  pub is_over : IsOptional IsEntry h.over over
+  pub is_closed : IsOptional IsEntry h.closed closed
+  pub is : text ≡ (over ++ closed) ++ finding_note frame h.key h.finding
+
+abbrev pub IsFramePart : (frame : ℕ) → FrameReportView → (text : List ℕ) → Type 0
+IsFramePart frame NothingReported text = text ≡ []
+IsFramePart frame (UnreadReported why) text = text ≡ unread_note frame why
+IsFramePart frame (HeardReported h) text = IsHearing frame h text
+
+-- ---- the counts, which the page shows at the top, and its end
+
+abbrev pub count : (name : List ℕ) → (value : List ℕ) → List ℕ
+count name value = codes "<div><b>" ++ (value ++ (codes "</b> " ++ (name ++ codes "</div>")))
+
+abbrev pub endings : Tally → List ℕ
+endings t =
+    count (codes "transactions") (decimal t.transactions) ++ (count (codes "answered") (decimal t.answered) ++ (count (codes "rejected") (decimal t.rejected)
+    ++ (count (codes "aborted") (decimal t.aborted) ++ count (codes "unanswered") (decimal t.unanswered))))
+
+abbrev pub others : Tally → List ℕ
+others t =
+    count (codes "ms, the slowest") (slowest_text t.slowest) ++ (count (codes "findings") (decimal t.findings) ++ (count (codes "frames") (decimal t.frames)
+    ++ (count (codes "unread") (decimal t.unread) ++ count (codes "shown") (decimal t.shown))))
+
+abbrev pub last_part : Tally → List ℕ
+last_part t = codes "</table></div>\n<section>" ++ (endings t ++ (others t ++ (codes "</section>\n" ++ BACK.now)))
+
+abbrev pub IsLastPart : Selection → Tally → (text : List ℕ) → Type 0
+IsLastPart s t text = text ≡ last_part t
+
+-- ---- a file: the records, their order and the status are those of the plain lines
+
+abbrev pub IsReportOf : ReportOptions → (also : Option ℕ) → (input old new : Option (List ℕ)) → Status → Type 0
+IsReportOf o also input old new status = report.IsReportOf FRONT.now IsFramePart IsEntry IsLastPart o also input old new status

@@ -1,0 +1,5 @@
+pub mod Carried
+pub mod Lists
+pub mod Objects
+pub mod Members
+pub mod Lines

@@ -1,0 +1,76 @@
+-- What `bac explain --json` prints of a capture file: an object for each record of the plain lines.
+use Rattle.std.specs.Prelude.{◌≡◌, ℕ, ◌++◌, List, [], codes, Option, Some, None}
+use Rattle.bac_explain.specs.Keys.{Key}
+use Rattle.bac_explain.specs.Tables.{ClosedView}
+use Rattle.bac_explain.specs.Texts.{finding_text}
+use Rattle.bac_explain.specs.declared.finding.Finding.{Finding}
+use Rattle.bac_explain_report.specs.Accounts.{FrameReportView, HearingView}
+use Rattle.bac_explain_report.specs.Accounts.FrameReportView.{NothingReported, UnreadReported, HeardReported}
+use Rattle.bac_explain_report.specs.Reported as report
+use Rattle.bac_explain_report.specs.Rest.{IsOptional}
+use Rattle.bac_explain_report.specs.Unread.{unread_text}
+use Rattle.bac_explain_report.specs.declared.selection.ReportOptions.{ReportOptions}
+use Rattle.bac_explain_report.specs.declared.selection.Selection.{Selection}
+use Rattle.bac_explain_report.specs.declared.tally.Tally.{Tally}
+use Rattle.bac_explain_report.specs.declared.unread.Unread.{Unread}
+use Rattle.bac_json.specs.Forms.{optional_number}
+use Rattle.bac_json_report.specs.Lines.{IsLineOf}
+use Rattle.bac_text.specs.Peers.{peer_text}
+use Rattle.bac_text.specs.declared.status.Status.{Status}
+use Rattle.serde_json.specs.Data.{Data, member, no_members, number, object, string, unsigned}
+use Rattle.bac_explain_json.specs.Objects.{IsObject}
+
+-- ---- a frame, by its number
+
+abbrev pub unread_form : (frame : ℕ) → Unread → Data
+unread_form frame why =
+    object (member (codes "frame") (number (unsigned frame)) (member (codes "kind") (string (codes "unread"))
+    (member (codes "text") (string (unread_text why)) no_members)))
+
+abbrev pub finding_form : (frame : ℕ) → Key → Finding → Data
+finding_form frame k finding =
+    object (member (codes "client") (string (peer_text k.client)) (member (codes "finding") (string (finding_text finding))
+    (member (codes "frame") (number (unsigned frame)) (member (codes "invoke_id") (number (unsigned k.invoke_id))
+    (member (codes "kind") (string (codes "finding")) (member (codes "server") (string (peer_text k.server)) no_members))))))
+
+-- nothing where that is not printed
+abbrev pub IsFindingLine : (frame : ℕ) → Key → Option Finding → (text : List ℕ) → Type 0
+IsFindingLine frame k None text = text ≡ []
+IsFindingLine frame k (Some finding) text = IsLineOf (λ d. d ≡ finding_form frame k finding) text
+
+abbrev pub IsTransactionLine : ClosedView → (text : List ℕ) → Type 0
+IsTransactionLine c text = IsLineOf (IsObject c) text
+
+-- the transactions that close come first
+pub record IsHearing (frame : ℕ) (h : HearingView) (text : List ℕ) : Type 0 where
+  pub over : List ℕ
+  pub closed : List ℕ
+  pub found : List ℕ
+  pub is_over : IsOptional IsTransactionLine h.over over
+  pub is_closed : IsOptional IsTransactionLine h.closed closed
+  pub is_found : IsFindingLine frame h.key h.finding found
+  pub is : text ≡ (over ++ closed) ++ found
+
+abbrev pub IsFrameLine : (frame : ℕ) → FrameReportView → (text : List ℕ) → Type 0
+IsFrameLine frame NothingReported text = text ≡ []
+IsFrameLine frame (UnreadReported why) text = IsLineOf (λ d. d ≡ unread_form frame why) text
+IsFrameLine frame (HeardReported h) text = IsHearing frame h text
+
+-- ---- at the end
+
+abbrev pub summary_form : Tally → Data
+summary_form t =
+    object (member (codes "aborted") (number (unsigned t.aborted)) (member (codes "answered") (number (unsigned t.answered))
+    (member (codes "findings") (number (unsigned t.findings)) (member (codes "frames") (number (unsigned t.frames))
+    (member (codes "kind") (string (codes "summary")) (member (codes "rejected") (number (unsigned t.rejected))
+    (member (codes "shown") (number (unsigned t.shown)) (member (codes "slowest") (optional_number t.slowest)
+    (member (codes "transactions") (number (unsigned t.transactions)) (member (codes "unanswered") (number (unsigned t.unanswered))
+    (member (codes "unread") (number (unsigned t.unread)) no_members)))))))))))
+
+abbrev pub IsSummaryLine : Selection → Tally → (text : List ℕ) → Type 0
+IsSummaryLine s t text = IsLineOf (λ d. d ≡ summary_form t) text
+
+-- ---- a file: the records, their order and the status are those of the plain lines
+
+abbrev pub IsReportOf : ReportOptions → (also : Option ℕ) → (input old new : Option (List ℕ)) → Status → Type 0
+IsReportOf o also input old new status = report.IsReportOf [] IsFrameLine IsTransactionLine IsSummaryLine o also input old new status

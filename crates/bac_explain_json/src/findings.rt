@@ -1,0 +1,107 @@
+//! Frames, and what is wrong with them.
+ghost use Rattle.std.specs.Prelude.{◌≡◌, IfOk};
+ghost use Rattle.bac_explain.specs.KeyViews.{key_view};
+ghost use Rattle.bac_explain_json.specs.Lines.{IsFindingLine, finding_form, unread_form};
+ghost use Rattle.bac_explain_json.specs.Lists.{findings_form, frames_form};
+ghost use Rattle.bac_explain.specs.Texts.{finding_text};
+ghost use Rattle.bac_json_report.specs.Lines.{IsLineOf};
+ghost use Rattle.bac_npdu.specs.Views.{peer_view};
+ghost use Rattle.bac_text.specs.Peers.{peer_text};
+ghost use Rattle.serde_json.specs.Data.{string};
+ghost use Rattle.serde_json.specs.View.{view};
+
+use bac_explain::{Finding, Step, TransactionKey};
+use bac_explain_report::Unread;
+use bac_json_report::json_line;
+use bac_npdu::Peer;
+use bac_text::peer_text;
+use serde_json::{Value as Json, json};
+use std::alloc::{AllocError, Global};
+
+/// A peer, as `192.168.1.5:47808/5:2A`.
+pub(crate) fn peer_json(alloc: Global, peer: Peer) -> Result<Json, AllocError>
+    ensures { IfOk result (λ v. view v ≡ string (peer_text (peer_view peer))) }
+{
+    let text = peer_text(alloc, peer)?;
+    Ok(Json::String(text))
+}
+
+/// The numbers of frames.
+pub(crate) fn frames_json(alloc: Global, steps: &[Step]) -> Result<Json, AllocError>
+    ensures { IfOk result (λ v. view v ≡ frames_form steps.now) }
+{
+    let mut frames = Vec::new(alloc);
+    for step in steps {
+        frames.push(Json::from(step.frame))?;
+    }
+    Ok(Json::Array(frames))
+}
+
+fn finding_words(alloc: Global, finding: Finding) -> Result<Json, AllocError>
+    ensures { IfOk result (λ v. view v ≡ string (finding_text finding)) }
+{
+    let text = format!(in alloc; "{finding}")?;
+    Ok(Json::String(text))
+}
+
+/// What is wrong with frames, in words.
+pub(crate) fn findings_json(alloc: Global, steps: &[Step]) -> Result<Json, AllocError>
+    ensures { IfOk result (λ v. view v ≡ findings_form steps.now) }
+{
+    let mut findings = Vec::new(alloc);
+    for step in steps {
+        if let Some(finding) = step.finding {
+            findings.push(finding_words(alloc, finding)?)?;
+        }
+    }
+    Ok(Json::Array(findings))
+}
+
+fn unread_json(alloc: Global, frame: u64, why: Unread) -> Result<Json, AllocError>
+    ensures { IfOk result (λ v. view v ≡ unread_form frame why) }
+{
+    let text = format!(in alloc; "{why}")?;
+    json!(in alloc; {"frame": frame, "kind": "unread", "text": text})
+}
+
+/// A frame that cannot be read, as an object on a line.
+pub(crate) fn unread_line(alloc: Global, frame: u64, why: Unread) -> Result<Vec<u8>, AllocError>
+    ensures { IfOk result (λ t. IsLineOf (λ d. d ≡ unread_form frame why) t.items) }
+{
+    let json = unread_json(alloc, frame, why)?;
+    json_line(alloc, &json)
+}
+
+fn finding_json(
+    alloc: Global,
+    frame: u64,
+    key: TransactionKey,
+    finding: Finding,
+) -> Result<Json, AllocError>
+    ensures { IfOk result (λ v. view v ≡ finding_form frame (key_view key) finding) }
+{
+    let client = peer_json(alloc, key.client)?;
+    let words = finding_words(alloc, finding)?;
+    let invoke_id = key.invoke_id;
+    let server = peer_json(alloc, key.server)?;
+    json!(in alloc; {
+        "client": client, "finding": words, "frame": frame, "invoke_id": invoke_id,
+        "kind": "finding", "server": server
+    })
+}
+
+/// What is wrong with a frame, if that is printed, as an object on a line.
+pub(crate) fn finding_line(
+    alloc: Global,
+    frame: u64,
+    key: TransactionKey,
+    finding: Option<Finding>,
+) -> Result<Vec<u8>, AllocError>
+    ensures { IfOk result (λ t. IsFindingLine frame (key_view key) finding t.items) }
+{
+    let Some(finding) = finding else {
+        return Ok(Vec::new(alloc));
+    };
+    let json = finding_json(alloc, frame, key, finding)?;
+    json_line(alloc, &json)
+}

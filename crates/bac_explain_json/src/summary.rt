@@ -1,0 +1,43 @@
+//! The counts at the end.
+ghost use Rattle.std.specs.Prelude.{◌≡◌, IfOk};
+ghost use Rattle.bac_explain_json.specs.Lines.{summary_form};
+ghost use Rattle.bac_json.specs.Forms.{optional_number};
+ghost use Rattle.bac_json_report.specs.Lines.{IsLineOf};
+ghost use Rattle.serde_json.specs.View.{view};
+
+use bac_explain_report::Tally;
+use bac_json_report::json_line;
+use serde_json::{Value as Json, json};
+use std::alloc::{AllocError, Global};
+
+/// A number; Null where there is none.
+fn number_or_null(number: Option<u64>) -> Json
+    ensures { view result ≡ optional_number number }
+{
+    match number {
+        Some(number) => Json::from(number),
+        None => Json::Null,
+    }
+}
+
+fn summary_json(alloc: Global, tally: Tally) -> Result<Json, AllocError>
+    ensures { IfOk result (λ v. view v ≡ summary_form tally) }
+{
+    let (aborted, answered, findings) = (tally.aborted, tally.answered, tally.findings);
+    let (frames, rejected, shown) = (tally.frames, tally.rejected, tally.shown);
+    let slowest = number_or_null(tally.slowest);
+    let (transactions, unanswered, unread) = (tally.transactions, tally.unanswered, tally.unread);
+    json!(in alloc; {
+        "aborted": aborted, "answered": answered, "findings": findings, "frames": frames,
+        "kind": "summary", "rejected": rejected, "shown": shown, "slowest": slowest,
+        "transactions": transactions, "unanswered": unanswered, "unread": unread
+    })
+}
+
+/// The counts as an object on a line.
+pub(crate) fn summary_line(alloc: Global, tally: Tally) -> Result<Vec<u8>, AllocError>
+    ensures { IfOk result (λ t. IsLineOf (λ d. d ≡ summary_form tally) t.items) }
+{
+    let json = summary_json(alloc, tally)?;
+    json_line(alloc, &json)
+}

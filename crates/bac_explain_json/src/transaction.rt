@@ -1,0 +1,195 @@
+//! The object of a transaction.
+ghost use Rattle.std.specs.Prelude.{◌≡◌, ◌-◌, IfOk};
+ghost use Rattle.std.specs.Option.{option_map};
+ghost use Rattle.bac_apdu.specs.Reading.{apdu_at};
+ghost use Rattle.bac_explain.specs.Closings.{closed_view};
+ghost use Rattle.bac_explain.specs.KeyViews.{key_view};
+ghost use Rattle.bac_explain.specs.SentViews.{sent_view};
+ghost use Rattle.bac_explain.specs.Views.{transaction_view};
+ghost use Rattle.bac_explain_json.specs.Lines.{IsTransactionLine};
+ghost use Rattle.bac_explain_json.specs.Lists.{findings_form, frames_form};
+ghost use Rattle.bac_explain_json.specs.Members.{answered_view, asked_view, end_view, peers_view};
+ghost use Rattle.bac_explain_json.specs.Objects.{AreAnswered, AreAnsweredIn, AreAsked, IsObject, end_members, has_error, is_error, no_answer, peer_members, status_word};
+ghost use Rattle.bac_explain_json.specs.Objects.{transaction_object};
+ghost use Rattle.bac_json.specs.Forms.{string_or_null};
+ghost use Rattle.serde_json.specs.Data.{string};
+ghost use Rattle.serde_json.specs.View.{view};
+
+use crate::carried::{answer_json, asked_json};
+use crate::findings::{findings_json, frames_json, peer_json};
+use crate::members::{AnsweredMembers, AskedMembers, EndMembers, PeerMembers};
+use bac_apdu::{Apdu, read};
+use bac_explain::{Closed, Sent, Transaction, TransactionKey};
+use bac_explain_report::{asked_words, ending_of, is_unanswered, told_words};
+use bac_json::text_json;
+use bac_json_report::json_line;
+use bac_moment::{TimeText, time_text};
+use bac_value::NoMemory;
+use serde_json::{Map, Value as Json};
+use std::alloc::{AllocError, Global};
+
+fn peer_members(alloc: Global, key: TransactionKey) -> Result<PeerMembers, AllocError>
+    ensures { IfOk result (λ m. peers_view m ≡ peer_members (key_view key)) }
+{
+    let client = peer_json(alloc, key.client)?;
+    let server = peer_json(alloc, key.server)?;
+    Ok(PeerMembers {
+        client,
+        invoke_id: Json::from(key.invoke_id),
+        server,
+    })
+}
+
+/// A moment; Null where there is none.
+fn time_or_null(alloc: Global, time: &Option<TimeText>) -> Result<Json, AllocError>
+    ensures { IfOk result (λ v. view v ≡ string_or_null (option_map (λ t. t.bytes) time.now)) }
+{
+    match time {
+        Some(time) => Json::try_from_str(alloc, time.as_str()),
+        None => Ok(Json::Null),
+    }
+}
+
+#[tactic(auto, using(crate::proofs::Told::asked_told))]
+fn asked_members(alloc: Global, sent: &Sent) -> Result<AskedMembers, NoMemory>
+    ensures { IfOk result (λ m. AreAsked (sent_view sent.now) (asked_view m)) }
+{
+    let time = time_text(Some(sent.moment));
+    let words = asked_words(alloc, &sent.octets)?;
+    let request = asked_json(alloc, &sent.octets)?;
+    let request_text = text_json(alloc, &words)?;
+    let time = time_or_null(alloc, &time)?;
+    Ok(AskedMembers {
+        asked_at: Json::from(sent.moment),
+        request,
+        request_text,
+        requests: Json::from(sent.times),
+        segments: Json::from(sent.segments),
+        time,
+    })
+}
+
+#[tactic(auto, using(crate::proofs::Told::answered_told))]
+fn answered_members(alloc: Global, after: u64, sent: &Sent) -> Result<AnsweredMembers, NoMemory>
+    ensures { IfOk result (λ m. AreAnswered after (sent_view sent.now) (answered_view m)) }
+{
+    let words = told_words(alloc, &sent.octets)?;
+    let answer = answer_json(alloc, &sent.octets)?;
+    let answer_text = text_json(alloc, &words)?;
+    Ok(AnsweredMembers {
+        after: Json::from(after),
+        answer,
+        answer_segments: Json::from(sent.segments),
+        answer_text,
+        answers: Json::from(sent.times),
+    })
+}
+
+fn no_answer() -> AnsweredMembers
+    ensures { answered_view result ≡ no_answer }
+{
+    AnsweredMembers {
+        after: Json::Null,
+        answer: Json::Null,
+        answer_segments: Json::from(0_u64),
+        answer_text: Json::Null,
+        answers: Json::from(0_u64),
+    }
+}
+
+/// The members of the answer to a request of that moment, if there is one.
+fn answer_members(
+    alloc: Global,
+    asked: u64,
+    answer: &Option<Sent>,
+) -> Result<AnsweredMembers, NoMemory>
+    ensures { IfOk result (λ m. AreAnsweredIn asked (option_map sent_view answer.now) (answered_view m)) }
+{
+    match answer {
+        Some(answer) => answered_members(alloc, answer.moment.saturating_sub(asked), answer),
+        None => Ok(no_answer()),
+    }
+}
+
+/// Whether an APDU is an Error.
+fn is_error(octets: &[u8]) -> bool
+    ensures { result ≡ is_error (apdu_at octets.now) }
+{
+    match read(octets) {
+        Ok(Apdu::Error { .. }) => true,
+        _ => false,
+    }
+}
+
+fn has_error(answer: &Option<Sent>) -> bool
+    ensures { result ≡ has_error (option_map sent_view answer.now) }
+{
+    match answer {
+        Some(answer) => answer.whole && is_error(&answer.octets),
+        None => false,
+    }
+}
+
+/// How a transaction ended.
+fn status_word(transaction: &Transaction) -> &'static str
+    ensures { result.now ≡ status_word (transaction_view transaction.now) }
+{
+    if has_error(&transaction.answer) {
+        "error"
+    } else {
+        ending_of(transaction).name()
+    }
+}
+
+fn end_members(alloc: Global, transaction: &Transaction) -> Result<EndMembers, AllocError>
+    ensures { IfOk result (λ m. end_view m ≡ end_members (transaction_view transaction.now)) }
+{
+    let findings = findings_json(alloc, &transaction.steps)?;
+    let frames = frames_json(alloc, &transaction.steps)?;
+    let status = Json::try_from_str(alloc, status_word(transaction))?;
+    Ok(EndMembers {
+        findings,
+        frames,
+        given_up: Json::from(transaction.gave_up),
+        negative_acks: Json::from(transaction.naks),
+        status,
+        unanswered: Json::from(is_unanswered(transaction)),
+    })
+}
+
+fn transaction_object(
+    alloc: Global,
+    peers: PeerMembers,
+    asked: AskedMembers,
+    answered: AnsweredMembers,
+    end: EndMembers,
+) -> Result<Json, AllocError>
+    ensures { IfOk result (λ v. view v ≡ transaction_object (peers_view peers) (asked_view asked) (answered_view answered) (end_view end)) }
+{
+    let mut members = Map::new(alloc);
+    peers.put_in(alloc, &mut members)?;
+    asked.put_in(alloc, &mut members)?;
+    answered.put_in(alloc, &mut members)?;
+    end.put_in(alloc, &mut members)?;
+    Ok(Json::Object(members))
+}
+
+#[tactic(auto, using(crate::proofs::Told::object_told))]
+fn transaction_json(alloc: Global, closed: &Closed) -> Result<Json, NoMemory>
+    ensures { IfOk result (λ v. IsObject (closed_view closed.now) (view v)) }
+{
+    let transaction = &closed.transaction;
+    let asked = asked_members(alloc, &transaction.request)?;
+    let answered = answer_members(alloc, transaction.request.moment, &transaction.answer)?;
+    let peers = peer_members(alloc, closed.key)?;
+    let end = end_members(alloc, transaction)?;
+    Ok(transaction_object(alloc, peers, asked, answered, end)?)
+}
+
+/// A transaction as an object on a line.
+pub(crate) fn transaction_line(alloc: Global, closed: &Closed) -> Result<Vec<u8>, NoMemory>
+    ensures { IfOk result (λ t. IsTransactionLine (closed_view closed.now) t.items) }
+{
+    let json = transaction_json(alloc, closed)?;
+    Ok(json_line(alloc, &json)?)
+}

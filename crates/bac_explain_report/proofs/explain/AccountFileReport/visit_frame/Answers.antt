@@ -1,5 +1,0 @@
-use Rattle.bac_explain_report.proofs.Reporting.{frame_printed}
-use Rattle.bac_explain_report.proofs.explain.AccountFileReport.visit_frame.Goals as goal
-
-pub returns-in-Ok : goal.returns-in-Ok
-returns-in-Ok g c = frame_printed _ _ _ _ _ _ _ _ c.in-Ok.ensures c.print_report.ensures
