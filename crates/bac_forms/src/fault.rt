@@ -1,0 +1,21 @@
+//! Why a text is not read.
+use crate::place::Position;
+use thiserror::Error;
+
+/// Why a text is not read.
+#[derive(Clone, Copy, Debug, PartialEq, Eq, Error)]
+pub enum FormFault {
+    /// The character at this place, or the end of the text there, does not fit the form.
+    #[error("line {}, column {}: not of this form", .0.line, .0.column)]
+    Misfit(Position),
+    /// An allocation failed.
+    #[error("no memory")]
+    NoMemory,
+}
+
+/// The same, with the number of characters that stand before that place.
+#[derive(Clone, Copy, Debug, PartialEq, Eq)]
+pub(crate) enum ScanFault {
+    At(usize),
+    NoMemory,
+}
