@@ -1,5 +1,5 @@
 -- Arrays of C: what each character adds, and what stands before the one after it.
-use Rattle.std.specs.Prelude.{ℕ, ◌==◌, ◌||◌, ◌×◌, Bool, Option, Some, None, if◌then◌else◌}
+use Rattle.std.specs.Prelude.{ℕ, ◌==◌, ◌||◌, Bool, Option, Some, None, if◌then◌else◌}
 use Rattle.std.specs.Char.{is_ascii_alphanumeric}
 use Rattle.bac_forms.specs.Blanks.{is_space}
 use Rattle.bac_forms.specs.Digits.{is_digit, pair_of}

@@ -1,5 +1,5 @@
 -- Lines of Base64 (RFC 4648), a datagram on each.
-use Rattle.std.specs.Prelude.{ℕ, Bool, ◌+◌, ◌==◌, List, [], ◌∷◌, ◌++◌, length, min, Option, Some, None, Result, Ok, Err}
+use Rattle.std.specs.Prelude.{ℕ, Bool, if◌then◌else◌, ◌+◌, ◌==◌, List, [], ◌∷◌, ◌++◌, length, min, Option, Some, None, Result, Ok, Err}
 use Rattle.base64.specs.Engines.{standard}
 use Rattle.base64.specs.GeneralPurpose.{decode_of}
 use Rattle.base64.specs.declared.decode.DecodeError.{DecodeError}
@@ -34,8 +34,7 @@ decoded_in line (Ok datagram) = Ok (Some datagram)
 decoded_in line (Err error) = Err (place_in line error)
 
 abbrev pub symbols_at : (line symbols : List ℕ) → Result (Option (List ℕ)) ℕ
-symbols_at line [] = Ok None
-symbols_at line (symbol ∷ symbols) = decoded_in line (decode_of standard (symbol ∷ symbols))
+symbols_at line symbols = if length symbols == 0 then Ok None else decoded_in line (decode_of standard symbols)
 
 -- the datagram of a line, none of a blank one; or how many characters stand before the first that does not fit
 abbrev pub line_at : List ℕ → Result (Option (List ℕ)) ℕ

@@ -1,5 +1,5 @@
 -- Hex dumps: what each character adds, and what stands before the one after it.
-use Rattle.std.specs.Prelude.{ℕ, ◌+◌, ◌*◌, ◌==◌, nat_lt, ◌&&◌, ◌||◌, ◌×◌, Bool, Option, Some, None, if◌then◌else◌}
+use Rattle.std.specs.Prelude.{ℕ, ◌+◌, ◌*◌, ◌==◌, nat_lt, ◌&&◌, ◌||◌, Bool, Option, Some, None, if◌then◌else◌}
 use Rattle.bac_forms.specs.Blanks.{is_blank, is_space}
 use Rattle.bac_forms.specs.Digits.{digit_of, is_digit, pair_of}
 use Rattle.bac_forms.specs.declared.dump.Column.{Column}

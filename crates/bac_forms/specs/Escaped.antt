@@ -1,5 +1,5 @@
 -- Escaped strings: what each character adds, and what stands before the one after it.
-use Rattle.std.specs.Prelude.{ℕ, ◌==◌, ◌×◌, List, Option, Some, None, if◌then◌else◌}
+use Rattle.std.specs.Prelude.{ℕ, ◌==◌, Option, Some, None, if◌then◌else◌}
 use Rattle.bac_forms.specs.Blanks.{is_blank, is_space}
 use Rattle.bac_forms.specs.Digits.{is_digit, pair_of}
 use Rattle.bac_forms.specs.declared.escaped.Escaped.{Escaped}

@@ -1,6 +1,6 @@
 -- What reading a text gives.
-use Rattle.std.specs.Prelude.{◌≡◌, ℕ, ◌≤◌, List, map, take, ⊤, Option, Some, None, Result, Ok, Err}
-use Rattle.std.specs.declared.vec.Vec.{Vec}
+use Rattle.std.specs.Prelude.{◌≡◌, ℕ, ◌≤◌, List, map, take, ⊤, Result, Err}
+use Rattle.std.specs.Global.{Vec}
 use Rattle.bac_forms.specs.declared.fault.FormFault.{FormFault}
 use Rattle.bac_forms.specs.declared.fault.FormFault.TheVariants as form_fault
 use Rattle.bac_forms.specs.declared.fault.ScanFault.{ScanFault}

@@ -1,5 +1,5 @@
 -- Reading a text character by character.
-use Rattle.std.specs.Prelude.{ℕ, ◌+◌, ◌×◌, List, [], ◌∷◌, Option, Some, None, Result, Ok, Err}
+use Rattle.std.specs.Prelude.{ℕ, ◌+◌, List, [], ◌∷◌, Option, Some, None, Result, Ok, Err}
 use Rattle.bac_forms.specs.Array as array
 use Rattle.bac_forms.specs.Dump as dump
 use Rattle.bac_forms.specs.Escaped as escaped

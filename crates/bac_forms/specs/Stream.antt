@@ -1,5 +1,5 @@
 -- Lines of hexadecimal digits: what each character adds, and what stands before the one after it.
-use Rattle.std.specs.Prelude.{ℕ, ◌==◌, ◌&&◌, ◌||◌, ◌×◌, Bool, Option, Some, None, if◌then◌else◌}
+use Rattle.std.specs.Prelude.{ℕ, ◌==◌, ◌&&◌, ◌||◌, Bool, Option, Some, None, if◌then◌else◌}
 use Rattle.bac_forms.specs.Digits.{is_digit, pair_of}
 use Rattle.bac_forms.specs.declared.stream.Stream.{Stream}
 use Rattle.bac_forms.specs.declared.stream.Stream.TheVariants as at

@@ -7,7 +7,7 @@ use crate::digits::{is_digit, pair_of};
 use crate::gathered::Event;
 
 /// Where a comment stands.
-#[derive(Clone, Copy, Debug, PartialEq, Eq)]
+#[derive(Clone, Copy)]
 pub(crate) enum Around {
     /// Outside of arrays.
     Outside,
@@ -18,7 +18,7 @@ pub(crate) enum Around {
 }
 
 /// What stands before a character of arrays.
-#[derive(Clone, Copy, Debug, PartialEq, Eq)]
+#[derive(Clone, Copy)]
 pub(crate) enum Array {
     /// No array that is open.
     Outside,

@@ -10,7 +10,7 @@ use crate::gathered::Event;
 const ROW: u8 = 16;
 
 /// What stands before a character of a dump.
-#[derive(Clone, Copy, Debug, PartialEq, Eq)]
+#[derive(Clone, Copy)]
 pub(crate) enum Column {
     /// Nothing on the line.
     Start,
@@ -25,7 +25,7 @@ pub(crate) enum Column {
 }
 
 /// What stands before a character of a dump, and how many octets of its datagram.
-#[derive(Clone, Copy, Debug, PartialEq, Eq)]
+#[derive(Clone, Copy)]
 pub(crate) struct Dump {
     pub(crate) octets: u16,
     pub(crate) column: Column,

@@ -7,7 +7,7 @@ use crate::digits::{is_digit, pair_of};
 use crate::gathered::Event;
 
 /// What stands before a character of escaped strings.
-#[derive(Clone, Copy, Debug, PartialEq, Eq)]
+#[derive(Clone, Copy)]
 pub(crate) enum Escaped {
     /// No string of a datagram.
     Before,

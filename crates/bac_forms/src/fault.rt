@@ -14,7 +14,7 @@ pub enum FormFault {
 }
 
 /// The same, with the number of characters that stand before that place.
-#[derive(Clone, Copy, Debug, PartialEq, Eq)]
+#[derive(Clone, Copy)]
 pub(crate) enum ScanFault {
     At(usize),
     NoMemory,

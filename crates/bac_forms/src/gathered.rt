@@ -1,12 +1,12 @@
 //! The datagrams that were read so far.
-ghost use Rattle.std.specs.Prelude.{◌≡◌, OnOk};
+ghost use Rattle.std.specs.Prelude.{◌≡◌, [], OnOk};
 ghost use Rattle.bac_forms.specs.Gathered.{after, gathered_view};
 
 use std::alloc::{AllocError, Global};
 use std::mem;
 
 /// What a character of a text adds.
-#[derive(Clone, Copy, Debug, PartialEq, Eq)]
+#[derive(Clone, Copy)]
 pub(crate) enum Event {
     Nothing,
     /// An octet of the datagram.
@@ -16,7 +16,7 @@ pub(crate) enum Event {
 }
 
 /// The datagrams that were read so far.
-#[derive(Debug, Drop)]
+#[derive(Drop)]
 pub(crate) struct Gathered {
     /// Those that have ended.
     pub(crate) whole: Vec<Vec<u8>>,

@@ -1,7 +1,6 @@
 //! Finding the form of a text.
 ghost use Rattle.std.specs.Prelude.{◌≡◌};
-ghost use Rattle.std.specs.List.{list_all, list_any};
-ghost use Rattle.bac_forms.specs.Guess.{begins_dump, begins_quoted, guess, is_of_stream, opens};
+ghost use Rattle.bac_forms.specs.Guess.{are_of_stream, begins_dump, begins_note, begins_quoted, guess, is_of_stream, opens};
 
 use crate::blanks::is_space;
 use crate::digits::is_digit;
@@ -11,10 +10,14 @@ use crate::form::Form;
 fn begins_quoted(text: &[u8]) -> bool
     ensures { result ≡ begins_quoted text.now }
 {
-    match text.iter().find(|octet| !is_space(**octet)) {
-        Some(octet) => *octet == b'"',
-        None => false,
+    let mut rest = text;
+    while let Some((octet, others)) = rest.split_first() {
+        if !is_space(*octet) {
+            return *octet == b'"';
+        }
+        rest = others;
     }
+    false
 }
 
 /// Whether the text begins with the offset 0 of a hex dump: three zeros.
@@ -38,6 +41,22 @@ fn is_of_stream(octet: u8) -> bool
     is_digit(octet) || is_space(octet) || octet == b':' || octet == b'x'
 }
 
+fn are_of_stream(text: &[u8]) -> bool
+    ensures { result ≡ are_of_stream text.now }
+{
+    text.iter().all(|octet| is_of_stream(*octet))
+}
+
+/// Whether a note begins the text.
+fn begins_note(text: &[u8]) -> bool
+    ensures { result ≡ begins_note text.now }
+{
+    match text {
+        [first, ..] => *first == b'#',
+        [] => false,
+    }
+}
+
 /// The form that a text seems to have: escaped strings if it begins with a quote; arrays of C if it has a brace; a hex dump if it begins with three zeros, as the
 /// offset of its first line does; lines of digits if it has nothing else, or begins with a note; otherwise Base64.
 pub fn guess(text: &[u8]) -> Form
@@ -49,7 +68,7 @@ pub fn guess(text: &[u8]) -> Form
         Form::CArray
     } else if begins_dump(text) {
         Form::HexDump
-    } else if text.first() == Some(&b'#') || text.iter().all(|octet| is_of_stream(*octet)) {
+    } else if begins_note(text) || are_of_stream(text) {
         Form::Hex
     } else {
         Form::Base64

@@ -9,14 +9,13 @@ use crate::fault::ScanFault;
 use bac_value_text::parts_at;
 use base64::engine::general_purpose::STANDARD;
 use base64::{DecodeAllocError, DecodeError};
-use memchr::memchr;
 use std::alloc::Global;
 
 /// The place of the first end of a line.
 fn end_in(text: &[u8]) -> Option<usize>
     ensures { result ≡ position is_line_end text.now }
 {
-    memchr(b'\n', text)
+    text.iter().position(|octet| *octet == b'\n')
 }
 
 /// The first line, and what stands behind its end; None where the text is one line.

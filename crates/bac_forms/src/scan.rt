@@ -9,7 +9,7 @@ use crate::gathered::Event;
 use crate::stream::Stream;
 
 /// What stands before a character, by form.
-#[derive(Clone, Copy, Debug, PartialEq, Eq)]
+#[derive(Clone, Copy)]
 pub(crate) enum Scan {
     Stream(Stream),
     Dump(Dump),

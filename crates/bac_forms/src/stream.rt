@@ -6,7 +6,7 @@ use crate::digits::{is_digit, pair_of};
 use crate::gathered::Event;
 
 /// What stands before a character of lines of digits.
-#[derive(Clone, Copy, Debug, PartialEq, Eq)]
+#[derive(Clone, Copy)]
 pub(crate) enum Stream {
     /// Nothing on the line.
     Line,
