@@ -1,1 +1,2 @@
 mod TextLines
+mod Shown

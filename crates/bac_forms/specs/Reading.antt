@@ -1,6 +1,7 @@
 -- What reading a text gives.
 use Rattle.std.specs.Prelude.{◌≡◌, ℕ, ◌≤◌, List, map, take, ⊤, Result, Err}
 use Rattle.std.specs.Global.{Vec}
+use Rattle.std.specs.List.{slice_get}
 use Rattle.bac_forms.specs.declared.fault.FormFault.{FormFault}
 use Rattle.bac_forms.specs.declared.fault.FormFault.TheVariants as form_fault
 use Rattle.bac_forms.specs.declared.fault.ScanFault.{ScanFault}
@@ -37,13 +38,14 @@ IsWithin most fault.NoMemory = ⊤
 abbrev pub octets_of : List (Vec ℕ) → List (List ℕ)
 octets_of datagrams = map (λ d. d.items) datagrams
 
--- the place of the first character that does not fit
-pub record IsAt (r : Reading) (text : List ℕ) (position : Position) : Type 0 where
+-- the first character that does not fit, if the text does not end there, and its place
+pub record IsAt (r : Reading) (text : List ℕ) (position : Position) (found : Option ℕ) : Type 0 where
   pub before : ℕ
   pub misfit : r ≡ Err before
   pub is : position ≡ position_of (take before text)
+  pub character : found ≡ slice_get text before
 
 -- that is the place of the first character that does not fit; a failed allocation says nothing of the text
 abbrev pub IsFormFault : Reading → (text : List ℕ) → FormFault → Type 0
-IsFormFault r text (form_fault.Misfit position) = IsAt r text position
+IsFormFault r text (form_fault.Misfit position found) = IsAt r text position found
 IsFormFault r text form_fault.NoMemory = ⊤

@@ -5,9 +5,12 @@ use thiserror::Error;
 /// Why a text is not read.
 #[derive(Clone, Copy, Debug, PartialEq, Eq, Error)]
 pub enum FormFault {
-    /// The character at this place, or the end of the text there, does not fit the form.
-    #[error("line {}, column {}: not of this form", .0.line, .0.column)]
-    Misfit(Position),
+    /// The character found at this place, or the end of the text there, does not fit the form.
+    #[error("line {}, column {}: not of this form", .position.line, .position.column)]
+    Misfit {
+        position: Position,
+        found: Option<u8>,
+    },
     /// An allocation failed.
     #[error("no memory")]
     NoMemory,

@@ -1,6 +1,6 @@
 //! The forms.
 ghost use Rattle.std.specs.Prelude.{◌≡◌};
-ghost use Rattle.bac_forms.specs.Forms.{form_named};
+ghost use Rattle.bac_forms.specs.Forms.{form_name, form_named};
 
 /// A form of datagrams in a text.
 #[derive(Clone, Copy, Debug, PartialEq, Eq)]
@@ -32,6 +32,19 @@ impl Form {
             "c" => Some(Form::CArray),
             "base64" => Some(Form::Base64),
             _ => None,
+        }
+    }
+
+    /// What the form is called.
+    pub fn name(self) -> &'static str
+        ensures { result.now ≡ form_name self }
+    {
+        match self {
+            Form::Hex => "hex",
+            Form::HexDump => "hexdump",
+            Form::Escaped => "escaped",
+            Form::CArray => "c",
+            Form::Base64 => "base64",
         }
     }
 }

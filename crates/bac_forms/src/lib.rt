@@ -3,6 +3,7 @@
 
 mod array;
 mod blanks;
+mod decode;
 mod digits;
 mod dump;
 mod escaped;
@@ -17,7 +18,9 @@ mod scan;
 mod scanning;
 mod stream;
 
+pub use decode::{Printing, decode_form_over};
 pub use fault::FormFault;
 pub use form::{FORM_NAMES, Form};
 pub use guessing::guess;
+pub use place::Position;
 pub use reading::read_datagrams;

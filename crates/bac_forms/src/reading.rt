@@ -28,17 +28,18 @@ fn read(alloc: Global, form: Form, text: &[u8]) -> Result<Vec<Vec<u8>>, ScanFaul
     }
 }
 
-/// Reads the datagrams of a text in that form, in order. `Misfit` has the line and the column of the first character that does not fit; where the text ends
-/// too early, those behind its last character.
+/// Reads the datagrams of a text in that form, in order. `Misfit` has the first character that does not fit, with its line and column; where the text
+/// ends too early none, and the place behind its last character.
 pub fn read_datagrams(alloc: Global, form: Form, text: &[u8]) -> Result<Vec<Vec<u8>>, FormFault>
     ensures datagrams { IfOk result (λ d. reading_of form text.now ≡ Ok (octets_of d.items)) }
     ensures misfit { IfErr result (IsFormFault (reading_of form text.now) text.now) }
 {
     match read(alloc, form, text) {
         Ok(datagrams) => Ok(datagrams),
-        Err(ScanFault::At(place)) => {
-            Err(FormFault::Misfit(position_of(&text[..place.min(text.len())])))
-        }
+        Err(ScanFault::At(place)) => Err(FormFault::Misfit {
+            position: position_of(&text[..place.min(text.len())]),
+            found: text.get(place).copied(),
+        }),
         Err(ScanFault::NoMemory) => Err(FormFault::NoMemory),
     }
 }
