@@ -1,9 +1,9 @@
 -- What `bac check` prints for a capture file, and its status.
 use Rattle.std.specs.Prelude.{◌≡◌, ◌==◌, ℕ, zero, suc, ◌+◌, ◌++◌, Bool, true, false, if◌then◌else◌, List, [], slice_index, codes, decimal, Option, Some, None}
 use Rattle.bac_capture.specs.declared.fault.FileFault.{FileFault}
-use Rattle.bac_capture.specs.declared.bvlc.BvlcFunction.{BvlcFunction}
+use Rattle.bac_text.specs.declared.bvlc.BvlcFunction.{BvlcFunction}
 use Rattle.bac_capture.specs.Blocks.{FrameView}
-use Rattle.bac_capture.specs.Bvlc.{function_of, function_name}
+use Rattle.bac_text.specs.Bvlc.{function_of, function_name}
 use Rattle.bac_capture.specs.FileReports.{Ending, no_heading}
 use Rattle.bac_capture.specs.FileReports as report
 use Rattle.bac_text.specs.Checked as lines

@@ -1,8 +1,8 @@
 -- How many frames there are, by the result of checking them.
 use Rattle.std.specs.Prelude.{◌≡◌, ◌<◌, ℕ, ◌+◌, List, replicate, slice_index, slice_set}
-use Rattle.bac_capture.specs.declared.bvlc.OtherBvll.{OtherBvll}
-use Rattle.bac_capture.specs.declared.bvlc.OtherBvll.TheVariants.{Ipv4, Ipv6}
-use Rattle.bac_capture.specs.Bvlc.{function_number}
+use Rattle.bac_text.specs.declared.bvlc.OtherBvll.{OtherBvll}
+use Rattle.bac_text.specs.declared.bvlc.OtherBvll.TheVariants.{Ipv4, Ipv6}
+use Rattle.bac_text.specs.Bvlc.{function_number}
 use Rattle.bac_capture.specs.declared.check_fault.Verdict.{Verdict}
 use Rattle.bac_capture.specs.declared.check_fault.Verdict.TheVariants.{Nothing, Good, Other, Bad}
 use Rattle.bac_text.specs.declared.status.Status.{Status}

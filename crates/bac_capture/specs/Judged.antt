@@ -3,8 +3,8 @@ use Rattle.std.specs.Prelude.{◌≡◌, ℕ, List, Result, Ok, Err, Option, Som
 use Rattle.bac_capture.specs.declared.fault.PacketFault.{PacketFault}
 use Rattle.bac_capture.specs.declared.link.LinkKind.{LinkKind}
 use Rattle.bac_capture.specs.Blocks.{FrameView}
-use Rattle.bac_capture.specs.Bvlc.{other_bvll_of}
-use Rattle.bac_capture.specs.declared.bvlc.OtherBvll.{OtherBvll}
+use Rattle.bac_text.specs.Bvlc.{other_bvll_of}
+use Rattle.bac_text.specs.declared.bvlc.OtherBvll.{OtherBvll}
 use Rattle.bac_capture.specs.Frames.{datagram_at}
 use Rattle.bac_capture.specs.Links.{link_kind_of}
 use Rattle.bac_capture.specs.Packets.{DatagramView}

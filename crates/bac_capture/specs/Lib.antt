@@ -16,7 +16,6 @@ pub mod Options
 pub mod Files
 pub mod Blocks
 pub mod BlockViews
-pub mod Bvlc
 pub mod Begins
 pub mod CheckTexts
 pub mod Counts

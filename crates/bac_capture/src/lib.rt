@@ -8,7 +8,6 @@
 mod begin;
 mod block;
 mod broken;
-mod bvlc;
 mod capture;
 mod check;
 mod check_fault;
@@ -36,8 +35,8 @@ mod tally;
 mod udp;
 mod walk;
 
+pub use bac_text::{BvlcFunction, OtherBvll};
 pub use block::{Block, Frame};
-pub use bvlc::{BvlcFunction, OtherBvll};
 pub use capture::{NodeDatagram, print_head, print_record};
 pub use check::check_capture_over;
 pub use fault::{FileFault, PacketFault};

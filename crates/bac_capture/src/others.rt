@@ -1,7 +1,7 @@
 //! Counts of BVLLs with functions other than Original-Unicast-NPDU, printed by name.
 ghost use Rattle.std.specs.Prelude.{◌≡◌, ◌<◌, OnOk};
 ghost use Rattle.std.specs.Io.KnownBytes.{Appends};
-ghost use Rattle.bac_capture.specs.Bvlc.{function_of};
+ghost use Rattle.bac_text.specs.Bvlc.{function_of};
 ghost use Rattle.bac_capture.specs.Counts.{OTHERS, place_of};
 ghost use Rattle.bac_capture.specs.Checked.{name_in, other_text, others_text, named_text};
 

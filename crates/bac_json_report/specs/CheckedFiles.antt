@@ -1,11 +1,11 @@
 -- What `bac check --json` prints of a capture.
 use Rattle.std.specs.Prelude.{◌≡◌, ℕ, ◌+◌, false, List, [], codes, Result, Ok, Err, Option, Some, None}
-use Rattle.bac_capture.specs.declared.bvlc.OtherBvll.{OtherBvll}
+use Rattle.bac_text.specs.declared.bvlc.OtherBvll.{OtherBvll}
 use Rattle.bac_capture.specs.declared.fault.FileFault.{FileFault}
 use Rattle.bac_capture.specs.declared.fault.PacketFault.{PacketFault}
 use Rattle.bac_capture.specs.declared.link.LinkKind.{LinkKind}
 use Rattle.bac_capture.specs.Blocks.{FrameView}
-use Rattle.bac_capture.specs.Bvlc.{other_bvll_of}
+use Rattle.bac_text.specs.Bvlc.{other_bvll_of}
 use Rattle.bac_capture.specs.Counts.{IsTallied}
 use Rattle.bac_capture.specs.FileReports.{no_heading}
 use Rattle.bac_capture.specs.FileReports as report

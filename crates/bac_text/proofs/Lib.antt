@@ -6,3 +6,4 @@ mod Printed
 pub mod SoFar
 mod ShownLines
 mod Gaps
+mod Looking

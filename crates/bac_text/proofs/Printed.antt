@@ -4,7 +4,7 @@ use Rattle.std.specs.Io.KnownBytes.{Appends, Keeps}
 use Rattle.bac_service.specs.Members.{◌⨾◌}
 use Rattle.bac_service.specs.Values.{Request, Complex}
 use Rattle.std.proofs.KnownBytes.{Appends-kept}
-use Rattle.bac_text.specs.Decoded.{IsLayer, AreRequestLines, AreComplexLines, AreLayerLines, fault_line, AreLines}
+use Rattle.bac_text.specs.Decoded.{IsLayer, AreRequestLines, AreComplexLines, AreLayerLines, fault_line, AreFaultLines, AreLines, AreOtherLines}
 use Rattle.bac_text.specs.declared.fault.LayerFault.{LayerFault}
 use Rattle.bac_text.specs.Layers.{Service, IsRequestIn, IsComplexIn, HasNoRequest, HasNoComplex, IsFine, IsAtFault}
 use Rattle.bac_text.specs.Outcome.{IsPrinted, IsShown, shown_status}
@@ -70,13 +70,15 @@ pub printed_fine : (in_words : Bool) (datagram : List ℕ) (a b : Option (List �
     → IsPrinted in_words true datagram a b
 printed_fine in_words datagram a b p fine = (fine, both a b b (AreLayerLines in_words datagram) (Is []) p (no_line b))
 
--- the layers were printed, and then the fault
-pub printed_faulty : (in_words : Bool) (datagram : List ℕ) (fault : LayerFault) (a b c : Option (List ℕ)) → AppendsText a b (AreLayerLines in_words datagram)
-    → IsAtFault datagram fault → Appends b c (fault_line in_words datagram fault) → IsPrinted in_words false datagram a c
-printed_faulty in_words datagram fault a b c p at q = record {
+-- the layers were printed, then the fault, and then what else is told
+pub printed_faulty : (in_words : Bool) (datagram : List ℕ) (fault : LayerFault) (a b c d : Option (List ℕ)) → AppendsText a b (AreLayerLines in_words datagram)
+    → IsAtFault datagram fault → Appends b c (fault_line in_words datagram fault) → AppendsText c d (AreOtherLines in_words datagram)
+    → IsPrinted in_words false datagram a d
+printed_faulty in_words datagram fault a b c d p at q o = record {
   fault = fault;
   at_fault = at;
-  printed = both a b c (AreLayerLines in_words datagram) (Is (fault_line in_words datagram fault)) p (line_is b c (fault_line in_words datagram fault) q);
+  printed = both a b d (AreLayerLines in_words datagram) (AreFaultLines in_words datagram (Some fault)) p
+      (both b c d (Is (fault_line in_words datagram fault)) (AreOtherLines in_words datagram) (line_is b c (fault_line in_words datagram fault) q) o);
 }
 
 -- what was printed stands after a flush

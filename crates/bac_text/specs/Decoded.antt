@@ -1,5 +1,5 @@
 -- What `bac decode` prints of a datagram.
-use Rattle.std.specs.Prelude.{◌≡◌, ℕ, Bool, false, List, [], ◌++◌, length, Option, Some, None}
+use Rattle.std.specs.Prelude.{◌≡◌, ℕ, Bool, true, false, List, [], ◌++◌, length, drop, Option, Some, None}
 use Rattle.bac_apdu.specs.Apdu.{Apdu}
 use Rattle.bac_apdu.specs.Spelling.{SpellsApdu}
 use Rattle.bac_npdu.specs.Npdu.{NpduView, MessageView, SpellsNpdu, SpellsBvll}
@@ -8,9 +8,15 @@ use Rattle.bac_service.specs.Values.{Request, Complex}
 use Rattle.bac_service.specs.Requests.{SpellsRequest}
 use Rattle.bac_service.specs.Replies.{SpellsComplex}
 use Rattle.bac_text.specs.declared.fault.LayerFault.{LayerFault}
+use Rattle.bac_text.specs.declared.bvlc.BvlcFunction.{BvlcFunction}
+use Rattle.bac_text.specs.declared.bvlc.OtherBvll.{OtherBvll}
+use Rattle.bac_text.specs.declared.bvlc.OtherBvll.TheVariants as other
+use Rattle.bac_text.specs.Bvlc.{other_bvll_of}
+use Rattle.bac_text.specs.Carried.{carried_at, function_line}
 use Rattle.bac_text.specs.Faults.{printed_fault}
 use Rattle.bac_text.specs.Layers.{Service, request_data_in, complex_data_in}
-use Rattle.bac_text.specs.Texts.{Is, optional, line_end, bvll_text, npdu_text, apdu_text, IsRequestText, IsComplexText}
+use Rattle.bac_text.specs.NameLines.{message_lines, service_lines}
+use Rattle.bac_text.specs.Texts.{Is, line_end, bvll_text, npdu_text, apdu_text, IsRequestText, IsComplexText}
 
 -- ---- one layer
 
@@ -41,18 +47,18 @@ abbrev pub AreComplexLines : (in_words : Bool) → Option Service → List ℕ �
 AreComplexLines in_words None = Is []
 AreComplexLines in_words (Some s) = IsLayer (SpellsComplex s.0) (IsComplexLine in_words) s.1
 
--- the line of an APDU, and after it that of its service data
+-- the line of an APDU, and after it that of its service data; in words the name of another service than the four
 abbrev pub AreApduLinesAs : (in_words : Bool) → Apdu → List ℕ → Type 0
 AreApduLinesAs in_words a =
-    Is (apdu_text in_words a) ⨾ (AreRequestLines in_words (request_data_in a) ⨾ AreComplexLines in_words (complex_data_in a))
+    Is (apdu_text in_words a) ⨾ (AreRequestLines in_words (request_data_in a) ⨾ (AreComplexLines in_words (complex_data_in a) ⨾ Is (service_lines in_words a)))
 
 abbrev pub AreApduLines : Apdu → List ℕ → Type 0
 AreApduLines a = AreApduLinesAs false a
 
--- the contents of a network message stand in the line of its NPDU
+-- the contents of a network message stand in the line of its NPDU; in words its name is below it
 abbrev pub AreContentLines : (in_words : Bool) → Option MessageView → List ℕ → List ℕ → Type 0
 AreContentLines in_words None contents = IsLayer SpellsApdu (AreApduLinesAs in_words) contents
-AreContentLines in_words (Some message) contents = Is []
+AreContentLines in_words (Some message) contents = Is (message_lines in_words message)
 
 abbrev pub AreNpduLines : (in_words : Bool) → NpduView → List ℕ → Type 0
 AreNpduLines in_words n = Is (npdu_text n) ⨾ AreContentLines in_words n.message n.contents
@@ -69,6 +75,34 @@ AreLayerLines in_words datagram = IsLayer SpellsBvll (AreBvllLines in_words (len
 abbrev pub fault_line : (in_words : Bool) → (datagram : List ℕ) → LayerFault → List ℕ
 fault_line in_words datagram fault = printed_fault in_words datagram fault ++ line_end
 
--- these lines, and then that of the fault, if there is one
+-- ---- in words, what a BVLL with another function is
+
+abbrev pub IsCarriedBy : BvlcFunction → (datagram : List ℕ) → NpduView → List ℕ → Type 0
+IsCarriedBy f datagram n = Is (function_line f datagram) ⨾ AreNpduLines true n
+
+-- the function, and the layers of what it carries; nothing where that is no NPDU
+abbrev pub AreCarriedLines : BvlcFunction → (datagram : List ℕ) → Option ℕ → List ℕ → Type 0
+AreCarriedLines f datagram None = Is (function_line f datagram)
+AreCarriedLines f datagram (Some place) = IsLayer SpellsNpdu (IsCarriedBy f datagram) (drop place datagram)
+
+abbrev pub AreFunctionLines : BvlcFunction → (datagram : List ℕ) → List ℕ → Type 0
+AreFunctionLines f datagram = AreCarriedLines f datagram (carried_at f)
+
+abbrev pub AreLinesOf : (datagram : List ℕ) → Option OtherBvll → List ℕ → Type 0
+AreLinesOf datagram None = Is []
+AreLinesOf datagram (Some other.Ipv6) = Is []
+AreLinesOf datagram (Some (other.Ipv4 f)) = AreFunctionLines f datagram
+
+abbrev pub AreOtherLines : (in_words : Bool) → (datagram : List ℕ) → List ℕ → Type 0
+AreOtherLines false datagram = Is []
+AreOtherLines true datagram = AreLinesOf datagram (other_bvll_of datagram)
+
+-- ---- all lines
+
+abbrev pub AreFaultLines : (in_words : Bool) → List ℕ → Option LayerFault → List ℕ → Type 0
+AreFaultLines in_words datagram None = Is []
+AreFaultLines in_words datagram (Some fault) = Is (fault_line in_words datagram fault) ⨾ AreOtherLines in_words datagram
+
+-- the lines of the layers, and then that of the fault, if there is one, and what else is told
 abbrev pub AreLines : (in_words : Bool) → List ℕ → Option LayerFault → List ℕ → Type 0
-AreLines in_words datagram fault = AreLayerLines in_words datagram ⨾ Is (optional (fault_line in_words datagram) fault)
+AreLines in_words datagram fault = AreLayerLines in_words datagram ⨾ AreFaultLines in_words datagram fault

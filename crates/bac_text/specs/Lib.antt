@@ -1,4 +1,6 @@
+pub mod Bvlc
 pub mod Capture
+pub mod Carried
 pub mod Checked
 pub mod Checking
 pub mod Decoded
@@ -8,10 +10,12 @@ pub mod Faults
 pub mod Groups
 pub mod Layers
 pub mod Lines
+pub mod NameLines
 pub mod NextLine
 pub mod Notes
 pub mod Outcome
 pub mod Peers
+pub mod ServiceNames
 pub mod Statuses
 pub mod Stops
 pub mod Texts

@@ -4,20 +4,22 @@ ghost use Rattle.std.specs.Option.{option_map};
 ghost use Rattle.bac_apdu.specs.Views.{apdu_view};
 ghost use Rattle.bac_apdu.specs.Spelling.{SpellsApdu};
 ghost use Rattle.bac_npdu.specs.Npdu.{SpellsNpdu};
-ghost use Rattle.bac_npdu.specs.Views.{message_view};
+ghost use Rattle.bac_npdu.specs.Views.{message_view, npdu_view};
 ghost use Rattle.bac_text.specs.Decoded.{IsLayer, AreRequestLines, AreComplexLines, AreApduLines, AreApduLinesAs, AreContentLines, AreNpduLines, AreLayerLines};
 ghost use Rattle.bac_text.specs.Layers.{request_data_in, complex_data_in};
 ghost use Rattle.bac_text.specs.Outcome.{IsPrinted, IsShown, IsDecoded, IsDecodedAs, shown_status};
 ghost use Rattle.bac_text.specs.Texts.{AppendsText};
 
 use crate::apdu_line::print_apdu;
+use crate::carried::print_other;
 use crate::fault_words::print_fault;
 use crate::frame_lines::{print_bvll, print_npdu};
 use crate::groups::octets_in;
 use crate::layers::{check_datagram, complex_in, request_in};
+use crate::name_lines::{print_message, print_service};
 use crate::status::{Status, complain, no_memory, output_failed};
 use bac_apdu::Apdu;
-use bac_npdu::{Message, read_bvll, read_npdu};
+use bac_npdu::{Message, Npdu, read_bvll, read_npdu};
 use bac_service_text::{print_complex, print_request};
 use std::alloc::Global;
 use std::io;
@@ -59,7 +61,7 @@ fn print_complex_in<W: Write>(
     }
 }
 
-/// Prints the line of an APDU, and that of the service data that it carries whole.
+/// Prints the line of an APDU, and that of the service data that it carries whole; in words the name of another service.
 fn print_apdu_lines<W: Write>(
     alloc: Global,
     in_words: bool,
@@ -70,7 +72,8 @@ fn print_apdu_lines<W: Write>(
 {
     print_apdu(alloc, in_words, apdu, out)?;
     print_request_in(alloc, in_words, apdu, out)?;
-    print_complex_in(alloc, in_words, apdu, out)
+    print_complex_in(alloc, in_words, apdu, out)?;
+    print_service(in_words, apdu, out)
 }
 
 fn print_apdu_layer<W: Write>(
@@ -95,7 +98,7 @@ pub fn print_apdu_octets<W: Write>(alloc: Global, octets: &[u8], out: &mut W) ->
     print_apdu_layer(alloc, false, octets, out)
 }
 
-/// Prints the lines of what an NPDU carries: an APDU, or a message whose octets stand in the NPDU's line.
+/// Prints the lines of what an NPDU carries: an APDU, or in words the name of a message, whose octets stand in the NPDU's line.
 fn print_contents<W: Write>(
     alloc: Global,
     in_words: bool,
@@ -106,10 +109,23 @@ fn print_contents<W: Write>(
     ensures { OnOk result (AppendsText (W.contents out.old) (W.contents out.new)
         (AreContentLines in_words (option_map message_view message) contents.now)) }
 {
-    if message.is_some() {
-        return Ok(());
+    match message {
+        Some(message) => print_message(in_words, message, out),
+        None => print_apdu_layer(alloc, in_words, contents, out),
     }
-    print_apdu_layer(alloc, in_words, contents, out)
+}
+
+/// Prints the lines of an NPDU and of what it carries.
+pub(crate) fn print_npdu_layer<W: Write>(
+    alloc: Global,
+    in_words: bool,
+    npdu: Npdu<'_>,
+    out: &mut W,
+) -> io::Result<()>
+    ensures { OnOk result (AppendsText (W.contents out.old) (W.contents out.new) (AreNpduLines in_words (npdu_view npdu.entry))) }
+{
+    print_npdu(alloc, npdu, out)?;
+    print_contents(alloc, in_words, npdu.message, npdu.contents, out)
 }
 
 /// Prints the lines of an NPDU and of what it carries, if the octets are one.
@@ -121,11 +137,10 @@ fn print_npdu_lines<W: Write>(
 ) -> io::Result<()>
     ensures { OnOk result (AppendsText (W.contents out.old) (W.contents out.new) (IsLayer SpellsNpdu (AreNpduLines in_words) octets.now)) }
 {
-    let Ok(npdu) = read_npdu(octets) else {
-        return Ok(());
-    };
-    print_npdu(alloc, npdu, out)?;
-    print_contents(alloc, in_words, npdu.message, npdu.contents, out)
+    match read_npdu(octets) {
+        Ok(npdu) => print_npdu_layer(alloc, in_words, npdu, out),
+        Err(_) => Ok(()),
+    }
 }
 
 /// Prints the layers of a datagram that can be read, one a line.
@@ -144,8 +159,9 @@ fn print_layers<W: Write>(
     print_npdu_lines(alloc, in_words, npdu, out)
 }
 
-/// Prints the layers of a datagram from the outside in, one a line, up to the first that has a fault, and that fault. Answers whether it has none.
-pub(crate) fn show_datagram<W: Write>(
+/// Prints the layers of a datagram from the outside in, one a line, up to the first that has a fault, and that fault; in words the name of another function too, and
+/// what it carries. Answers whether it has none.
+pub fn show_datagram<W: Write>(
     alloc: Global,
     in_words: bool,
     datagram: &[u8],
@@ -158,12 +174,14 @@ pub(crate) fn show_datagram<W: Write>(
         Ok(()) => Ok(true),
         Err(fault) => {
             print_fault(alloc, in_words, datagram, fault, out)?;
+            print_other(alloc, in_words, datagram, out)?;
             Ok(false)
         }
     }
 }
 
-pub(crate) fn shown_status(fine: bool) -> Status
+/// The status of a command that printed datagrams: `Faulty` where one has a fault.
+pub fn shown_status(fine: bool) -> Status
     ensures { result ≡ shown_status fine }
 {
     if fine { Status::Done } else { Status::Faulty }
@@ -183,7 +201,8 @@ fn decode_datagram<W: Write>(
 }
 
 /// Prints the layers of a datagram given in hexadecimal, one a line, up to the first that has a fault: in words objects, properties, values, an
-/// Error, and the reasons of a Reject, an Abort and a fault.
+/// Error, and the reasons of a Reject, an Abort and a fault. In words a line more names a service other than the four, a message of the network layer, or the
+/// function of another BVLL over IPv4; the layers of an NPDU that such a BVLL carries follow it.
 ///
 /// The digits may stand in groups of whole octets with spaces, tabs or colons between them, and `0x` before a group. A layer with a fault prints
 /// `fault bvll 5`, with the layer and the fault's number, and ends with `Faulty`. Text that is not hexadecimal: `bad hex` on `err`. Out of memory: `no

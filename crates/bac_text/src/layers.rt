@@ -31,7 +31,7 @@ pub(crate) fn npdu_in(octets: &[u8]) -> Result<Npdu<'_>, LayerFault>
 }
 
 /// Whether a service choice is one of the four services'.
-fn is_service(choice: u8) -> bool
+pub(crate) fn is_service(choice: u8) -> bool
     ensures { result ≡ is_served choice }
 {
     Service::of(choice).is_some()

@@ -2,7 +2,9 @@
 #![tactic(auto)]
 
 mod apdu_line;
+mod bvlc;
 mod capture;
+mod carried;
 mod check;
 mod decode;
 mod decode_lines;
@@ -15,14 +17,17 @@ mod groups;
 mod laws;
 mod layers;
 mod lines;
+mod name_lines;
 mod notes;
 mod peers;
+mod service_names;
 mod status;
 mod tally;
 
+pub use bvlc::{BvlcFunction, OtherBvll};
 pub use capture::{CaptureLine, read_capture_line};
 pub use check::{check_lines_over, check_over};
-pub use decode::{decode_over, decode_text_over, print_apdu_octets};
+pub use decode::{decode_over, decode_text_over, print_apdu_octets, show_datagram, shown_status};
 pub use decode_lines::decode_lines_over;
 pub use error::{CheckError, stopped};
 pub use fault::LayerFault;
@@ -33,4 +38,5 @@ pub use layers::check_datagram;
 pub use lines::is_interrupted;
 pub use notes::read_of;
 pub use peers::{link_text, peer_text};
+pub use service_names::{confirmed_service_name, network_message_name, unconfirmed_service_name};
 pub use status::{Status, complain, no_memory, output_failed};

@@ -1,10 +1,10 @@
 -- The functions of a BVLL (Annex J).
 use Rattle.std.specs.Prelude.{ℕ, List, length, drop, slice_index, codes, nat_le, ◌==◌, ◌&&◌, Bool, if◌then◌else◌, Option, Some, None}
 use Rattle.byteorder.specs.Endian.{big_number}
-use Rattle.bac_capture.specs.declared.bvlc.BvlcFunction.{BvlcFunction}
-use Rattle.bac_capture.specs.declared.bvlc.BvlcFunction.TheVariants as function
-use Rattle.bac_capture.specs.declared.bvlc.OtherBvll.{OtherBvll}
-use Rattle.bac_capture.specs.declared.bvlc.OtherBvll.TheVariants as other
+use Rattle.bac_text.specs.declared.bvlc.BvlcFunction.{BvlcFunction}
+use Rattle.bac_text.specs.declared.bvlc.BvlcFunction.TheVariants as function
+use Rattle.bac_text.specs.declared.bvlc.OtherBvll.{OtherBvll}
+use Rattle.bac_text.specs.declared.bvlc.OtherBvll.TheVariants as other
 
 abbrev later_function_of : ℕ → Option BvlcFunction
 later_function_of n =

@@ -1,6 +1,6 @@
 //! The functions of a BVLL (Annex J).
 ghost use Rattle.std.specs.Prelude.{◌≡◌};
-ghost use Rattle.bac_capture.specs.Bvlc.{function_of, function_number, function_name, is_framed, other_function_of, other_bvll_of};
+ghost use Rattle.bac_text.specs.Bvlc.{function_of, function_number, function_name, is_framed, other_function_of, other_bvll_of};
 
 use byteorder::{BigEndian, ByteOrder};
 

@@ -1,0 +1,2 @@
+mod TextLines
+mod Shown

@@ -1,0 +1,14 @@
+pub mod Array
+pub mod Base64
+pub mod Blanks
+pub mod Decoded
+pub mod Digits
+pub mod Dump
+pub mod Escaped
+pub mod Forms
+pub mod Gathered
+pub mod Guess
+pub mod Positions
+pub mod Reading
+pub mod Scans
+pub mod Stream

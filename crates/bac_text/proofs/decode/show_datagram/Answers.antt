@@ -1,8 +1,0 @@
-use Rattle.bac_text.proofs.Printed.{printed_fine, printed_faulty}
-use Rattle.bac_text.proofs.decode.show_datagram.Goals as goal
-
-pub returns-in-Ok : goal.returns-in-Ok
-returns-in-Ok g c = printed_fine _ _ _ _ c.in_ok-print_layers.ensures c.in-Ok.ensures
-
-pub returns-in_ok-print_fault-in-Err : goal.returns-in_ok-print_fault-in-Err
-returns-in_ok-print_fault-in-Err g c = printed_faulty _ _ c.in-Err.fault _ _ _ c.in_ok-print_layers.ensures c.in-Err.ensures c.in_ok-print_fault-in-Err.ensures
