@@ -2,7 +2,7 @@
 use std::io::Write;
 
 /// How many milliseconds late the machine may wake a node that rested, without a word.
-const WAKING: u64 = 100;
+const WAKING: u64 = 1_000;
 
 /// Whether a round that is so many milliseconds late shows that the pace is not kept: there was no time to rest before it, or the machine woke the node late.
 pub(crate) fn is_behind(late: u64, has_rested: bool) -> bool {

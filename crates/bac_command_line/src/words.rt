@@ -295,6 +295,13 @@ const SIMULATE: &[Word] = &[
         against: &["chart", "mermaid", "pcap"],
         help: "Prints each event with its moment and what it did, or why it did nothing",
     },
+    Word {
+        name: "json",
+        form: WordForm::Flag,
+        need: Need::Never,
+        against: &["chart", "mermaid", "pcap", "text"],
+        help: "Prints what came of each event as objects of JSON, one a line",
+    },
 ];
 
 /// Examples for `serve`.

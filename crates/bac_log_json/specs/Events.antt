@@ -1,6 +1,6 @@
 -- What came of the events of a script, as objects of JSON.
-use Rattle.std.specs.Prelude.{◌≡◌, ℕ, ℤ, List, codes}
-use Rattle.bac_json.specs.Forms.{octets_form, text_form}
+use Rattle.std.specs.Prelude.{◌≡◌, ℕ, ℤ, List, Option, codes}
+use Rattle.bac_json.specs.Forms.{octets_form, optional_number, text_form}
 use Rattle.bac_npdu.specs.Peers.{PeerView}
 use Rattle.bac_npdu.specs.Views.{peer_view}
 use Rattle.bac_text.specs.Peers.{peer_text}
@@ -12,9 +12,9 @@ use Rattle.bac_log_json.specs.declared.event.EventKind.TheVariants as kind
 use Rattle.bac_log_json.specs.declared.event.EventRecord as code_record
 
 pub data EventKind : Type 0 where
-  Asked : (ask id : ℕ) → EventKind
+  Asked : (ask : ℕ) → (id : Option ℕ) → EventKind
   AskedAway : (ask : ℕ) → PeerView → EventKind
-  Performed : (ask : ℕ) → EventKind
+  Performed : (ask : ℕ) → (words : List ℕ) → EventKind
   Served : (node : ℕ) → PeerView → (words : List ℕ) → EventKind
   Ended : (ask : ℕ) → (words : List ℕ) → EventKind
   Changed : (node : ℕ) → EventKind
@@ -29,7 +29,7 @@ pub data EventKind : Type 0 where
 abbrev pub kind_view : code.EventKind → EventKind
 kind_view (kind.Asked ask id) = Asked ask id
 kind_view (kind.AskedAway ask peer) = AskedAway ask (peer_view peer)
-kind_view (kind.Performed ask) = Performed ask
+kind_view (kind.Performed ask words) = Performed ask words.now
 kind_view (kind.Served node peer words) = Served node (peer_view peer) words.now
 kind_view (kind.Ended ask words) = Ended ask words.now
 kind_view (kind.Changed node) = Changed node
@@ -41,10 +41,10 @@ kind_view kind.Nothing = Nothing
 kind_view (kind.Refused fault) = Refused fault
 kind_view (kind.Fault fault) = Fault fault
 
--- the line of the script, and the moment of the run in milliseconds
+-- the line of the script, and the moment of the run in milliseconds, where they are told
 pub record EventRecord : Type 0 where
-  pub line : ℕ
-  pub moment : ℕ
+  pub line : Option ℕ
+  pub moment : Option ℕ
   pub kind : EventKind
 
 abbrev pub record_view : code_record.EventRecord → EventRecord
@@ -91,9 +91,9 @@ sent_members number from to octets =
     record nulls { number = whole (unsigned number); from = whole (unsigned from); to = whole (unsigned to); octets = octets_form octets }
 
 abbrev pub members_of : EventKind → EventMembers
-members_of (Asked ask id) = record (ask_members ask) { id = whole (unsigned id) }
+members_of (Asked ask id) = record (ask_members ask) { id = optional_number id }
 members_of (AskedAway ask peer) = record (ask_members ask) { peer = string (peer_text peer) }
-members_of (Performed ask) = ask_members ask
+members_of (Performed ask words) = record (ask_members ask) { text = text_form words }
 members_of (Served node peer words) = record (node_members node) { peer = string (peer_text peer); text = text_form words }
 members_of (Ended ask words) = record (ask_members ask) { text = text_form words }
 members_of (Changed node) = node_members node
@@ -108,7 +108,7 @@ members_of (Fault fault) = record nulls { fault = whole (unsigned fault) }
 abbrev pub kind_word : EventKind → List ℕ
 kind_word (Asked ask id) = codes "asked"
 kind_word (AskedAway ask peer) = codes "asked"
-kind_word (Performed ask) = codes "performed"
+kind_word (Performed ask words) = codes "performed"
 kind_word (Served node peer words) = codes "served"
 kind_word (Ended ask words) = codes "ended"
 kind_word (Changed node) = codes "changed"
@@ -122,10 +122,10 @@ kind_word (Fault fault) = codes "fault"
 
 -- ---- the object: its members are sorted by name
 
-abbrev pub event_form : (kind : List ℕ) → (line moment : ℕ) → EventMembers → Data
+abbrev pub event_form : (kind : List ℕ) → (line moment : Option ℕ) → EventMembers → Data
 event_form kind line moment m =
     object (member (codes "ask") m.ask (member (codes "fault") m.fault (member (codes "from") m.from (member (codes "id") m.id
-    (member (codes "line") (whole (unsigned line)) (member (codes "moment") (whole (unsigned moment)) (member (codes "node") m.node
+    (member (codes "line") (optional_number line) (member (codes "moment") (optional_number moment) (member (codes "node") m.node
     (member (codes "number") m.number (member (codes "octets") m.octets (member (codes "pace") m.pace (member (codes "peer") m.peer
     (member (codes "text") m.text (member (codes "to") m.to (member (codes "type") (string kind) no_members))))))))))))))
 

@@ -3,7 +3,7 @@ ghost use Rattle.std.specs.Prelude.{◌≡◌, IfOk, OnOk};
 ghost use Rattle.bac_json_report.specs.Lines.{IsLineOf};
 ghost use Rattle.bac_log_json.specs.EventMembers.{members_view};
 ghost use Rattle.bac_log_json.specs.Events.{IsEventForm, ask_members, event_form, kind_view, kind_word, members_of, node_members, nulls, record_view, sent_members};
-ghost use Rattle.bac_json.specs.Forms.{octets_form, text_form};
+ghost use Rattle.bac_json.specs.Forms.{octets_form, optional_number, text_form};
 ghost use Rattle.bac_npdu.specs.Views.{peer_view};
 ghost use Rattle.bac_text.specs.Peers.{peer_text};
 ghost use Rattle.bac_text.specs.Texts.{AppendsText};
@@ -11,6 +11,7 @@ ghost use Rattle.serde_json.specs.Data.{number, string, unsigned};
 ghost use Rattle.serde_json.specs.Find.{of_integer};
 ghost use Rattle.serde_json.specs.View.{view};
 
+use crate::log::id_json;
 use bac_json::{octets_json, text_json};
 use bac_json_report::print_json;
 use bac_npdu::Peer;
@@ -23,19 +24,20 @@ use std::io::Write;
 /// What came of an event.
 #[derive(Clone, Copy)]
 pub enum EventKind<'a> {
-    /// The ask with that number was accepted, under that invoke ID.
+    /// The ask with that number was accepted, under that invoke ID where it is known.
     Asked {
         ask: u64,
-        invoke_id: u8,
+        invoke_id: Option<u8>,
     },
     /// The ask of a stranger with that number was accepted.
     AskedAway {
         ask: u64,
         peer: Peer,
     },
-    /// Its request was performed.
+    /// The request of the ask with that number was performed, with that reply in words.
     Performed {
         ask: u64,
+        words: &'a [u8],
     },
     /// A node performed a request of a stranger, with that reply in words.
     Served {
@@ -86,10 +88,10 @@ pub enum EventKind<'a> {
 /// A line of what came of an event.
 #[derive(Clone, Copy)]
 pub struct EventRecord<'a> {
-    /// The number of the line of the script, counted from 1.
-    pub line: u64,
-    /// The moment of the run, in milliseconds, after the event.
-    pub moment: u64,
+    /// The number of the line of the script, counted from 1; None where it is not told.
+    pub line: Option<u64>,
+    /// The moment of the run, in milliseconds; None where it is not told.
+    pub moment: Option<u64>,
     pub kind: EventKind<'a>,
 }
 
@@ -148,6 +150,16 @@ fn kind_word(kind: EventKind<'_>) -> &'static str
     }
 }
 
+/// A number; Null where there is none.
+fn number_json(number: Option<u64>) -> Json
+    ensures { view result ≡ optional_number number }
+{
+    match number {
+        Some(number) => Json::from(number),
+        None => Json::Null,
+    }
+}
+
 fn ask_members(ask: u64) -> EventMembers
     ensures { members_view result ≡ ask_members ask }
 {
@@ -164,11 +176,11 @@ fn node_members(node: u64) -> EventMembers
     members
 }
 
-fn asked_members(ask: u64, invoke_id: u8) -> EventMembers
-    ensures { members_view result ≡ record (ask_members ask) { id = number (unsigned invoke_id) } }
+fn asked_members(ask: u64, invoke_id: Option<u8>) -> EventMembers
+    ensures { members_view result ≡ record (ask_members ask) { id = optional_number invoke_id } }
 {
     let mut members = ask_members(ask);
-    members.id = Json::from(invoke_id);
+    members.id = id_json(invoke_id);
     members
 }
 
@@ -194,7 +206,8 @@ fn served_members(
     Ok(members)
 }
 
-fn ended_members(alloc: Global, ask: u64, words: &[u8]) -> Result<EventMembers, AllocError>
+/// What came of an ask, in words.
+fn told_members(alloc: Global, ask: u64, words: &[u8]) -> Result<EventMembers, AllocError>
     ensures { IfOk result (λ m. members_view m ≡ record (ask_members ask) { text = text_form words.now }) }
 {
     let mut members = ask_members(ask);
@@ -249,9 +262,9 @@ fn members_of(alloc: Global, kind: EventKind<'_>) -> Result<EventMembers, AllocE
     match kind {
         EventKind::Asked { ask, invoke_id } => Ok(asked_members(ask, invoke_id)),
         EventKind::AskedAway { ask, peer } => asked_away_members(alloc, ask, peer),
-        EventKind::Performed { ask } => Ok(ask_members(ask)),
+        EventKind::Performed { ask, words } => told_members(alloc, ask, words),
         EventKind::Served { node, peer, words } => served_members(alloc, node, peer, words),
-        EventKind::Ended { ask, words } => ended_members(alloc, ask, words),
+        EventKind::Ended { ask, words } => told_members(alloc, ask, words),
         EventKind::Changed { node } => Ok(node_members(node)),
         EventKind::Restarted { node } => Ok(node_members(node)),
         EventKind::Sent {
@@ -271,12 +284,13 @@ fn members_of(alloc: Global, kind: EventKind<'_>) -> Result<EventMembers, AllocE
 fn event_object(
     alloc: Global,
     kind: &str,
-    line: u64,
-    moment: u64,
+    line: Option<u64>,
+    moment: Option<u64>,
     members: EventMembers,
 ) -> Result<Json, AllocError>
     ensures { IfOk result (λ v. view v ≡ event_form kind.now line moment (members_view members)) }
 {
+    let (line, moment) = (number_json(line), number_json(moment));
     let (ask, fault, from, id) = (members.ask, members.fault, members.from, members.id);
     let (node, number, octets) = (members.node, members.number, members.octets);
     let (pace, peer, text, to) = (members.pace, members.peer, members.text, members.to);

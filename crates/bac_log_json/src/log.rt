@@ -116,7 +116,8 @@ fn performed_json(
     Ok((request, reply))
 }
 
-fn id_json(invoke_id: Option<u8>) -> Json
+/// An invoke ID; Null where there is none.
+pub(crate) fn id_json(invoke_id: Option<u8>) -> Json
     ensures { view result ≡ optional_number invoke_id }
 {
     match invoke_id {

@@ -10,5 +10,6 @@ pub mod Printed
 pub mod Traces
 pub mod FaultWords
 pub mod Worded
+pub mod Objects
 pub mod Drawn
 pub mod Views

@@ -12,6 +12,7 @@ mod link_words;
 mod marks;
 mod moments;
 mod nothing;
+mod objects;
 mod printing;
 mod read_script;
 mod script;

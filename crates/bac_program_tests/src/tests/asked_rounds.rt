@@ -46,6 +46,29 @@ const ROWS: &[RoundsRow] = &[
             0,
         ),
     ),
+    // fractions of a second, where a round takes no longer, and where it does
+    (
+        "",
+        NOBODY,
+        "ask --port 47808 --timeout 1 --every 1.5 --times 2 read 0:5 85",
+        ("no ending\nno ending\n", "", 1),
+    ),
+    (
+        "",
+        NOBODY,
+        "ask --port 47808 --timeout 1 --every 0.75 --times 2 read 0:5 85",
+        (
+            "no ending\nno ending\n",
+            "round 2 is 550 ms late\n",
+            1,
+        ),
+    ),
+    (
+        "",
+        NOBODY,
+        "ask --port 47808 --timeout 1 --every 0.001 --times 1 read 0:5 85",
+        ("no ending\n", "", 1),
+    ),
     // octets of a file, and octets alone
     (
         "DC4\0\0",
@@ -64,20 +87,28 @@ const ROWS: &[RoundsRow] = &[
         "",
         SLOW_HOUSES,
         "ask --port 47808 --every 1 --times 2 read 0:5 85",
-        ("expired\nexpired\n", "", 1),
+        ("expired\nexpired\n", "round 2 is 539000 ms late\n", 1),
     ),
     (
         "",
         NOBODY,
         "ask --port 47808 --timeout 3 --every 1 --times 2 read 0:5 85",
-        ("no ending\nno ending\n", "", 1),
+        (
+            "no ending\nno ending\n",
+            "round 2 is 2300 ms late\n",
+            1,
+        ),
     ),
     // one round that fails is told at the end
     (
         "",
         WRITTEN_0,
         "ask --port 47808 --timeout 1 --every 1 --times 3 write 2:1 85 4443340000",
-        ("answered written\nno ending\nno ending\n", "", 1),
+        (
+            "answered written\nno ending\nno ending\n",
+            "round 3 is 300 ms late\n",
+            1,
+        ),
     ),
     (
         "",

@@ -94,6 +94,105 @@ const OBJECTS: &[RecordRow] = &[
     ),
 ];
 
+/// Lines of which one has a name.
+const NAMED: &str = "\
+flow: read 0:5 85
+# and
+read 0:9 85
+";
+
+const NAMED_RECORDS: &[RecordRow] = &[
+    (
+        NAMED,
+        HOUSES,
+        "ask --port 47808 --csv --lines capture",
+        (
+            "time,peer,object,property,kind,value,status,name\n\
+             2026-11-27T07:10:00.000Z,127.0.0.1:47808,analog-input:5,present-value,real,72.3,answered,flow\n\
+             2026-11-27T07:10:00.000Z,127.0.0.1:47808,analog-input:9,present-value,,,error object unknown-object (1:31),\n",
+            "",
+            0,
+        ),
+    ),
+    (
+        NAMED,
+        HOUSES,
+        "ask --port 47808 --json --window 2 --lines capture",
+        (
+            "{\"class\":null,\"code\":null,\"end\":null,\"index\":null,\"line\":1,\"name\":\"flow\",\"object\":\"analog-input:5\",\"octets\":null,\
+             \"peer\":\"127.0.0.1:47808\",\"position\":null,\"property\":\"present-value\",\"reason\":null,\"request\":\"read\",\"round\":null,\
+             \"status\":\"answered\",\"text\":\"answered real 72.3\",\"time\":\"2026-11-27T07:10:00.000Z\",\
+             \"values\":[{\"kind\":\"real\",\"value\":72.3}]}\n\
+             {\"class\":1,\"code\":31,\"end\":null,\"index\":null,\"line\":3,\"name\":null,\"object\":\"analog-input:9\",\"octets\":null,\
+             \"peer\":\"127.0.0.1:47808\",\"position\":null,\"property\":\"present-value\",\"reason\":null,\"request\":\"read\",\"round\":null,\
+             \"status\":\"error\",\"text\":\"answered error object unknown-object (1:31)\",\"time\":\"2026-11-27T07:10:00.000Z\",\"values\":null}\n",
+            "",
+            0,
+        ),
+    ),
+    // in lines, one after the other and at once
+    (
+        NAMED,
+        HOUSES,
+        "ask --port 47808 --text --lines capture",
+        (
+            "1: flow: answered real 72.3\n3: answered error object unknown-object (1:31)\n",
+            "",
+            0,
+        ),
+    ),
+    (
+        "a.b_c-1: @127.0.0.1 read 0:5 85\n",
+        HOUSES,
+        "ask --text --window 2 --lines capture",
+        ("1: a.b_c-1: answered real 72.3\n", "", 0),
+    ),
+    // a name that is none, and one without a request
+    (
+        "read 0:5 85\nfl/ow: read 0:5 85\n",
+        NO_LINKS,
+        "ask --port 47808 --lines capture",
+        (
+            "",
+            "line 2: bad name: \"fl/ow:\" is no NAME: of letters, digits, `_`, `-` and `.`\n",
+            2,
+        ),
+    ),
+    (
+        ": read 0:5 85\n",
+        NO_LINKS,
+        "ask --port 47808 --lines capture",
+        (
+            "",
+            "line 1: bad name: \":\" is no NAME: of letters, digits, `_`, `-` and `.`\n",
+            2,
+        ),
+    ),
+    (
+        "flow: read\n",
+        NO_LINKS,
+        "ask --port 47808 --lines capture",
+        ("", "line 1: bad words: object is missing\n", 2),
+    ),
+    (
+        "flow: read 0:5 85\n",
+        NO_LINKS,
+        "ask --lines capture",
+        (
+            "",
+            "line 1: no address: @A.B.C.D[:P][/NET:MAC] before the request wanted, or --to\n",
+            2,
+        ),
+    ),
+    // why an ask was refused, in words
+    (
+        "",
+        HOUSES,
+        "ask --port 50001 --text read 0:5 85",
+        ("refused 5 (the peer is at the node's own link)\n", "", 1),
+    ),
+];
+
 const ROWS: &[RecordRow] = &[
     (
         "",
@@ -160,7 +259,7 @@ const ROWS: &[RecordRow] = &[
             "time,peer,object,property,kind,value,status\n\
              2026-11-27T07:10:00.000Z,127.0.0.1:47808,analog-input:5,present-value,,,no ending\n\
              2026-11-27T07:10:00.000Z,127.0.0.1:47808,analog-input:5,present-value,,,no ending\n",
-            "",
+            "round 2 is 300 ms late\n",
             1,
         ),
     ),
@@ -221,4 +320,9 @@ fn prints_objects_of_asks(rt: HostRuntime) -> Result<(), Fail> {
 #[test]
 fn prints_rows_of_asks(rt: HostRuntime) -> Result<(), Fail> {
     all_end_so(rt.alloc(), ROWS)
+}
+
+#[test]
+fn carries_the_names_of_lines(rt: HostRuntime) -> Result<(), Fail> {
+    all_end_so(rt.alloc(), NAMED_RECORDS)
 }

@@ -30,7 +30,7 @@ const ROWS: &[(&str, Ending)] = &[
     ("serve --port 47897 --turns 1", ("", "link fault\n", 3)),
     // nobody answers, for a second each time
     (
-        "ask --to 127.0.0.9:47896 --timeout 1 --every 1 --times 2 read 0:5 85",
+        "ask --to 127.0.0.9:47896 --timeout 1 --every 2 --times 2 read 0:5 85",
         ("no ending\nno ending\n", "", 1),
     ),
     (
