@@ -189,7 +189,7 @@ fn time_cell(time: &Option<TimeText>) -> &[u8]
 /// The name of the line, where a line of the list has one.
 fn push_name(name: LineName<'_>, row: &mut ByteRecord) -> Result<(), AllocError>
     requires { records.partial_of row.old ≡ [] }
-    ensures { OnOk result (records.fields_of row.new ≡ records.fields_of row.old ++ name_fields (name_view name)) }
+    ensures { OnOk result (records.fields_of row.new ≡ records.fields_of row.old ++ name_fields (name_view name.entry)) }
 {
     match name {
         LineName::Unnamed => Ok(()),

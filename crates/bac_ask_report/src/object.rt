@@ -136,7 +136,7 @@ fn put_asked(alloc: Global, asked: AskedMembers, members: &mut Members) -> Resul
 
 /// The name of the line, where a line of the list has one.
 fn put_name(alloc: Global, name: LineName<'_>, members: &mut Members) -> Result<(), AllocError>
-    ensures { OnOk result (members_view members.new.entries ≡ with_name (name_view name) (members_view members.old.entries)) }
+    ensures { OnOk result (members_view members.new.entries ≡ with_name (name_view name.entry) (members_view members.old.entries)) }
 {
     match name {
         LineName::Unnamed => Ok(()),
@@ -207,7 +207,7 @@ fn ask_object(
     end: EndMembers,
     answer: AnswerMembers,
 ) -> Result<Json, AllocError>
-    ensures { IfOk result (λ v. view v ≡ ask_object (name_view name) (asked_members_view asked) (end_members_view end) (answer_members_view answer)) }
+    ensures { IfOk result (λ v. view v ≡ ask_object (name_view name.entry) (asked_members_view asked) (end_members_view end) (answer_members_view answer)) }
 {
     let mut members = Map::new(alloc);
     put_asked(alloc, asked, &mut members)?;

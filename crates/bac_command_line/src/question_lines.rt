@@ -163,7 +163,7 @@ fn kept_name<E: Write>(
     name: Option<&str>,
     err: &mut E,
 ) -> Result<Option<String>, Status>
-    ensures kept { IfOk result (λ n. option_map string_bytes n ≡ option_map (λ t. t.now) name) }
+    ensures kept { IfOk result (λ n. option_map string_bytes n ≡ option_map (λ t. t.now) name.entry) }
     ensures refused { IsErrOf result Status.CommandLine → ⊥ }
     ensures told { IfErr result IsStop }
 {

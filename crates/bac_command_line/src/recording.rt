@@ -150,7 +150,7 @@ pub(crate) fn print_record<O: Write>(
     end: &AskEnd,
     out: &mut O,
 ) -> io::Result<bool>
-    ensures { IfOk result (λ succeeded. PrintsRecord form printer.now.asking.now.output_format.strict (asker_view asker) (question_view question.now) end.now succeeded
+    ensures { IfOk result (λ succeeded. PrintsRecord form printer.now.asking.now.output_format.strict (asker_view asker.entry) (question_view question.now) end.now succeeded
         (O.contents out.old) (O.contents out.new)) }
 {
     let alloc = printer.alloc;
@@ -180,7 +180,7 @@ fn print_end<O: Write, E: Write>(
     out: &mut O,
     err: &mut E,
 ) -> io::Result<bool>
-    ensures { IfOk result (λ succeeded. PrintsAsk printer.now.asking.now.records printer.now.asking.now.output_format (asker_view asker) (question_view question.now) end.now succeeded
+    ensures { IfOk result (λ succeeded. PrintsAsk printer.now.asking.now.records printer.now.asking.now.output_format (asker_view asker.entry) (question_view question.now) end.now succeeded
         (O.contents out.old) (O.contents out.new)) }
 {
     let request = &question.request;
@@ -200,7 +200,7 @@ pub(crate) fn print_ask<O: Write, E: Write>(
     out: &mut O,
     err: &mut E,
 ) -> Result<bool, Status>
-    ensures told { IfOk result (λ succeeded. PrintsAsk printer.now.asking.now.records printer.now.asking.now.output_format (asker_view asker) (question_view question.now) end.now succeeded
+    ensures told { IfOk result (λ succeeded. PrintsAsk printer.now.asking.now.records printer.now.asking.now.output_format (asker_view asker.entry) (question_view question.now) end.now succeeded
         (O.contents out.old) (O.contents out.new)) }
     ensures failed { IfErr result IsFailure }
 {

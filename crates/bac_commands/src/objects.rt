@@ -1,13 +1,15 @@
 //! The lines of a turn as objects of JSON.
 ghost use Rattle.std.specs.Prelude.{◌≡◌, IfOk, Some};
+ghost use Rattle.std.specs.Option.{option_map};
+ghost use Rattle.bac_service.specs.Views.{reply_view, request_view};
 ghost use Rattle.bac_apdu.specs.Views.{apdu_view};
 ghost use Rattle.bac_npdu.specs.Views.{npdu_view, peer_view};
 ghost use Rattle.bac_node.specs.Views.{cause_view};
 ghost use Rattle.bac_driver.specs.Seen.{seen};
-ghost use Rattle.bac_driver.specs.Turns.{dropped_of};
+ghost use Rattle.bac_driver.specs.Turns.{dropped_of, performed_of};
 ghost use Rattle.bac_driver.specs.Views.{turn_view};
-ghost use Rattle.bac_log_json.specs.Logs.{NotDone, NotSent, SentAgain, event_view};
-ghost use Rattle.bac_commands.specs.Objects.{AreRestObjects, AreTurnObjects, IsCameObject, IsCountObject, IsDroppedObject, IsHeardObject, IsNpduObject, IsObjectAt, IsReceivedObject, id_of, time_at};
+ghost use Rattle.bac_log_json.specs.Logs.{event_view};
+ghost use Rattle.bac_commands.specs.Objects.{AreRestObjects, AreTurnObjects, IsCameObject, IsCountObject, IsDroppedObject, IsHeardObject, IsNpduObject, IsObjectAt, IsReceivedObject, id_of, request_and_reply, time_at};
 
 use crate::came::asking_words;
 use crate::cause::cause_words;
@@ -68,7 +70,9 @@ fn id_of(apdu: &Apdu<'_>) -> Option<u8>
 }
 
 /// The request that was performed in a turn, and its reply.
-fn performed_in(turn: &Turn) -> Option<(Request<'_>, Reply<'_>)> {
+fn performed_in(turn: &Turn) -> Option<(Request<'_>, Reply<'_>)>
+    ensures { option_map (λ p. (request_view p.0, reply_view p.1)) result ≡ option_map request_and_reply (performed_of (turn_view turn.now).heard) }
+{
     match turn.effect() {
         Some(act) => Some((act.effect.request.as_request(), act.effect.reply.as_reply())),
         None => None,

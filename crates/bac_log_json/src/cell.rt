@@ -2,7 +2,7 @@
 ghost use Rattle.std.specs.Prelude.{◌≡◌, IfOk, OnOk};
 ghost use Rattle.bac_json.specs.Forms.{object_form};
 ghost use Rattle.bac_json_report.specs.Lines.{IsLineOf};
-ghost use Rattle.bac_log_json.specs.Cells.{AreKeptValues, IsCellForm, cell_form, part_view};
+ghost use Rattle.bac_log_json.specs.Cells.{AreKeptValues, File, IsCellForm, Values, cell_form, part_view};
 ghost use Rattle.bac_text.specs.Texts.{AppendsText};
 ghost use Rattle.bac_value.specs.Views.{object_identifier_view};
 ghost use Rattle.serde_json.specs.View.{view};
@@ -84,7 +84,7 @@ fn values_object(
     property: u32,
     octets: &[u8],
 ) -> Result<Json, NoMemory>
-    ensures { IfOk result (λ v. IsCellForm (part_view (KeptPart.Values object property octets)) (view v)) }
+    ensures { IfOk result (λ v. IsCellForm (Values (object_identifier_view object) property octets.now) (view v)) }
 {
     let kept = kept_values(alloc, octets)?;
     let property = property_json(alloc, property)?;
@@ -98,7 +98,7 @@ fn values_object(
 }
 
 fn file_object(alloc: Global, object: ObjectIdentifier, length: u64) -> Result<Json, AllocError>
-    ensures { IfOk result (λ v. IsCellForm (part_view (KeptPart.File object length)) (view v)) }
+    ensures { IfOk result (λ v. IsCellForm (File (object_identifier_view object) length) (view v)) }
 {
     let cell = CellMembers {
         length: Json::from(length),

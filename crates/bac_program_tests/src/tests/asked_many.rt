@@ -143,7 +143,7 @@ fn asks_such_lists_in_rounds(rt: HostRuntime) -> Result<(), Fail> {
         alloc,
         list.as_str(),
         QUICK_HOUSES,
-        "ask --port 47808 --window 8 --every 1 --times 2 --lines capture",
+        "ask --port 47808 --window 8 --every 10 --times 2 --lines capture",
         (both.as_str(), "", 0),
     )
 }

@@ -57,11 +57,7 @@ const ROWS: &[RoundsRow] = &[
         "",
         NOBODY,
         "ask --port 47808 --timeout 1 --every 0.75 --times 2 read 0:5 85",
-        (
-            "no ending\nno ending\n",
-            "round 2 is 550 ms late\n",
-            1,
-        ),
+        ("no ending\nno ending\n", "round 2 is 550 ms late\n", 1),
     ),
     (
         "",
@@ -93,11 +89,7 @@ const ROWS: &[RoundsRow] = &[
         "",
         NOBODY,
         "ask --port 47808 --timeout 3 --every 1 --times 2 read 0:5 85",
-        (
-            "no ending\nno ending\n",
-            "round 2 is 2300 ms late\n",
-            1,
-        ),
+        ("no ending\nno ending\n", "round 2 is 2300 ms late\n", 1),
     ),
     // one round that fails is told at the end
     (

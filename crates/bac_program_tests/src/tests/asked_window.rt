@@ -33,7 +33,7 @@ const ROWS: &[WindowRow] = &[
     (
         READS,
         BACKWARDS,
-        "ask --port 47808 --fail --window 256 --every 1 --times 2 --lines -",
+        "ask --port 47808 --fail --window 256 --every 9 --times 2 --lines -",
         (
             "1: answered read 444290999A\n3: answered file 1 0 4F4B\n4: answered error 1:31\n1: answered read 444290999A\n3: answered file 1 0 4F4B\n4: answered error 1:31\n",
             "",

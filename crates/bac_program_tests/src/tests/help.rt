@@ -86,9 +86,18 @@ const WORDS: &[(&str, &str)] = &[
         "ask --port 47899 --every 0.0001 read 0:5 85",
         "invalid value '0.0001' for '--every <S>': a number of seconds wanted, 0.001 to 1000000000, with at most three digits behind the point\n",
     ),
-    ("ask --port 47899 --every 0.000 read 0:5 85", "0.001 to 1000000000"),
-    ("ask --port 47899 --every 1000000000.001 read 0:5 85", "0.001 to 1000000000"),
-    ("ask --port 47899 --every 1. read 0:5 85", "0.001 to 1000000000"),
+    (
+        "ask --port 47899 --every 0.000 read 0:5 85",
+        "0.001 to 1000000000",
+    ),
+    (
+        "ask --port 47899 --every 1000000000.001 read 0:5 85",
+        "0.001 to 1000000000",
+    ),
+    (
+        "ask --port 47899 --every 1. read 0:5 85",
+        "0.001 to 1000000000",
+    ),
     ("simulate --json --text x", "--json"),
     ("serve --json --turns 1", "--log"),
     ("keep x --json --forget file:1", "--json"),

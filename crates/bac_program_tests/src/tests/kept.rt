@@ -74,6 +74,16 @@ const ROWS: &[(&str, Ending)] = &[
         ("", "cannot read\nnowhere: entity not found\n", 2),
     ),
     (
+        "keep capture --json",
+        (
+            "{\"length\":null,\"object\":\"analog-value:1\",\"octets\":null,\"property\":\"present-value\",\"values\":[{\"kind\":\"real\",\"value\":72.5}]}\n\
+             {\"length\":null,\"object\":\"analog-value:9\",\"octets\":null,\"property\":\"present-value\",\"values\":[{\"kind\":\"real\",\"value\":72.5}]}\n\
+             {\"length\":3,\"object\":\"file:1\",\"octets\":null,\"property\":null,\"values\":null}\n",
+            "",
+            0,
+        ),
+    ),
+    (
         "keep capture",
         (
             "analog-value:1 present-value real 72.5\nanalog-value:9 present-value real 72.5\nfile:1 3 octets\n",
