@@ -3,6 +3,7 @@ ghost use Rattle.std.specs.Prelude.{◌≡◌};
 ghost use Rattle.bac_text.specs.declared.status.Status.TheVariants as status;
 
 use crate::address::{read_end, read_host, read_link, read_route};
+use bac_forms::FORM_NAMES;
 use bac_objects::{DocumentFault, document_findings};
 use bac_text::{Status, complain};
 use clap::ArgMatches;
@@ -84,11 +85,24 @@ fn print_bad_address<E: Write>(bad: Option<(&str, &'static str)>, err: &mut E) -
     status
 }
 
+/// Complains of a text that names no form of datagrams: `bad form`, and which and what is wanted.
+fn print_bad_form<E: Write>(form: Option<&str>, err: &mut E) -> Status
+    ensures { result ≡ status.CommandLine }
+{
+    let status = complain(err, "bad form", Status::CommandLine);
+    if let Some(form) = form {
+        // if that fails too, only the status is left
+        let _ = writeln!(err, "\"{form}\" is no form: {FORM_NAMES} wanted");
+    }
+    status
+}
+
 /// Complains of a command line that clap takes and that asks for nothing.
 pub(crate) fn print_no_task<E: Write>(matches: &ArgMatches<'_>, err: &mut E) -> Status
     ensures { result ≡ status.CommandLine }
 {
     match matches.subcommand() {
+        Some(("decode", given)) => print_bad_form(given.get_str("form"), err),
         Some(("explain", given)) => print_bad_address(bad_peer(given), err),
         Some(("serve", given)) => print_bad_address(bad_host(given), err),
         Some(("ask", given)) => print_bad_address(bad_node(given), err),
