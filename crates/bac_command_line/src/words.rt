@@ -71,7 +71,7 @@ Example: bac decode 810A000801001013
 Example: bac decode --text '81 0a 00 11 01 04 00 05 01 0c 0c 00 00 00 05 19 55'
 Example: bac decode --text - < datagrams.txt
 Example: bac decode --text --number --form hexdump - < dump.txt
-Example: bac decode --form escaped '"\\x81\\x0a\\x00\\x08\\x01\\x00\\x10\\x13"'";
+Example: bac decode --form base64 gQoACAEAEBM=";
 
 /// What `decode` takes.
 const DECODE: &[Word] = &[
