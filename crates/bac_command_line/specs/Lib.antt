@@ -21,3 +21,4 @@ pub mod Stores
 pub mod Tasks
 pub mod Forgetting
 pub mod Keeping
+pub mod Copied

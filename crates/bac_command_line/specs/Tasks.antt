@@ -5,6 +5,7 @@ use Rattle.bac_npdu.specs.Views.{peer_view}
 use Rattle.bac_text.specs.declared.status.Status.{Status}
 use Rattle.bac_text.specs.declared.status.Status.TheVariants as status
 use Rattle.bac_command_line.specs.Asked.{AreAskedFrom}
+use Rattle.bac_command_line.specs.Copied.{AreDecodedCopied}
 use Rattle.bac_command_line.specs.Explaining.{IsJsonFile, IsPageFile}
 use Rattle.bac_command_line.specs.Files.{IsChartedFile, IsCheckedFile, IsExplainedFile, IsShownFile, IsSimulatedFile}
 use Rattle.bac_command_line.specs.Json as json
@@ -29,6 +30,7 @@ abbrev pub IsPerformed : (IsAt : (path : List ℕ) → (content : Option (List �
 IsPerformed IsAt IsOn IsClock IsOnDatabase (task.Answer datagram objects) s old new =
     IsAnsweredFrom IsAt (option_map (λ p. p.now) objects) datagram.now s old new
 IsPerformed IsAt IsOn IsClock IsOnDatabase (task.Decode in_words datagram) s old new = IsDecodedFrom IsAt in_words datagram.now s old new
+IsPerformed IsAt IsOn IsClock IsOnDatabase (task.DecodeForm copied datagrams) s old new = AreDecodedCopied IsAt copied datagrams.now s old new
 IsPerformed IsAt IsOn IsClock IsOnDatabase (task.DecodeJson datagram) s old new = json.IsDecodedFrom IsAt datagram.now s old new
 IsPerformed IsAt IsOn IsClock IsOnDatabase (task.CheckJson capture) s old new = json.IsCheckedFile IsAt capture.path.now capture.port s old new
 IsPerformed IsAt IsOn IsClock IsOnDatabase (task.CheckJsonLines path) s old new = json.AreCheckedLines IsAt path.now s old new

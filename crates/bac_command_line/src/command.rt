@@ -6,6 +6,7 @@ ghost use Rattle.bac_command_line.specs.Online.{OnClock, OnPort};
 ghost use Rattle.bac_command_line.specs.Tasks.{IsPerformed};
 
 use crate::asking_lines::ask_lines;
+use crate::copied::decode_copied;
 use crate::environment::Environment;
 use crate::explaining::{explain_html, explain_json};
 use crate::files::{OpenFiles, chart, check, explain, show, simulate};
@@ -43,6 +44,9 @@ fn perform<F: OpenFiles, M: Machine, O: Write, E: Write>(
         Task::Answer { datagram, objects } => { answer(alloc, files, datagram, objects, out, err) }
         Task::Decode { in_words, datagram } => {
             decode(alloc, files, in_words, datagram, out, err)
+        }
+        Task::DecodeForm { copied, datagrams } => {
+            decode_copied(alloc, files, copied, datagrams, out, err)
         }
         Task::DecodeJson(datagram) => decode_json(alloc, files, datagram, out, err),
         Task::CheckJson(capture) => check_json(alloc, files, &capture, out, err),

@@ -9,6 +9,7 @@ mod client;
 mod client_pair;
 mod command;
 mod completion;
+mod copied;
 mod ends;
 mod environment;
 mod explaining;

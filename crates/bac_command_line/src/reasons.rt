@@ -3,8 +3,9 @@ ghost use Rattle.std.specs.Prelude.{◌≡◌};
 ghost use Rattle.bac_text.specs.declared.status.Status.TheVariants as status;
 
 use crate::address::{read_end, read_host, read_link, read_route};
-use crate::serving::{read_memory, remembers_in_vain};
 use crate::seconds::{bad_pace, print_bad_pace};
+use crate::serving::{read_memory, remembers_in_vain};
+use bac_forms::FORM_NAMES;
 use bac_objects::{DocumentFault, document_findings};
 use bac_text::{Status, complain};
 use clap::ArgMatches;
@@ -107,11 +108,24 @@ fn print_no_serving<E: Write>(given: &ArgMatches<'_>, err: &mut E) -> Status
     }
 }
 
+/// Complains of a text that names no form of datagrams: `bad form`, and which and what is wanted.
+fn print_bad_form<E: Write>(form: Option<&str>, err: &mut E) -> Status
+    ensures { result ≡ status.CommandLine }
+{
+    let status = complain(err, "bad form", Status::CommandLine);
+    if let Some(form) = form {
+        // if that fails too, only the status is left
+        let _ = writeln!(err, "\"{form}\" is no form: {FORM_NAMES} wanted");
+    }
+    status
+}
+
 /// Complains of a command line that clap takes and that asks for nothing.
 pub(crate) fn print_no_task<E: Write>(matches: &ArgMatches<'_>, err: &mut E) -> Status
     ensures { result ≡ status.CommandLine }
 {
     match matches.subcommand() {
+        Some(("decode", given)) => print_bad_form(given.get_str("form"), err),
         Some(("explain", given)) => print_bad_address(bad_peer(given), err),
         Some(("serve", given)) => print_no_serving(given, err),
         Some(("ask", given)) => match bad_pace(given) {

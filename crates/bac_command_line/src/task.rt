@@ -1,5 +1,6 @@
 //! What a command line asks for.
 use crate::asking::{Asking, asking_of, default_of, peer_of};
+use crate::copied::{Copied, copied_of, is_copied};
 use crate::files::{CaptureFile, ScriptFile};
 use crate::forgetting::Forgetting;
 use crate::help::Telling;
@@ -23,6 +24,11 @@ pub(crate) enum Task<'m, 'a> {
     Decode {
         in_words: bool,
         datagram: &'a str,
+    },
+    /// The same, in a form of their own.
+    DecodeForm {
+        copied: Copied,
+        datagrams: &'a str,
     },
     /// The same as objects of JSON.
     DecodeJson(&'a str),
@@ -166,6 +172,11 @@ pub(crate) fn task_of<'m, 'a>(
         }
         ("decode", given) if given.get_flag("json") => {
             Some(Task::DecodeJson(given.get_str("HEX")?))
+        }
+        ("decode", given) if is_copied(given) => {
+            let datagrams = given.get_str("HEX")?;
+            let copied = copied_of(given)?;
+            Some(Task::DecodeForm { copied, datagrams })
         }
         ("decode", given) => {
             let datagram = given.get_str("HEX")?;

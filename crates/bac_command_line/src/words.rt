@@ -69,7 +69,9 @@ const ANSWER: &[Word] = &[
 const DECODE_EXAMPLES: &str = "\
 Example: bac decode 810A000801001013
 Example: bac decode --text '81 0a 00 11 01 04 00 05 01 0c 0c 00 00 00 05 19 55'
-Example: bac decode --text - < datagrams.txt";
+Example: bac decode --text - < datagrams.txt
+Example: bac decode --text --number --form hexdump - < dump.txt
+Example: bac decode --form base64 gQoACAEAEBM=";
 
 /// What `decode` takes.
 const DECODE: &[Word] = &[
@@ -86,6 +88,20 @@ const DECODE: &[Word] = &[
         need: Need::Never,
         against: &[],
         help: "Prints objects, properties, errors, reasons and faults by their names, and values by their kinds",
+    },
+    Word {
+        name: "form",
+        form: WordForm::Text("FORM"),
+        need: Need::Never,
+        against: &["json"],
+        help: "The form of the datagrams, as Wireshark copies them: `hex`, `hexdump`, `escaped`, `c` (arrays of C), `base64`, or `auto` to find it. Only the part from BACnet/IP on (0x81) is wanted, without the headers before it",
+    },
+    Word {
+        name: "number",
+        form: WordForm::Flag,
+        need: Need::Never,
+        against: &["json"],
+        help: "Prints a line `datagram N` before each datagram, from 1 on",
     },
     Word {
         name: "json",

@@ -64,18 +64,23 @@ fn print_function<W: Write>(
     writeln!(out, "function {name}{sender}")
 }
 
-/// Prints the function and the layers of the NPDU in the datagram from that place on, if there is one.
+/// What stands in a datagram from that place on.
+fn rest_from(datagram: &[u8], place: usize) -> &[u8]
+    ensures { result.now ≡ drop place datagram.now }
+{
+    &datagram[place.min(datagram.len())..]
+}
+
+/// Prints the function and the layers of the NPDU that some octets are, if they are one.
 fn print_carried<W: Write>(
     alloc: Global,
     function: BvlcFunction,
-    place: usize,
     datagram: &[u8],
+    octets: &[u8],
     out: &mut W,
 ) -> io::Result<()>
-    ensures { OnOk result (AppendsText (W.contents out.old) (W.contents out.new)
-        (IsLayer SpellsNpdu (IsCarriedBy function datagram.now) (drop place datagram.now))) }
+    ensures { OnOk result (AppendsText (W.contents out.old) (W.contents out.new) (IsLayer SpellsNpdu (IsCarriedBy function datagram.now) octets.now)) }
 {
-    let octets = &datagram[place.min(datagram.len())..];
     let Ok(npdu) = read_npdu(octets) else {
         return Ok(());
     };
@@ -93,7 +98,10 @@ fn print_function_lines<W: Write>(
     ensures { OnOk result (AppendsText (W.contents out.old) (W.contents out.new) (AreFunctionLines function datagram.now)) }
 {
     match carried_at(function) {
-        Some(place) => print_carried(alloc, function, place, datagram, out),
+        Some(place) => {
+            let octets = rest_from(datagram, place);
+            print_carried(alloc, function, datagram, octets, out)
+        }
         None => print_function(alloc, function, datagram, out),
     }
 }

@@ -41,7 +41,7 @@ fn service_name(apdu: Apdu<'_>) -> Option<&'static str>
 
 /// Prints a name behind what it is the name of.
 fn print_name<W: Write>(what: &str, name: Option<&'static str>, out: &mut W) -> io::Result<()>
-    ensures { OnOk result (Appends (W.contents out.old) (W.contents out.new) (name_lines what.now (option_map (λ s. s.now) name))) }
+    ensures { OnOk result (Appends (W.contents out.old) (W.contents out.new) (name_lines what.now (option_map (λ s. s.now) name.entry))) }
 {
     let Some(name) = name else {
         return Ok(());
