@@ -13,17 +13,22 @@ mod frames;
 mod fresh_node;
 mod lines;
 mod log;
+mod log_level;
 mod online;
 mod serving;
+mod shortening;
+mod stretch;
 
 pub use answering::{CLIENT, answer_datagram, answer_over};
 pub use facts::{
     ending_words, print_asked, print_changed, print_ended, print_ending, print_ending_line,
     print_fault, print_nothing, print_performed, print_refused, print_sent,
 };
+pub use log_level::{LevelLog, LogLevel, OctetStyle};
 pub use online::{
     AskCommand, CommandError, KeptServer, OutputFormat, Style, TURNS, ask, ask_unprinted,
     bound_client, bound_house, bound_server, clock_fault, is_spent, link_fault, pair,
     print_ask_end, read_question, serve, serve_kept,
 };
 pub use serving::{Logged, ServeCommand, serve_kept_logged, serve_logged};
+pub use stretch::{print_served, serve_stretch};

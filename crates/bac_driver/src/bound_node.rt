@@ -1,7 +1,7 @@
 //! A bound node: a node on its link, with a buffer for what comes, and one turn of it.
 //!
 //! Programs, `serving`, `asking` and `pairing` call it. The methods and their contracts are the interface; the fields and the private methods may change.
-ghost use Rattle.std.specs.Prelude.{◌≡◌, ◌↔◌, ◌<◌, ◌≤◌, false, length, map, IfOk, IfErr, IfSome, IsErrOf, OnErr};
+ghost use Rattle.std.specs.Prelude.{◌≡◌, ◌↔◌, ◌<◌, ◌≤◌, false, length, map, IfOk, IfErr, IfSome, IsErrOf, OnErr, OnOk};
 ghost use Rattle.bac_driver.specs.Calls.{one_more, with_call};
 ghost use Rattle.bac_driver.specs.Calls.Call.{FailedReceive};
 ghost use Rattle.bac_node.specs.Calls.{Refuses};
@@ -12,6 +12,9 @@ ghost use Rattle.bac_driver.specs.Runs.{TakesTurnFrom, timed};
 ghost use Rattle.bac_driver.specs.Waits.{BRIEF, IsWait};
 ghost use Rattle.bac_driver.specs.Asking.{IsBegun};
 ghost use Rattle.bac_driver.specs.Views.{question_view, turn_view};
+ghost use Rattle.bac_store.specs.AtNode.{IsFaultOf};
+ghost use Rattle.bac_store.specs.Views.{change_view};
+ghost use Rattle.bac_world.specs.Node.{with_change};
 
 use crate::fault::TurnFault;
 use crate::question::Question;
@@ -22,6 +25,7 @@ use crate::wait_limit::{WaitLimit, wait_until};
 use crate::{Clock, Link};
 use bac_node::Node;
 use bac_requester::AskFault;
+use bac_store::{Change, ChangeFault};
 use bac_value::NoMemory;
 use std::alloc::Global;
 use std::marker::Model;
@@ -93,6 +97,17 @@ impl<L: Link> BoundNode<L> {
         ensures { result.now ≡ self.now.node }
     {
         &self.node
+    }
+
+    /// Its node changes its own store, as [`Node::change`](bac_node::Node::change): no request asks for it, and nothing is sent. Call it between turns.
+    ///
+    /// The faults are those of `Node::change`. After a fault the bound node is as before.
+    pub fn change(&mut self, change: &Change) -> Result<(), ChangeFault>
+        ensures made { OnOk result (self.new ≡ record self.old { node = with_change (change_view change.now) self.old.node }) }
+        ensures fault { IfErr result (IsFaultOf self.old.node.store (change_view change.now)) }
+        ensures err { OnErr result (self.new ≡ self.old) }
+    {
+        self.node.change(change)
     }
 
     /// Its link.

@@ -6,6 +6,7 @@ use Rattle.std.specs.List.{All}
 use Rattle.std.specs.Option.{option_map}
 use Rattle.std.specs.Cmp.Lexicographic.{pointwise}
 use Rattle.std.proofs.lemmas.Bool.Decides.{nat_tests}
+use Rattle.std.proofs.lemmas.List.Elements.{All-head, All-tail}
 use mathlib.Core.List.{map-map}
 use Rattle.bac_value.specs.Value.{ObjectId}
 use Rattle.bac_store.specs.AtNode.{Change, changed}
@@ -18,17 +19,17 @@ use Rattle.bac_follow.specs.Following.{IsNews, contents_in_place, file_followed,
 
 -- ---- changes, part by part
 
-property_made : List Change → ObjectId → Property → Property
+abbrev pub property_made : List Change → ObjectId → Property → Property
 property_made [] id p = p
 property_made (Change.Value i n v ∷ cs) id p = property_made cs id (if is_same i id && is_number n p then with_own_values v p else p)
 property_made (Change.File i v ∷ cs) id p = property_made cs id p
 
-file_made : List Change → ObjectId → File → File
+abbrev pub file_made : List Change → ObjectId → File → File
 file_made [] id f = f
 file_made (Change.Value i n v ∷ cs) id f = file_made cs id f
 file_made (Change.File i v ∷ cs) id f = file_made cs id (if is_same i id then with_contents (λ old. v) f else f)
 
-object_made : List Change → Object → Object
+abbrev pub object_made : List Change → Object → Object
 object_made cs o = record o { properties = map (property_made cs o.id) o.properties; file = option_map (file_made cs o.id) o.file }
 
 map_each : {A B : Type 0} (f g : A → B) (xs : List A) → ((x : A) → f x ≡ g x) → map f xs ≡ map g xs
@@ -56,7 +57,7 @@ parts : (o : Object) (ps qs : List Property) (f g : Option File) → ps ≡ qs �
     → (record o { properties = ps; file = f }) ≡ (record o { properties = qs; file = g })
 parts o ps qs f g a b = ap (λ x. record o { properties = x; file = f }) a ∙ ap (λ x. record o { properties = qs; file = x }) b
 
-object_after : (c : Change) → Object → Object
+abbrev object_after : (c : Change) → Object → Object
 object_after (Change.Value id n v) o = if is_object id o then with_values n v o else o
 object_after (Change.File id v) o = if is_object id o then with_octets (λ old. v) o else o
 
@@ -130,3 +131,198 @@ same_id a b e =
     let kind : a.kind ≡ b.kind = grind (arith, nat_tests) in
     let instance : a.instance ≡ b.instance = grind (arith, nat_tests) in
     λ i. record { kind = kind i; instance = instance i }
+
+-- what is found of an object that a store has is found at its identifier
+found_id : (id : ObjectId) (s : Store) (o : Object) → object_in s id ≡ Some o → id ≡ o.id
+found_id id [] o e = absurd cc
+found_id id (x ∷ xs) o e = go (is_object id x) refl (found_id id xs o)
+  where
+    go : (b : Bool) → is_object id x ≡ b → (object_in xs id ≡ Some o → id ≡ o.id) → id ≡ o.id
+    go true t rest =
+        let head : Some x ≡ Some o = sym (ap (λ b. if b then Some x else object_in xs id) t) ∙ e in
+        let same : x ≡ o = cc in
+        same_id id x.id t ∙ ap (λ y. y.id) same
+    go false t rest = rest (sym (ap (λ b. if b then Some x else object_in xs id) t) ∙ e)
+
+found_number : (n : ℕ) (ps : List Property) (p : Property) → first_that (is_number n) ps ≡ Some p → p.number ≡ n
+found_number n [] p e = absurd cc
+found_number n (x ∷ xs) p e = go (is_number n x) refl (found_number n xs p)
+  where
+    go : (b : Bool) → is_number n x ≡ b → (first_that (is_number n) xs ≡ Some p → p.number ≡ n) → p.number ≡ n
+    go true t rest =
+        let head : Some x ≡ Some p = sym (ap (λ b. if b then Some x else first_that (is_number n) xs) t) ∙ e in
+        let same : x ≡ p = cc in
+        let number : x.number ≡ n = grind (arith, nat_tests) in
+        sym (ap (λ y. y.number) same) ∙ number
+    go false t rest = rest (sym (ap (λ b. if b then Some x else first_that (is_number n) xs) t) ∙ e)
+
+listed_made : (cs : List Change) (o : Object) (n : ℕ) → listed_in (object_made cs o) n ≡ option_map (property_made cs o.id) (listed_in o n)
+listed_made cs o n = first_that-map (is_number n) (property_made cs o.id) (λ p. ap (λ m. m == n) (number_made cs o.id p)) o.properties
+
+-- ---- what the news leave, and what they set
+
+-- they leave each property of this number as it is
+abbrev IsLeft : List Change → ObjectId → ℕ → Type 0
+IsLeft cs id n = (p : Property) → p.number ≡ n → property_made cs id p ≡ p
+
+-- they give each of them these values, which are new
+record IsSet (before now : Store) (cs : List Change) (id : ObjectId) (n : ℕ) : Type 0 where
+  values : List ℕ
+  sets : (p : Property) → p.number ≡ n → property_made cs id p ≡ with_own_values values p
+  new : news (values_at before id n) (values_at now id n) ≡ Some values
+
+abbrev AreNews : (before now : Store) → List Change → Type 0
+AreNews before now cs = All (IsNews before now) cs
+
+first_news : (before now : Store) (c : Change) (cs : List Change) → AreNews before now (c ∷ cs) → IsNews before now c
+first_news before now c cs all = All-head (IsNews before now) c cs all
+
+other_news : (before now : Store) (c : Change) (cs : List Change) → AreNews before now (c ∷ cs) → AreNews before now cs
+other_news before now c cs all = All-tail (IsNews before now) c cs all
+
+left_or_set : (before now : Store) (cs : List Change) (id : ObjectId) (n : ℕ) → AreNews before now cs → IsLeft cs id n ⊎ IsSet before now cs id n
+left_or_set before now [] id n all = inl (λ p e. refl)
+left_or_set before now (Change.File i v ∷ cs) id n all = go (left_or_set before now cs id n (other_news before now (Change.File i v) cs all))
+  where
+    go : IsLeft cs id n ⊎ IsSet before now cs id n → IsLeft (Change.File i v ∷ cs) id n ⊎ IsSet before now (Change.File i v ∷ cs) id n
+    go (inl left) = inl left
+    go (inr set) = inr (record { values = set.values; sets = set.sets; new = set.new })
+left_or_set before now (Change.Value i m v ∷ cs) id n all =
+    go (is_same i id) refl (m == n) refl (left_or_set before now cs id n (other_news before now (Change.Value i m v) cs all))
+  where
+    c : Change
+    c = Change.Value i m v
+
+    touch : (b d : Bool) → is_same i id ≡ b → (m == n) ≡ d → (p : Property) → p.number ≡ n
+        → property_made (c ∷ cs) id p ≡ property_made cs id (if b && d then with_own_values v p else p)
+    touch b d e f p number =
+        let flips : (p.number == m) ≡ (m == n) = grind (arith, nat_tests) in
+        ap (λ x. property_made cs id (if x && (p.number == m) then with_own_values v p else p)) e
+        ∙ ap (λ x. property_made cs id (if b && x then with_own_values v p else p)) (flips ∙ f)
+
+    go : (b : Bool) → is_same i id ≡ b → (d : Bool) → (m == n) ≡ d → IsLeft cs id n ⊎ IsSet before now cs id n
+        → IsLeft (c ∷ cs) id n ⊎ IsSet before now (c ∷ cs) id n
+    go true e true f (inl left) =
+        let object : i ≡ id = same_id i id e in
+        let number : m ≡ n = grind (arith, nat_tests) in
+        inr (record {
+          values = v;
+          sets = λ p is. touch true true e f p is ∙ left (with_own_values v p) is;
+          new = subst (λ x. news (values_at before id x) (values_at now id x) ≡ Some v) number
+              (subst (λ x. news (values_at before x m) (values_at now x m) ≡ Some v) object (first_news before now c cs all));
+        })
+    go true e true f (inr set) =
+        inr (record { values = set.values; sets = λ p is. touch true true e f p is ∙ set.sets (with_own_values v p) is; new = set.new })
+    go true e false f (inl left) = inl (λ p is. touch true false e f p is ∙ left p is)
+    go true e false f (inr set) = inr (record { values = set.values; sets = λ p is. touch true false e f p is ∙ set.sets p is; new = set.new })
+    go false e d f (inl left) = inl (λ p is. touch false d e f p is ∙ left p is)
+    go false e d f (inr set) = inr (record { values = set.values; sets = λ p is. touch false d e f p is ∙ set.sets p is; new = set.new })
+
+-- the same of files
+
+abbrev IsFileLeft : List Change → ObjectId → Type 0
+IsFileLeft cs id = (f : File) → file_made cs id f ≡ f
+
+record IsFileSet (before now : Store) (cs : List Change) (id : ObjectId) : Type 0 where
+  octets : List ℕ
+  sets : (f : File) → file_made cs id f ≡ with_contents (λ old. octets) f
+  new : news (octets_at before id) (octets_at now id) ≡ Some octets
+
+file_left_or_set : (before now : Store) (cs : List Change) (id : ObjectId) → AreNews before now cs → IsFileLeft cs id ⊎ IsFileSet before now cs id
+file_left_or_set before now [] id all = inl (λ f. refl)
+file_left_or_set before now (Change.Value i m v ∷ cs) id all = go (file_left_or_set before now cs id (other_news before now (Change.Value i m v) cs all))
+  where
+    go : IsFileLeft cs id ⊎ IsFileSet before now cs id → IsFileLeft (Change.Value i m v ∷ cs) id ⊎ IsFileSet before now (Change.Value i m v ∷ cs) id
+    go (inl left) = inl left
+    go (inr set) = inr (record { octets = set.octets; sets = set.sets; new = set.new })
+file_left_or_set before now (Change.File i v ∷ cs) id all =
+    go (is_same i id) refl (file_left_or_set before now cs id (other_news before now (Change.File i v) cs all))
+  where
+    c : Change
+    c = Change.File i v
+
+    touch : (b : Bool) → is_same i id ≡ b → (f : File) → file_made (c ∷ cs) id f ≡ file_made cs id (if b then with_contents (λ old. v) f else f)
+    touch b e f = ap (λ x. file_made cs id (if x then with_contents (λ old. v) f else f)) e
+
+    go : (b : Bool) → is_same i id ≡ b → IsFileLeft cs id ⊎ IsFileSet before now cs id → IsFileLeft (c ∷ cs) id ⊎ IsFileSet before now (c ∷ cs) id
+    go true e (inl left) =
+        inr (record {
+          octets = v;
+          sets = λ f. touch true e f ∙ left (with_contents (λ old. v) f);
+          new = subst (λ x. news (octets_at before x) (octets_at now x) ≡ Some v) (same_id i id e) (first_news before now c cs all);
+        })
+    go true e (inr set) = inr (record { octets = set.octets; sets = λ f. touch true e f ∙ set.sets (with_contents (λ old. v) f); new = set.new })
+    go false e (inl left) = inl (λ f. touch false e f ∙ left f)
+    go false e (inr set) = inr (record { octets = set.octets; sets = λ f. touch false e f ∙ set.sets f; new = set.new })
+
+-- ---- what is left has no news
+
+same_text : (xs : List ℕ) → pointwise nat_eq xs xs ≡ true
+same_text [] = refl
+same_text (x ∷ xs) = let here : nat_eq x x ≡ true = grind (arith, nat_tests) in rw here (same_text xs)
+
+no_news : (x : Option (List ℕ)) → news x x ≡ None
+no_news None = refl
+no_news (Some t) = ap (λ b. if b then None else Some t) (same_text t)
+
+module _ (before : Store) (cs : List Change) (id : ObjectId) where
+  values_left : (n : ℕ) → IsLeft cs id n → values_at (made cs before) id n ≡ values_at before id n
+  values_left n left = ap (λ x. option_map (λ p. p.values) (listed_of n x)) (object_there cs before id) ∙ go (object_in before id) refl
+    where
+      in_object : (o : Object) → id ≡ o.id → (x : Option Property) → listed_in o n ≡ x
+          → option_map (λ p. p.values) (option_map (property_made cs o.id) x) ≡ option_map (λ p. p.values) x
+      in_object o is None e = refl
+      in_object o is (Some p) e =
+          ap (λ q. Some (q.values)) (ap (λ i. property_made cs i p) (sym is) ∙ left p (found_number n o.properties p e))
+
+      go : (x : Option Object) → object_in before id ≡ x
+          → option_map (λ p. p.values) (listed_of n (option_map (object_made cs) x)) ≡ option_map (λ p. p.values) (listed_of n x)
+      go None e = refl
+      go (Some o) e = ap (option_map (λ p. p.values)) (listed_made cs o n) ∙ in_object o (found_id id before o e) (listed_in o n) refl
+
+  octets_left : IsFileLeft cs id → octets_at (made cs before) id ≡ octets_at before id
+  octets_left left = ap (λ x. option_map (λ f. f.octets) (file_of x)) (object_there cs before id) ∙ go (object_in before id) refl
+    where
+      in_object : (o : Object) → id ≡ o.id → (x : Option File)
+          → option_map (λ f. f.octets) (option_map (file_made cs o.id) x) ≡ option_map (λ f. f.octets) x
+      in_object o is None = refl
+      in_object o is (Some f) = ap (λ g. Some (g.octets)) (ap (λ i. file_made cs i f) (sym is) ∙ left f)
+
+      go : (x : Option Object) → object_in before id ≡ x
+          → option_map (λ f. f.octets) (file_of (option_map (object_made cs) x)) ≡ option_map (λ f. f.octets) (file_of x)
+      go None e = refl
+      go (Some o) e = in_object o (found_id id before o e) o.file
+
+-- ---- the theorem
+
+module _ (before now : Store) (cs : List Change) (all : AreNews before now cs) (whole : made cs before ≡ now) where
+  property_is : (id : ObjectId) (p : Property) → property_made cs id p ≡ property_followed before now id p
+  property_is id p = go (left_or_set before now cs id p.number all)
+    where
+      go : IsLeft cs id p.number ⊎ IsSet before now cs id p.number → property_made cs id p ≡ property_followed before now id p
+      go (inl left) =
+          left p refl
+          ∙ ap (λ x. in_place x p)
+          (sym (ap (λ s. news (values_at before id p.number) (values_at s id p.number)) (sym whole)
+          ∙ ap (news (values_at before id p.number)) (values_left before cs id p.number left)
+          ∙ no_news (values_at before id p.number)))
+      go (inr set) = set.sets p refl ∙ ap (λ x. in_place x p) (sym set.new)
+
+  file_is : (id : ObjectId) (f : File) → file_made cs id f ≡ file_followed before now id f
+  file_is id f = go (file_left_or_set before now cs id all)
+    where
+      go : IsFileLeft cs id ⊎ IsFileSet before now cs id → file_made cs id f ≡ file_followed before now id f
+      go (inl left) =
+          left f
+          ∙ ap (λ x. contents_in_place x f)
+          (sym (ap (λ s. news (octets_at before id) (octets_at s id)) (sym whole)
+          ∙ ap (news (octets_at before id)) (octets_left before cs id left)
+          ∙ no_news (octets_at before id)))
+      go (inr set) = set.sets f ∙ ap (λ x. contents_in_place x f) (sym set.new)
+
+  pub follows : (s : Store) → made cs s ≡ followed before now s
+  follows s =
+      made_is cs s
+      ∙ map_each (object_made cs) (object_followed before now) s
+      (λ o. parts o _ _ _ _ (map_each (property_made cs o.id) (property_followed before now o.id) o.properties (property_is o.id))
+      (option_each (file_made cs o.id) (file_followed before now o.id) o.file (file_is o.id)))

@@ -36,13 +36,14 @@ fn made_of(alloc: Global, store: &Store, changes: &[Change]) -> Result<Store, Fo
 ///
 /// `Cannot` for the first property or file that the served objects cannot give what the document says now, and `Other` where the documents differ in more than
 /// values and octets: then the server has to be started again to follow the document. `NoMemory` if an allocation fails.
+#[tactic(auto, using(crate::proofs::Followed::follows))]
 pub fn changes_between(
     alloc: Global,
     documents: Documents<'_>,
     objects: &[Object],
 ) -> Result<Vec<Change>, FollowFault>
-    ensures whole { IfOk result (λ v. made (map change_view v.items) documents.before.now ≡ documents.now.now) }
-    ensures followed { IfOk result (λ v. (s : Objects) → made (map change_view v.items) s ≡ followed documents.before.now documents.now.now s) }
+    ensures whole { IfOk result (λ v. made (map change_view v.items) documents.entry.before.now ≡ documents.entry.now.now) }
+    ensures followed { IfOk result (λ v. (s : Objects) → made (map change_view v.items) s ≡ followed documents.entry.before.now documents.entry.now.now s) }
 {
     let changes = news_of(alloc, documents, objects)?;
     let store = made_of(alloc, documents.before, &changes)?;

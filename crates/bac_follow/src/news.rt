@@ -16,7 +16,7 @@ fn value_news(
     object: ObjectIdentifier,
     property: u32,
 ) -> Result<Option<Change>, NoMemory>
-    ensures { IfOk result (λ news. IfSome news (λ c. IsNews documents.before.now documents.now.now (change_view c))) }
+    ensures { IfOk result (λ news. IfSome news (λ c. IsNews documents.entry.before.now documents.entry.now.now (change_view c))) }
 {
     let Some(listed) = documents.now.listed(object, property) else {
         return Ok(None);
@@ -40,7 +40,7 @@ fn file_news(
     documents: Documents<'_>,
     object: ObjectIdentifier,
 ) -> Result<Option<Change>, NoMemory>
-    ensures { IfOk result (λ news. IfSome news (λ c. IsNews documents.before.now documents.now.now (change_view c))) }
+    ensures { IfOk result (λ news. IfSome news (λ c. IsNews documents.entry.before.now documents.entry.now.now (change_view c))) }
 {
     let Some(file) = documents.now.file(object) else {
         return Ok(None);
@@ -58,7 +58,7 @@ fn file_news(
 fn add(changes: &mut Vec<Change>, documents: Documents<'_>, news: Option<Change>) -> Result<(), NoMemory>
     requires old { All (IsNews documents.before.now documents.now.now) (map change_view changes.old.items) }
     requires new { IfSome news (λ c. IsNews documents.before.now documents.now.now (change_view c)) }
-    ensures { OnOk result (All (IsNews documents.before.now documents.now.now) (map change_view changes.new.items)) }
+    ensures { OnOk result (All (IsNews documents.entry.before.now documents.entry.now.now) (map change_view changes.new.items)) }
 {
     if let Some(change) = news {
         changes.push(change)?;
@@ -74,7 +74,7 @@ fn add_object(
     changes: &mut Vec<Change>,
 ) -> Result<(), NoMemory>
     requires { All (IsNews documents.before.now documents.now.now) (map change_view changes.old.items) }
-    ensures { OnOk result (All (IsNews documents.before.now documents.now.now) (map change_view changes.new.items)) }
+    ensures { OnOk result (All (IsNews documents.entry.before.now documents.entry.now.now) (map change_view changes.new.items)) }
 {
     for property in &object.properties {
         let news = value_news(alloc, documents, object.id, property.number)?;
@@ -90,7 +90,7 @@ pub(crate) fn news_of(
     documents: Documents<'_>,
     objects: &[Object],
 ) -> Result<Vec<Change>, NoMemory>
-    ensures { IfOk result (λ v. All (IsNews documents.before.now documents.now.now) (map change_view v.items)) }
+    ensures { IfOk result (λ v. All (IsNews documents.entry.before.now documents.entry.now.now) (map change_view v.items)) }
 {
     let mut changes = Vec::new(alloc);
     for object in objects {
