@@ -12,7 +12,9 @@ ghost use Rattle.bac_command_line.specs.Serving.{is_reusing, patience_of, restar
 
 use crate::address::{BACNET_PORT, LOCAL_HOST, read_host};
 use crate::station::Station;
-use bac_commands::{KeptServer, ServeCommand, link_fault, serve_kept_logged};
+use bac_commands::{
+    KeptServer, LevelLog, LogLevel, OctetStyle, ServeCommand, link_fault, serve_kept_logged,
+};
 use bac_driver::{Clock, Link, NoObserver, RunLimit, WaitLimit};
 use bac_keep::Keeper;
 use bac_npdu::LinkAddress;
@@ -42,8 +44,14 @@ pub(crate) struct Serving {
     pub restarted: bool,
     /// Whether it lets clients use an invoke ID again as soon as its transaction is over.
     pub reuse: bool,
-    /// Whether its turns are logged.
+    /// Whether its turns are logged, all of them.
     pub log: bool,
+    /// Which of its turns are logged, with long octets by their first ones.
+    pub level: Option<LogLevel>,
+    /// Whether it follows its document.
+    pub follow: bool,
+    /// Whether it ends when standard input does.
+    pub until_eof: bool,
 }
 
 impl Serving {
@@ -87,6 +95,16 @@ impl Serving {
             restarted: self.restarted || !is_new,
             ..*self
         }
+    }
+
+    /// Its log, where it begins at that moment.
+    pub(crate) fn log_from(&self, alloc: Global, start: u64) -> LevelLog {
+        let (level, octet_style) = if self.log {
+            (Some(LogLevel::All), OctetStyle::Whole)
+        } else {
+            (self.level, OctetStyle::Short)
+        };
+        LevelLog::new(alloc, self.serves_from(start), level, octet_style)
     }
 
     /// The first moment at which it performs requests, where it begins at that one.
@@ -152,6 +170,19 @@ pub(crate) fn serve_from<L: Link, C: Clock, O: Write, E: Write>(
         turns: serving.most_turns(),
         wait_limit: serving.wait_limit(start),
     };
+    if serving.level.is_some() {
+        let mut log = serving.log_from(station.alloc, start);
+        let status = bac_commands::serve(
+            &mut station.bound_node,
+            &mut station.clock,
+            &limit,
+            &mut log,
+            out,
+            err,
+        );
+        log.end(err);
+        return status;
+    }
     if !serving.log {
         return bac_commands::serve(
             &mut station.bound_node,
@@ -204,6 +235,12 @@ pub(crate) fn serve_kept_from<L: Link, C: Clock, K: Keeper, O: Write, E: Write>(
         turns: serving.most_turns(),
         wait_limit: serving.wait_limit(start),
     };
+    if serving.level.is_some() {
+        let mut log = serving.log_from(alloc, start);
+        let status = bac_commands::serve_kept(server, &limit, &mut log, out, err);
+        log.end(err);
+        return status;
+    }
     if !serving.log {
         return bac_commands::serve_kept(server, &limit, &mut NoObserver, out, err);
     }
@@ -237,6 +274,16 @@ fn is_reusing(turns: Option<u64>, is_told: bool, is_strict: bool) -> bool
     }
 }
 
+/// The level of a log that a word is.
+fn level_of(word: &str) -> Option<LogLevel> {
+    match word {
+        "changes" => Some(LogLevel::Changes),
+        "requests" => Some(LogLevel::Requests),
+        "all" => Some(LogLevel::All),
+        _ => None,
+    }
+}
+
 /// None where what is given is no address.
 pub(crate) fn serving_of(given: &ArgMatches<'_>) -> Option<Serving> {
     let host = match given.get_str("at") {
@@ -254,5 +301,8 @@ pub(crate) fn serving_of(given: &ArgMatches<'_>) -> Option<Serving> {
         restarted: given.get_flag("restarted"),
         reuse: is_reusing(turns, given.get_flag("reuse"), given.get_flag("strict")),
         log: given.get_flag("log"),
+        level: level_of(given.get_str("log-level").unwrap_or("")),
+        follow: given.get_flag("follow"),
+        until_eof: given.get_flag("until-eof"),
     })
 }
