@@ -26,6 +26,7 @@ pub(crate) struct Followed<'p> {
 }
 
 /// Why a document is not followed now, apart from memory.
+#[derive(Drop)]
 enum Refusal {
     /// It means no store.
     Wrong(DocumentFault),
@@ -34,6 +35,7 @@ enum Refusal {
 }
 
 /// What a document as it is now changes.
+#[derive(Drop)]
 struct News {
     store: Store,
     changes: Vec<Change>,
@@ -148,8 +150,9 @@ impl<'p> Followed<'p> {
         log: &mut LevelLog,
         err: &mut E,
     ) -> Result<(), ChangeFault> {
+        let News { store, changes } = news;
         let moment = station.clock.now();
-        for change in &news.changes {
+        for change in &changes {
             make(
                 station.alloc,
                 moment,
@@ -159,7 +162,7 @@ impl<'p> Followed<'p> {
                 err,
             )?;
         }
-        self.store = news.store;
+        self.store = store;
         Ok(())
     }
 

@@ -10,7 +10,7 @@ ghost use Rattle.bac_commands.specs.Statuses.{ByStatus};
 ghost use Rattle.bac_command_line.specs.Keeping.{restarted_by};
 ghost use Rattle.bac_command_line.specs.Serving.{is_reusing, patience_of, restart_of, turns_of};
 
-use crate::address::{BACNET_PORT, LOCAL_HOST, read_host};
+use crate::address::{BACNET_PORT, EVERY_HOST, LOCAL_HOST, read_host};
 use crate::station::Station;
 use bac_commands::{
     KeptServer, LevelLog, LogLevel, OctetStyle, ServeCommand, link_fault, serve_kept_logged,
@@ -284,12 +284,19 @@ fn level_of(word: &str) -> Option<LogLevel> {
     }
 }
 
-/// None where what is given is no address.
-pub(crate) fn serving_of(given: &ArgMatches<'_>) -> Option<Serving> {
-    let host = match given.get_str("at") {
-        Some(text) => read_host(text)?,
-        None => LOCAL_HOST,
+/// The address that a server listens at. None where what is given is no address, or all of this machine's: then the system chooses from which one an answer
+/// leaves, and it need not be the one that was asked.
+fn host_of(given: &ArgMatches<'_>) -> Option<[u8; 4]> {
+    let Some(text) = given.get_str("at") else {
+        return Some(LOCAL_HOST);
     };
+    let host = read_host(text)?;
+    if host == EVERY_HOST { None } else { Some(host) }
+}
+
+/// None where what is given is no address of a server.
+pub(crate) fn serving_of(given: &ArgMatches<'_>) -> Option<Serving> {
+    let host = host_of(given)?;
     let turns: Option<u64> = given.get_one("turns");
     let slots: Option<usize> = given.get_one("slots");
     Some(Serving {

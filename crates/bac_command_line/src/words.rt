@@ -320,7 +320,7 @@ const SERVE: &[Word] = &[
         form: WordForm::Text("A.B.C.D"),
         need: Need::Never,
         against: &[],
-        help: "The IPv4 address of this machine to listen on; 0.0.0.0 is all of them. By default 127.0.0.1, which other machines cannot reach",
+        help: "The IPv4 address of this machine to listen on, and the one that clients ask. By default 127.0.0.1, which other machines cannot reach",
     },
     Word {
         name: "slots",

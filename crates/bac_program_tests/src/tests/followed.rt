@@ -173,3 +173,39 @@ fn logs_by_level(rt: HostRuntime) -> Result<(), Fail> {
     }
     Ok(())
 }
+
+/// Words that `serve` refuses, and the end of what is told.
+const REFUSED: &[(&str, &str)] = &[
+    (
+        "serve --at 0.0.0.0",
+        "bad address\n\"0.0.0.0\" is no single address: answers might leave from another one than was asked; give the address that clients ask\n",
+    ),
+];
+
+#[test]
+fn refuses_all_addresses(rt: HostRuntime) -> Result<(), Fail> {
+    for (line, told) in REFUSED {
+        let printed = run_on(rt.alloc(), "", QUIET, line)?;
+        holds(printed.is(&("", *told, 2)), line)?;
+    }
+    Ok(())
+}
+
+/// Words that don't go together: clap tells so.
+#[test]
+fn refuses_words_together(rt: HostRuntime) -> Result<(), Fail> {
+    let lines = [
+        "serve --follow",
+        "serve --follow --objects capture --keep new",
+        "serve --follow --objects capture --turns 3",
+        "serve --until-eof --keep new",
+        "serve --until-eof --turns 3",
+        "serve --log --log-level all",
+        "serve --log-level none",
+    ];
+    for line in lines {
+        let printed = run_on(rt.alloc(), "", QUIET, line)?;
+        holds(printed.code == 2 && printed.out.is_empty(), line)?;
+    }
+    Ok(())
+}
