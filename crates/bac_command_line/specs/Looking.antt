@@ -5,6 +5,7 @@ use Rattle.bac_store.specs.AtNode.{Change}
 use Rattle.bac_store.specs.Stores.{Store}
 use Rattle.bac_text.specs.declared.status.Status.{Status}
 use Rattle.bac_world.specs.Node.{Node, with_change}
+use Rattle.bac_driver.specs.BoundNodes.{BoundNode}
 use Rattle.bac_driver.specs.Moments.{with_moment}
 use Rattle.bac_driver.specs.Runs.{Run, Timed, timed}
 use Rattle.bac_driver.specs.Serving.{Serves}
@@ -22,32 +23,48 @@ abbrev pub with_changes : List Change → Node → Node
 with_changes [] n = n
 with_changes (c ∷ cs) n = with_changes cs (with_change c n)
 
+-- the node made changes of its own store, and nothing else is new
+pub record IsChanged (old new : BoundNode) : Type 0 where
+  pub changes : List Change
+  pub is : new ≡ record old { node = with_changes changes old.node }
+
 -- turns up to a moment, in which so many requests were performed, and then changes at the node
 pub record TakesStretch (old : Timed) (effects : ℕ) (new : Timed) : Type 0 where
   pub began : ℕ
   pub until : ℕ
   pub middle : Timed
   pub serves : Serves (record { wait = MOST; until = Some until }) MOST effects (timed old.bound_node (with_moment old.told began)) middle
-  pub changes : List Change
-  pub changed : new.bound_node ≡ record middle.bound_node { node = with_changes changes middle.bound_node.node }
+  pub changed : IsChanged middle.bound_node new.bound_node
 
 -- the sum of the requests in stretches, the newest first, as far as the counter goes
 abbrev pub total : List ℕ → ℕ
 total [] = 0
 total (effects ∷ before) = min (total before + effects) MOST
 
+-- stretches one after the other, in which so many requests were performed
+pub record TakesStretches (old : Timed) (effects : ℕ) (new : Timed) : Type 0 where
+  pub stretches : List ℕ
+  pub last : Timed
+  pub runs : Run TakesStretch stretches old last
+  pub counted : effects ≡ total stretches
+  pub same : new.bound_node ≡ last.bound_node
+
+-- a node with that store, on a link that was bound, beside a clock that was made and told that moment
+pub record IsServer (IsOn : Links) (IsClock : Clocks) (serving : Serving) (store : Store) (start : ℕ) (server : Timed) : Type 0 where
+  pub node :
+      IsAt IsOn serving.host serving.port (λ address. server_node serving.slots (restart_of serving.restarted start) address store) serving.reuse
+      server.bound_node
+  pub clock : HasTold IsClock start server.told
+
 -- a node with the store of a document served in stretches, and how many requests it performed was printed
 pub record ServesLooking (IsOn : Links) (IsClock : Clocks) (serving : Serving) (old new : Option (List ℕ)) (document : Store) : Type 0 where
   pub start : ℕ
   pub before : Timed
   pub after : Timed
-  pub node :
-      IsAt IsOn serving.host serving.port (λ address. server_node serving.slots (restart_of serving.restarted start) address document) serving.reuse
-      before.bound_node
-  pub clock : HasTold IsClock start before.told
-  pub stretches : List ℕ
-  pub runs : Run TakesStretch stretches before after
-  pub printed : Appends old new (served_line (total stretches))
+  pub server : IsServer IsOn IsClock serving document start before
+  pub effects : ℕ
+  pub takes : TakesStretches before effects after
+  pub printed : Appends old new (served_line effects)
 
 -- where the command line is refused, nothing was printed
 abbrev pub IsServedLooking : (IsFile : (path : List ℕ) → (content : Option (List ℕ)) → Type 0) → (objects : Option (List ℕ)) → Links → Clocks → Status → Serving

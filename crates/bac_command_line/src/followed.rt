@@ -1,4 +1,6 @@
 //! A document that a server follows: it is read again, and where it changed the node gets the values that it changed.
+ghost use Rattle.bac_command_line.specs.Looking.{IsChanged};
+
 use crate::files::OpenFiles;
 use crate::listing::{file_line, values_line};
 use crate::part_words::print_about;
@@ -50,7 +52,11 @@ fn octets_at<F: OpenFiles>(alloc: Global, files: &F, path: &str) -> io::Result<V
 }
 
 /// What the octets of a document change of the store that it meant before. `NoMemory` where that is refused.
-fn news_in(alloc: Global, before: &Store, octets: &[u8]) -> Result<Result<News, Refusal>, NoMemory> {
+fn news_in(
+    alloc: Global,
+    before: &Store,
+    octets: &[u8],
+) -> Result<Result<News, Refusal>, NoMemory> {
     let store = match read_objects(alloc, octets) {
         Ok(store) => store,
         Err(DocumentFault::NoMemory) => return Err(NoMemory),
@@ -113,7 +119,9 @@ fn make<L: Link, E: Write>(
     change: &Change,
     log: &mut LevelLog,
     err: &mut E,
-) -> Result<(), ChangeFault> {
+) -> Result<(), ChangeFault>
+    ensures { IsChanged bound_node.old bound_node.new }
+{
     let line = if log.is_on() {
         change_line(alloc, moment, change)?
     } else {
@@ -149,7 +157,9 @@ impl<'p> Followed<'p> {
         news: News,
         log: &mut LevelLog,
         err: &mut E,
-    ) -> Result<(), ChangeFault> {
+    ) -> Result<(), ChangeFault>
+        ensures { IsChanged station.old.bound_node station.new.bound_node }
+    {
         let News { store, changes } = news;
         let moment = station.clock.now();
         for change in &changes {
@@ -173,7 +183,9 @@ impl<'p> Followed<'p> {
         octets: &[u8],
         log: &mut LevelLog,
         err: &mut E,
-    ) -> Result<(), NoMemory> {
+    ) -> Result<(), NoMemory>
+        ensures { IsChanged station.old.bound_node station.new.bound_node }
+    {
         let alloc = station.alloc;
         match news_in(alloc, &self.store, octets)? {
             Ok(news) => match self.make_all(station, news, log, err) {
@@ -212,7 +224,9 @@ impl<'p> Followed<'p> {
         station: &mut Station<L, C>,
         log: &mut LevelLog,
         err: &mut E,
-    ) {
+    )
+        ensures { IsChanged station.old.bound_node station.new.bound_node }
+    {
         let octets = match octets_at(station.alloc, files, self.path) {
             Ok(octets) => octets,
             Err(error) => return self.print_unread(&error, err),

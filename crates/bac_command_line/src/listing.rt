@@ -52,7 +52,11 @@ pub(crate) fn values_line(
 }
 
 /// The line of a file: its number of octets.
-pub(crate) fn file_line(alloc: Global, object: ObjectIdentifier, octets: u64) -> Result<Vec<u8>, NoMemory> {
+pub(crate) fn file_line(
+    alloc: Global,
+    object: ObjectIdentifier,
+    octets: u64,
+) -> Result<Vec<u8>, NoMemory> {
     let mut line = part_words(alloc, object, None)?;
     let tail = format!(in alloc; " {octets} octets\n")?;
     line.extend_from_slice(tail.as_bytes())?;

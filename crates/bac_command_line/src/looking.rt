@@ -1,8 +1,15 @@
 //! `serve --follow` and `serve --until-eof`: serving in stretches of at most a second, between which a server looks at its document and at standard input.
+ghost use Rattle.std.specs.Prelude.{IfErr, IfOk};
 ghost use Rattle.std.specs.Option.{option_map};
-ghost use Rattle.bac_command_line.specs.Files.{OnFile};
-ghost use Rattle.bac_command_line.specs.Looking.{IsServedLooking};
+ghost use Rattle.bac_commands.specs.Statuses.{ByStatus};
+ghost use Rattle.std.specs.Io.KnownBytes.{Keeps};
+ghost use Rattle.bac_driver.specs.Runs.{timed};
+ghost use Rattle.bac_text.specs.Statuses.{IsFailure, IsStop};
+ghost use Rattle.bac_command_line.specs.Files.{OfFile, OnFile};
+ghost use Rattle.bac_command_line.specs.Keeping.{IsDocument};
+ghost use Rattle.bac_command_line.specs.Looking.{IsChanged, IsServedLooking, IsServer, ServesLooking, TakesStretches};
 ghost use Rattle.bac_command_line.specs.Online.{OnClock, OnPort};
+ghost use Rattle.bac_command_line.specs.Stores.{MeansStore};
 
 use crate::environment::Environment;
 use crate::files::{OpenFiles, opened};
@@ -16,7 +23,8 @@ use bac_driver::{Clock, RunLimit, WaitLimit};
 use bac_node::NewNodeFault;
 use bac_store::Store;
 use bac_text::{Status, complain, no_memory};
-use std::io::Write;
+use std::alloc::Global;
+use std::io::{Read, Write};
 
 /// The longest stretch, in milliseconds.
 const STRETCH: u64 = 1_000;
@@ -60,14 +68,17 @@ fn is_over(now: u64, end: Option<u64>) -> bool {
     }
 }
 
-/// The store of a document that is followed.
-fn followed_document<'p, F: OpenFiles, M: Machine, E: Write>(
-    environment: &Environment<'_, F, M>,
+/// The store that the octets of an open file mean, and the document that is followed.
+#[tactic(auto, using(crate::proofs::StoresOfFiles::meant_by_file))]
+fn followed_from<'p, F: Read + Drop, E: Write>(
+    alloc: Global,
     path: &'p str,
+    file: F,
     err: &mut E,
-) -> Result<Served<'p>, Status> {
-    let alloc = environment.alloc;
-    let file = opened(environment.files, path, err)?;
+) -> Result<Served<'p>, Status>
+    ensures store { IfOk result (λ s. MeansStore (F.remaining file) s.store) }
+    ensures told { IfErr result IsStop }
+{
     let octets = octets_of(alloc, path, file, err)?;
     let store = store_in(alloc, path, &octets, err)?;
     match store.copy(alloc) {
@@ -79,13 +90,29 @@ fn followed_document<'p, F: OpenFiles, M: Machine, E: Write>(
     }
 }
 
+/// The store of a document that is followed.
+fn followed_document<'p, F: OpenFiles, M: Machine, E: Write>(
+    environment: &Environment<'_, F, M>,
+    path: &'p str,
+    err: &mut E,
+) -> Result<Served<'p>, Status>
+    ensures store { IfOk result (λ s. OfFile (OnFile F.is_file F.File.remaining) path.now (λ content. MeansStore content s.store)) }
+    ensures told { IfErr result IsStop }
+{
+    let file = opened(environment.files, path, err)?;
+    followed_from(environment.alloc, path, file, err)
+}
+
 /// The store of a document, which is followed where that is wanted.
 fn served_document<'p, F: OpenFiles, M: Machine, E: Write>(
     environment: &Environment<'_, F, M>,
     serving: &Serving,
     objects: Option<&'p str>,
     err: &mut E,
-) -> Result<Served<'p>, Status> {
+) -> Result<Served<'p>, Status>
+    ensures document { IfOk result (λ s. IsDocument (OnFile F.is_file F.File.remaining) (option_map (λ p. p.now) objects.entry) s.store) }
+    ensures told { IfErr result IsStop }
+{
     match objects {
         Some(path) if serving.follow => followed_document(environment, path, err),
         objects => Ok(Served {
@@ -101,7 +128,11 @@ fn station_of<F: OpenFiles, M: Machine, E: Write>(
     serving: &Serving,
     store: Store,
     err: &mut E,
-) -> Result<(Station<M::Link, M::Timer>, u64), Status> {
+) -> Result<(Station<M::Link, M::Timer>, u64), Status>
+    ensures server { IfOk result (λ r. IsServer (OnPort M.is_bound M.Link.failures M.Link.calls) (OnClock M.is_made M.Timer.told) serving.now store r.1
+        (timed r.0.bound_node (M.Timer.told r.0.clock))) }
+    ensures told { IfErr result IsStop }
+{
     let alloc = environment.alloc;
     let (link, address) = match environment.machine.bind(serving.host, serving.port) {
         Ok(bound) => bound,
@@ -137,7 +168,9 @@ fn look<F: OpenFiles, M: Machine, E: Write>(
     looker: &mut Looker<'_>,
     station: &mut Station<M::Link, M::Timer>,
     err: &mut E,
-) -> bool {
+) -> bool
+    ensures { IsChanged station.old.bound_node station.new.bound_node }
+{
     if looker.until_eof && environment.machine.has_input_ended() {
         return true;
     }
@@ -154,7 +187,11 @@ fn serve_stretches<F: OpenFiles, M: Machine, E: Write>(
     looker: &mut Looker<'_>,
     station: &mut Station<M::Link, M::Timer>,
     err: &mut E,
-) -> Result<u64, Status> {
+) -> Result<u64, Status>
+    ensures taken { IfOk result (λ effects. TakesStretches (timed station.old.bound_node (M.Timer.told station.old.clock)) effects
+        (timed station.new.bound_node (M.Timer.told station.new.clock))) }
+    ensures failed { IfErr result IsFailure }
+{
     let mut effects = 0u64;
     for _ in 0..u64::MAX {
         let now = station.clock.now();
@@ -183,7 +220,11 @@ fn serve_store<F: OpenFiles, M: Machine, O: Write, E: Write>(
     served: Served<'_>,
     out: &mut O,
     err: &mut E,
-) -> Result<(), Status> {
+) -> Result<(), Status>
+    ensures served { IfOk result (λ _. ServesLooking (OnPort M.is_bound M.Link.failures M.Link.calls) (OnClock M.is_made M.Timer.told) serving.now
+        (O.contents out.old) (O.contents out.new) served.entry.store) }
+    ensures failed { IfErr result (λ s. ByStatus s ⊥ ⊥ (Keeps (O.contents out.old) (O.contents out.new))) }
+{
     let Served { store, followed } = served;
     let (mut station, start) = station_of(environment, serving, store, err)?;
     let mut looker = Looker {

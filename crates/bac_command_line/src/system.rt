@@ -59,7 +59,8 @@ impl System<'_, HostRuntime> {
 fn is_ready(runtime: &HostRuntime) -> io::Result<bool> {
     let mut poll = Poll::new(runtime)?;
     let mut source = SourceFd(&INPUT);
-    let registered = poll.registry()
+    let registered = poll
+        .registry()
         .register(&mut source, Token(0), Interest::READABLE);
     if let Err(error) = registered {
         return match error.kind() {

@@ -35,7 +35,9 @@ impl FollowFault {
             (_, ChangeFault::NoMemory) => FollowFault::NoMemory,
             (
                 Change::Value {
-                    object, property, ..
+                    object,
+                    property,
+                    ..
                 },
                 fault,
             ) => FollowFault::Cannot {

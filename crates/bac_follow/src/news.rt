@@ -55,7 +55,11 @@ fn file_news(
 }
 
 /// The news, with one more if there is one.
-fn add(changes: &mut Vec<Change>, documents: Documents<'_>, news: Option<Change>) -> Result<(), NoMemory>
+fn add(
+    changes: &mut Vec<Change>,
+    documents: Documents<'_>,
+    news: Option<Change>,
+) -> Result<(), NoMemory>
     requires old { All (IsNews documents.before.now documents.now.now) (map change_view changes.old.items) }
     requires new { IfSome news (λ c. IsNews documents.before.now documents.now.now (change_view c)) }
     ensures { OnOk result (All (IsNews documents.entry.before.now documents.entry.now.now) (map change_view changes.new.items)) }

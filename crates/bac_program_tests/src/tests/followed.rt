@@ -41,11 +41,7 @@ impl OpenFiles for Edited {
 }
 
 /// What comes of a command line beside a document with these texts, one after the other.
-fn run_beside(
-    alloc: Global,
-    texts: &'static [&'static str],
-    line: &str,
-) -> Result<Printed, Fail> {
+fn run_beside(alloc: Global, texts: &'static [&'static str], line: &str) -> Result<Printed, Fail> {
     let words = words_of(alloc, line)?;
     let machine = BenchMachine::new(alloc, QUIET);
     let files = Edited {
@@ -55,22 +51,29 @@ fn run_beside(
     Ok(run_words(alloc, &words, &files, &machine))
 }
 
-const COOL: &str = "[[object]]\ntype = \"analog-input\"\ninstance = 5\nname = \"air\"\npresent-value = { real = 20.5 }\n";
+const COOL: &str =
+    "[[object]]\ntype = \"analog-input\"\ninstance = 5\nname = \"air\"\npresent-value = { real = 20.5 }\n";
 
-const WARM: &str = "[[object]]\ntype = \"analog-input\"\ninstance = 5\nname = \"air\"\npresent-value = { real = 21.5 }\n";
+const WARM: &str =
+    "[[object]]\ntype = \"analog-input\"\ninstance = 5\nname = \"air\"\npresent-value = { real = 21.5 }\n";
 
 /// The present-value is a text.
-const WRONG: &str = "[[object]]\ntype = \"analog-input\"\ninstance = 5\nname = \"air\"\npresent-value = { text = \"warm\" }\n";
+const WRONG: &str =
+    "[[object]]\ntype = \"analog-input\"\ninstance = 5\nname = \"air\"\npresent-value = { text = \"warm\" }\n";
 
 /// Another name.
-const RENAMED: &str = "[[object]]\ntype = \"analog-input\"\ninstance = 5\nname = \"duct\"\npresent-value = { real = 21.5 }\n";
+const RENAMED: &str =
+    "[[object]]\ntype = \"analog-input\"\ninstance = 5\nname = \"duct\"\npresent-value = { real = 21.5 }\n";
 
 /// One more object.
-const LARGER: &str = "[[object]]\ntype = \"analog-input\"\ninstance = 5\nname = \"air\"\npresent-value = { real = 21.5 }\n[[object]]\ntype = \"analog-value\"\ninstance = 1\nname = \"setpoint\"\npresent-value = { real = 20.0 }\n";
+const LARGER: &str =
+    "[[object]]\ntype = \"analog-input\"\ninstance = 5\nname = \"air\"\npresent-value = { real = 21.5 }\n[[object]]\ntype = \"analog-value\"\ninstance = 1\nname = \"setpoint\"\npresent-value = { real = 20.0 }\n";
 
-const FILE: &str = "[[object]]\ntype = \"file\"\ninstance = 1\nname = \"log\"\nfile = { text = \"OK\" }\n";
+const FILE: &str =
+    "[[object]]\ntype = \"file\"\ninstance = 1\nname = \"log\"\nfile = { text = \"OK\" }\n";
 
-const LONGER_FILE: &str = "[[object]]\ntype = \"file\"\ninstance = 1\nname = \"log\"\nfile = { text = \"not OK\" }\n";
+const LONGER_FILE: &str =
+    "[[object]]\ntype = \"file\"\ninstance = 1\nname = \"log\"\nfile = { text = \"not OK\" }\n";
 
 const LISTENING: &str = "listening 127.0.0.1:47808, 1 objects, 65536 slots\n";
 
@@ -88,10 +91,7 @@ const FOLLOWED: &[Row] = &[
         &[COOL, COOL, WARM, COOL],
         "5000 document analog-input:5 present-value real 21.5\n7500 document analog-input:5 present-value real 20.5\n",
     ),
-    (
-        &[FILE, LONGER_FILE],
-        "3000 document file:1 6 octets\n",
-    ),
+    (&[FILE, LONGER_FILE], "3000 document file:1 6 octets\n"),
     (
         &[COOL, RENAMED],
         "capture: other objects, names, properties, flags or limits than those that are served: not followed, start the server again\n",
@@ -151,9 +151,11 @@ const DATAGRAMS: Bench = Bench {
     clock: Some(CLOCK),
 };
 
-const READ_LINE: &str = "1500 127.0.0.1:47809 id 1 read analog-input:5 present-value: answered real 72.3\n";
+const READ_LINE: &str =
+    "1500 127.0.0.1:47809 id 1 read analog-input:5 present-value: answered real 72.3\n";
 
-const WRITE_LINE: &str = "2500 127.0.0.1:47809 id 5 write analog-value:1 present-value real 180.0: answered written\n";
+const WRITE_LINE: &str =
+    "2500 127.0.0.1:47809 id 5 write analog-value:1 present-value real 180.0: answered written\n";
 
 const DROPPED_LINE: &str = "3500 127.0.0.1:47809 dropped: bvll 1 (truncated)\n";
 
@@ -175,12 +177,10 @@ fn logs_by_level(rt: HostRuntime) -> Result<(), Fail> {
 }
 
 /// Words that `serve` refuses, and the end of what is told.
-const REFUSED: &[(&str, &str)] = &[
-    (
-        "serve --at 0.0.0.0",
-        "bad address\n\"0.0.0.0\" is no single address: answers might leave from another one than was asked; give the address that clients ask\n",
-    ),
-];
+const REFUSED: &[(&str, &str)] = &[(
+    "serve --at 0.0.0.0",
+    "bad address\n\"0.0.0.0\" is no single address: answers might leave from another one than was asked; give the address that clients ask\n",
+)];
 
 #[test]
 fn refuses_all_addresses(rt: HostRuntime) -> Result<(), Fail> {
