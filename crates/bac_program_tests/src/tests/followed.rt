@@ -120,7 +120,7 @@ fn follows_documents(rt: HostRuntime) -> Result<(), Fail> {
         let err = format!(in alloc; "{LISTENING}{told}")?;
         let text = String::from_utf8_lossy(alloc, &printed.err)?;
         holds(printed.err.as_slice() == err.as_bytes(), &text)?;
-        holds(printed.out.as_slice() == b"served 0\n", &text)?;
+        holds(printed.out.as_slice() == "served 0\n".as_bytes(), &text)?;
     }
     Ok(())
 }
