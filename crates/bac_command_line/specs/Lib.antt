@@ -12,6 +12,7 @@ pub mod FileWords
 pub mod Rounds
 pub mod Recording
 pub mod ClientPairs
+pub mod Looking
 pub mod Online
 pub mod Clients
 pub mod AskedLines

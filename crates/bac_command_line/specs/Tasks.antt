@@ -11,6 +11,7 @@ use Rattle.bac_command_line.specs.Files.{IsChartedFile, IsCheckedFile, IsExplain
 use Rattle.bac_command_line.specs.Json as json
 use Rattle.bac_command_line.specs.Keeping.{Databases, IsListed, IsServedKept}
 use Rattle.bac_command_line.specs.Lines.{AreCheckedLines, IsDecodedFrom}
+use Rattle.bac_command_line.specs.Looking.{IsServedLooking}
 use Rattle.bac_command_line.specs.Stores.{IsAnsweredFrom, IsServedFrom}
 use Rattle.bac_command_line.specs.Online.{Clocks, IsAskedFrom, IsPair, Links}
 use Rattle.bac_command_line.specs.declared.task.Task.{Task}
@@ -44,6 +45,8 @@ IsPerformed IsAt IsOn IsClock IsOnDatabase (task.Simulate script) s old new = Is
 IsPerformed IsAt IsOn IsClock IsOnDatabase (task.Show view script) s old new = IsShownFile IsAt view script.notes script.path.now s old new
 IsPerformed IsAt IsOn IsClock IsOnDatabase (task.Serve serving objects) s old new =
     IsServedFrom IsAt (option_map (λ p. p.now) objects) IsOn IsClock s serving old new
+IsPerformed IsAt IsOn IsClock IsOnDatabase (task.ServeLooking serving objects) s old new =
+    IsServedLooking IsAt (option_map (λ p. p.now) objects) IsOn IsClock s serving old new
 IsPerformed IsAt IsOn IsClock IsOnDatabase (task.ServeKept serving objects path) s old new =
     IsServedKept IsAt (option_map (λ p. p.now) objects) IsOnDatabase IsOn IsClock s serving path.now old new
 IsPerformed IsAt IsOn IsClock IsOnDatabase (task.Keep path) s old new = IsListed s old new

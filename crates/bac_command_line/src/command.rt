@@ -17,6 +17,7 @@ use crate::json::{check_json, check_json_lines, decode_json};
 use crate::keeping::serve_kept;
 use crate::lines::{check_lines, decode};
 use crate::listing::{ListForm, list_kept};
+use crate::looking::serve_looking;
 use crate::objects::{answer, serve};
 use crate::online::Machine;
 use crate::reasons::print_no_task;
@@ -64,6 +65,9 @@ fn perform<F: OpenFiles, M: Machine, O: Write, E: Write>(
         Task::Simulate(script) => simulate(alloc, files, &script, out, err),
         Task::Show { view, script } => show(alloc, files, view, &script, out, err),
         Task::Serve { serving, objects } => { serve(environment, &serving, objects, out, err) }
+        Task::ServeLooking { serving, objects } => {
+            serve_looking(environment, &serving, objects, out, err)
+        }
         Task::ServeKept {
             serving,
             objects,

@@ -30,7 +30,7 @@ fn octets_in(cells: &[Cell], object: ObjectIdentifier, count: u8) -> u64 {
 }
 
 /// The line of the values of a property: the object, the property, and the values by their kinds; in hexadecimal where they are no values.
-fn values_line(
+pub(crate) fn values_line(
     alloc: Global,
     object: ObjectIdentifier,
     property: u32,
@@ -53,7 +53,11 @@ fn values_line(
 }
 
 /// The line of a file: its number of octets.
-fn file_line(alloc: Global, object: ObjectIdentifier, octets: u64) -> Result<Vec<u8>, NoMemory> {
+pub(crate) fn file_line(
+    alloc: Global,
+    object: ObjectIdentifier,
+    octets: u64,
+) -> Result<Vec<u8>, NoMemory> {
     let mut line = part_words(alloc, object, None)?;
     let tail = format!(in alloc; " {octets} octets\n")?;
     line.extend_from_slice(tail.as_bytes())?;

@@ -43,7 +43,7 @@ pub(crate) fn octets_of<F: Read + Drop, E: Write>(
 }
 
 /// The store that octets mean; where they mean none, `err` and the status say why.
-fn store_in<E: Write>(
+pub(crate) fn store_in<E: Write>(
     alloc: Global,
     path: &str,
     octets: &[u8],

@@ -70,6 +70,9 @@ pub trait Machine {
     fn open_database(&self, path: &str) -> Result<(Self::Database, bool), OpenFault>
         ensures { IfOk result (λ r. Self.is_database path.now r.1 r.0) };
 
+    /// Whether standard input has ended, or cannot be read; it does not wait, and what is there is read and forgotten.
+    fn has_input_ended(&self) -> bool;
+
     /// Whether standard error is a terminal, which shows the progress of an ask.
     fn shows_progress(&self) -> bool;
 }

@@ -2,7 +2,7 @@
 ghost use Rattle.std.specs.Prelude.{◌≡◌};
 ghost use Rattle.bac_text.specs.declared.status.Status.TheVariants as status;
 
-use crate::address::{read_end, read_host, read_link, read_route};
+use crate::address::{EVERY_HOST, read_end, read_host, read_link, read_route};
 use crate::seconds::{bad_pace, print_bad_pace};
 use crate::serving::{read_memory, remembers_in_vain};
 use bac_forms::FORM_NAMES;
@@ -43,10 +43,15 @@ pub(crate) fn print_document_fault<E: Write>(
     Status::CommandLine
 }
 
-/// The text behind `--at` that is no address, and the form that is wanted.
+/// What is wanted of a server in place of all addresses of its machine: it can't send from the one that a request came to.
+const ONE_HOST: &str =
+    "single address: answers might leave from another one than was asked; give the address that clients ask";
+
+/// The text behind `--at` that is no address, or all of them, and the form that is wanted.
 fn bad_host<'a>(given: &ArgMatches<'a>) -> Option<(&'a str, &'static str)> {
     let at = given.get_str("at")?;
     match read_host(at) {
+        Some(EVERY_HOST) => Some((at, ONE_HOST)),
         Some(_) => None,
         None => Some((at, "A.B.C.D")),
     }

@@ -10,9 +10,12 @@ ghost use Rattle.bac_commands.specs.Statuses.{ByStatus};
 ghost use Rattle.bac_command_line.specs.Keeping.{restarted_by};
 ghost use Rattle.bac_command_line.specs.Serving.{is_reusing, patience_of, restart_of, reuse_of, turns_of};
 
-use crate::address::{BACNET_PORT, LOCAL_HOST, read_host};
+use crate::address::{BACNET_PORT, EVERY_HOST, LOCAL_HOST, read_host};
 use crate::station::Station;
-use bac_commands::{KeptServer, LogForm, LogManner, ServeCommand, link_fault, serve_kept_logged};
+use bac_commands::{
+    KeptServer, LevelLog, LogForm, LogLevel, LogManner, OctetStyle, ServeCommand, link_fault,
+    serve_kept_logged,
+};
 use bac_driver::{BoundNode, Clock, Link, NoObserver, RunLimit, WaitLimit};
 use bac_keep::Keeper;
 use bac_node::{MEMORY, Reuse};
@@ -51,12 +54,18 @@ pub(crate) struct Serving {
     pub reuse: Reuse,
     /// How many octets of service data it keeps for those that ask it.
     pub memory: usize,
-    /// Whether its turns are logged.
+    /// Whether its turns are logged, all of them.
     pub log: bool,
     /// Whether the log has an object of JSON a line.
     pub json: bool,
     /// The time of day at moment 0 of its clock, in milliseconds since 1970 began in UTC, where the log has objects and it is known.
     pub epoch: Option<u64>,
+    /// Which of its turns are logged, with long octets by their first ones.
+    pub level: Option<LogLevel>,
+    /// Whether it follows its document.
+    pub follow: bool,
+    /// Whether it ends when standard input does.
+    pub until_eof: bool,
 }
 
 impl Serving {
@@ -137,6 +146,16 @@ impl Serving {
         }
     }
 
+    /// Its log, where it begins at that moment.
+    pub(crate) fn log_from(&self, alloc: Global, start: u64) -> LevelLog {
+        let (level, octet_style) = if self.log {
+            (Some(LogLevel::All), OctetStyle::Whole)
+        } else {
+            (self.level, OctetStyle::Short)
+        };
+        LevelLog::new(alloc, self.serves_from(start), level, octet_style)
+    }
+
     /// The first moment at which it performs requests, where it begins at that one.
     fn serves_from(&self, start: u64) -> u64 {
         if self.restarted {
@@ -200,6 +219,19 @@ pub(crate) fn serve_from<L: Link, C: Clock, O: Write, E: Write>(
         turns: serving.most_turns(),
         wait_limit: serving.wait_limit(start),
     };
+    if serving.level.is_some() {
+        let mut log = serving.log_from(station.alloc, start);
+        let status = bac_commands::serve(
+            &mut station.bound_node,
+            &mut station.clock,
+            &limit,
+            &mut log,
+            out,
+            err,
+        );
+        log.end(err);
+        return status;
+    }
     if !serving.log {
         return bac_commands::serve(
             &mut station.bound_node,
@@ -252,6 +284,12 @@ pub(crate) fn serve_kept_from<L: Link, C: Clock, K: Keeper, O: Write, E: Write>(
         turns: serving.most_turns(),
         wait_limit: serving.wait_limit(start),
     };
+    if serving.level.is_some() {
+        let mut log = serving.log_from(alloc, start);
+        let status = bac_commands::serve_kept(server, &limit, &mut log, out, err);
+        log.end(err);
+        return status;
+    }
     if !serving.log {
         return bac_commands::serve_kept(server, &limit, &mut NoObserver, out, err);
     }
@@ -327,15 +365,32 @@ pub(crate) fn remembers_in_vain(given: &ArgMatches<'_>) -> bool {
     given.get_str("remember").is_some() && !is_reusing(turns, is_told, given.get_flag("strict"))
 }
 
-/// None where what is given is no address or no number of octets, or it is to remember requests and lets no client use an invoke ID again.
+/// The level of a log that a word is.
+fn level_of(word: &str) -> Option<LogLevel> {
+    match word {
+        "changes" => Some(LogLevel::Changes),
+        "requests" => Some(LogLevel::Requests),
+        "all" => Some(LogLevel::All),
+        _ => None,
+    }
+}
+
+/// The address that a server listens at. None where what is given is no address, or all of this machine's: then the system chooses from which one an answer
+/// leaves, and it need not be the one that was asked.
+fn host_of(given: &ArgMatches<'_>) -> Option<[u8; 4]> {
+    let Some(text) = given.get_str("at") else {
+        return Some(LOCAL_HOST);
+    };
+    let host = read_host(text)?;
+    if host == EVERY_HOST { None } else { Some(host) }
+}
+
+/// None where what is given is no address of a server or no number of octets, or it is to remember requests and lets no client use an invoke ID again.
 pub(crate) fn serving_of(given: &ArgMatches<'_>) -> Option<Serving> {
     if remembers_in_vain(given) {
         return None;
     }
-    let host = match given.get_str("at") {
-        Some(text) => read_host(text)?,
-        None => LOCAL_HOST,
-    };
+    let host = host_of(given)?;
     let turns: Option<u64> = given.get_one("turns");
     let slots: Option<usize> = given.get_one("slots");
     let is_reusing = is_reusing(turns, given.get_flag("reuse"), given.get_flag("strict"));
@@ -351,5 +406,8 @@ pub(crate) fn serving_of(given: &ArgMatches<'_>) -> Option<Serving> {
         log: given.get_flag("log"),
         json: given.get_flag("json"),
         epoch: None,
+        level: level_of(given.get_str("log-level").unwrap_or("")),
+        follow: given.get_flag("follow"),
+        until_eof: given.get_flag("until-eof"),
     })
 }

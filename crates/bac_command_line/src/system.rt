@@ -12,6 +12,9 @@ use crate::online::Machine;
 use bac_driver::{MonotonicClock, UdpLink};
 use bac_keep_file::{KeptFile, OpenFault};
 use bac_npdu::LinkAddress;
+use mio::unix::SourceFd;
+use mio::{Events, Interest, Poll, Token};
+use std::io::{ErrorKind, Read};
 use std::net::{Ipv4Addr, Net, SocketAddr, UdpSocket};
 use std::rt::Files;
 use std::time::{Duration, SystemTime, UNIX_EPOCH};
@@ -19,6 +22,12 @@ use std::{fs, io};
 
 /// The file that is standard input, which `-` stands for.
 const STANDARD_INPUT: &str = "/dev/stdin";
+
+/// The descriptor of standard input.
+const INPUT: i32 = 0;
+
+/// How often standard input is read at one look.
+const READS: usize = 64;
 
 /// What a runtime has: the files, sockets and clock that command lines run on.
 #[derive(Drop)]
@@ -43,6 +52,43 @@ impl System<'_, HostRuntime> {
         let now = SystemTime::now(self.runtime).ok()?;
         now.duration_since(UNIX_EPOCH).ok()
     }
+}
+
+/// Whether the system says of standard input that a read does not wait: something is there, or it has ended. A file, which it has no such word of, never lets a
+/// read wait.
+fn is_ready(runtime: &HostRuntime) -> io::Result<bool> {
+    let mut poll = Poll::new(runtime)?;
+    let mut source = SourceFd(&INPUT);
+    let registered = poll
+        .registry()
+        .register(&mut source, Token(0), Interest::READABLE);
+    if let Err(error) = registered {
+        return match error.kind() {
+            ErrorKind::PermissionDenied => Ok(true),
+            _ => Err(error),
+        };
+    }
+    let mut events = Events::with_capacity(runtime.alloc(), 1)?;
+    poll.poll(&mut events, Some(Duration::from_millis(0)))?;
+    Ok(!events.is_empty())
+}
+
+/// Whether standard input has ended. What is there is read, up to 256 KiB, and forgotten.
+fn is_at_end(runtime: &HostRuntime) -> io::Result<bool> {
+    let mut buffer = [0; 4096];
+    for _ in 0..READS {
+        if !is_ready(runtime)? {
+            return Ok(false);
+        }
+        match runtime.stdin().read(&mut buffer) {
+            Ok(0) => return Ok(true),
+            Ok(_) => {}
+            Err(error) if error.kind() == ErrorKind::Interrupted => {}
+            Err(error) if error.kind() == ErrorKind::WouldBlock => return Ok(false),
+            Err(error) => return Err(error),
+        }
+    }
+    Ok(false)
 }
 
 impl<R: Files> OpenFiles for System<'_, R> {
@@ -108,6 +154,10 @@ impl<'a> Machine for System<'a, HostRuntime> {
 
     fn open_database(&self, path: &str) -> Result<(KeptFile, bool), OpenFault> {
         bac_keep_file::open(self.runtime, path)
+    }
+
+    fn has_input_ended(&self) -> bool {
+        is_at_end(self.runtime).unwrap_or(true)
     }
 
     fn shows_progress(&self) -> bool {

@@ -75,6 +75,11 @@ pub(crate) enum Task<'m, 'a> {
         serving: Serving,
         objects: Option<&'a str>,
     },
+    /// The same, and between stretches of at most a second it looks at its document, or at standard input.
+    ServeLooking {
+        serving: Serving,
+        objects: Option<&'a str>,
+    },
     /// The same, and the file at that path keeps its store.
     ServeKept {
         serving: Serving,
@@ -228,6 +233,9 @@ pub(crate) fn task_of<'m, 'a>(
                     objects,
                     path,
                 });
+            }
+            if serving.follow || serving.until_eof {
+                return Some(Task::ServeLooking { serving, objects });
             }
             Some(Task::Serve { serving, objects })
         }

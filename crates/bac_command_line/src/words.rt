@@ -13,6 +13,8 @@ pub(crate) enum WordForm {
     Text(&'static str),
     /// By its name, with a number after it, from 1 to the one given here.
     Number(&'static str, u64),
+    /// By its name, with one of these words after it.
+    Choice(&'static str, &'static [&'static str]),
 }
 
 /// When a word is required.
@@ -325,6 +327,7 @@ const SERVE_EXAMPLES: &str = "\
 Example: bac serve --port 47808
 Example: bac serve --port 47808 --seconds 3600 --objects plant.toml
 Example: bac serve --port 47808 --objects plant.toml --keep plant.db
+Example: bac serve --objects plant.toml --follow --log-level changes
 Example: bac serve --port 47808 --at 192.168.1.20 --restarted
 Example: bac serve --port 47808 --turns 600";
 
@@ -356,7 +359,7 @@ const SERVE: &[Word] = &[
         form: WordForm::Text("A.B.C.D"),
         need: Need::Never,
         against: &[],
-        help: "The IPv4 address of this machine to listen on; 0.0.0.0 is all of them. By default 127.0.0.1, which other machines cannot reach",
+        help: "The IPv4 address of this machine to listen on, and the one that clients ask. By default 127.0.0.1, which other machines cannot reach",
     },
     Word {
         name: "slots",
@@ -427,6 +430,27 @@ const SERVE: &[Word] = &[
         need: Need::Beside("log"),
         against: &[],
         help: "The log has an object of JSON a line",
+    },
+    Word {
+        name: "log-level",
+        form: WordForm::Choice("LEVEL", &["changes", "requests", "all"]),
+        need: Need::Never,
+        against: &["log"],
+        help: "Logs on standard error what changed the store (changes), each request that was performed (requests), or each datagram (all); of more than 32 octets it shows the first 32, and how many they are",
+    },
+    Word {
+        name: "follow",
+        form: WordForm::Flag,
+        need: Need::Beside("objects"),
+        against: &["keep", "turns", "json"],
+        help: "Reads the document of --objects again when it changes, at most once a second, and gives the objects the values that it changed; what clients wrote elsewhere stays",
+    },
+    Word {
+        name: "until-eof",
+        form: WordForm::Flag,
+        need: Need::Never,
+        against: &["keep", "turns", "json"],
+        help: "Ends when standard input ends, within a second",
     },
 ];
 

@@ -14,10 +14,13 @@ mod frames;
 mod fresh_node;
 mod lines;
 mod log;
+mod log_level;
 mod log_manner;
 mod objects;
 mod online;
 mod serving;
+mod shortening;
+mod stretch;
 mod turned_away;
 
 pub use answering::{CLIENT, answer_datagram, answer_over};
@@ -26,6 +29,7 @@ pub use facts::{
     print_fault, print_nothing, print_performed, print_refused, print_sent,
 };
 pub use fault_words::ask_fault_words;
+pub use log_level::{LevelLog, LogLevel, OctetStyle};
 pub use log_manner::{LogForm, LogManner};
 pub use online::{
     AskCommand, CommandError, KeptServer, OutputFormat, Style, TURNS, ask, ask_unprinted,
@@ -33,3 +37,4 @@ pub use online::{
     print_ask_end, read_question, serve, serve_kept,
 };
 pub use serving::{Logged, ServeCommand, serve_kept_logged, serve_logged};
+pub use stretch::{print_served, serve_stretch};

@@ -1,12 +1,15 @@
 -- The result of reading a document.
-use Rattle.std.specs.Prelude.{◌≡◌, ⊤, ℕ, Bool, true, false, IsUtf8, List, Option, Some, None, Result, Ok, Err}
+use Rattle.std.specs.Prelude.{◌≡◌, ⊤, ℕ, Bool, true, false, if◌then◌else◌, IsUtf8, List, map, Option, Some, None, Result, Ok, Err}
+use Rattle.std.specs.Global.{Vec}
 use Rattle.std.specs.Option.{option_map}
 use Rattle.std.specs.String.{string_bytes}
 use Rattle.bac_value.specs.Views.{object_identifier_view}
+use Rattle.bac_store.specs.declared.object.Object as code
 use Rattle.bac_store.specs.declared.store.Store.{Store}
 use Rattle.bac_store.specs.Described.{IsDescribedBy, IsDescriptionFault}
 use Rattle.bac_store.specs.declared.description_fault.DescriptionFault.{DescriptionFault}
 use Rattle.bac_store.specs.Made.{IsMadeOf}
+use Rattle.bac_store.specs.Views.{object_view}
 use Rattle.bac_store.specs.Stores.{Object}
 use Rattle.toml.specs.Data.{Members}
 use Rattle.toml.specs.Parse.{parse_document}
@@ -89,3 +92,24 @@ IsRead text (Err fault.NoMemory) = ⊤
 IsRead text (Err (fault.Wrong place problem)) = IsUtf8 text × IsReadOf (parse_document text) (Err (fault.Wrong place problem))
 IsRead text (Err (fault.Refused r)) = IsUtf8 text × IsReadOf (parse_document text) (Err (fault.Refused r))
 IsRead text (Ok s) = IsUtf8 text × IsReadOf (parse_document text) (Ok s)
+
+-- ---- the objects of the store
+
+-- the objects of a table, in the order of the document, or its first fault
+abbrev pub objects_by : Bool → Members → Result (List Object) Fault
+objects_by described ms = if described then described_in ms else objects_in ms
+
+abbrev pub AreReadTable : Members → Result (Vec code.Object) DocumentFault → Type 0
+AreReadTable ms r = ReadsDocument (λ v. map object_view v.items) r (objects_by (is_described ms) ms)
+
+abbrev pub AreReadOf : Option Members → Result (Vec code.Object) DocumentFault → Type 0
+AreReadOf (Some ms) r = AreReadTable ms r
+AreReadOf None r = ⊥
+
+-- the same for a text, which may be no TOML in UTF-8
+abbrev pub AreRead : (text : List ℕ) → Result (Vec code.Object) DocumentFault → Type 0
+AreRead text (Err (fault.NoToml line error)) = IsUtf8 text → parse_document text ≡ None
+AreRead text (Err fault.NoMemory) = ⊤
+AreRead text (Err (fault.Wrong place problem)) = IsUtf8 text × AreReadOf (parse_document text) (Err (fault.Wrong place problem))
+AreRead text (Err (fault.Refused r)) = ⊥
+AreRead text (Ok v) = IsUtf8 text × AreReadOf (parse_document text) (Ok v)

@@ -177,7 +177,7 @@ fn list_in(table: &Table) -> Result<&Array, Problem>
 
 /// The objects of a document.
 #[tactic(auto, unfolding(crate::specs::Described::objects_in))]
-fn objects_in(alloc: Global, table: &Table) -> Result<Vec<Object>, DocumentFault>
+pub(crate) fn objects_in(alloc: Global, table: &Table) -> Result<Vec<Object>, DocumentFault>
     ensures { ReadsDocument (λ v. map object_view v.items) result (objects_of (table_view table.now)) }
 {
     match list_in(table) {

@@ -4,10 +4,11 @@ ghost use Rattle.bac_value.specs.Steps.{ReadsAll};
 ghost use Rattle.bac_store.specs.Views.{object_view};
 ghost use Rattle.toml.specs.View.{array_view, items_view, table_view, view};
 ghost use Rattle.bac_objects.specs.Answers.{ReadsObject};
-ghost use Rattle.bac_objects.specs.Documents.{IsInObject, IsRead, IsReadTable, ReadsDocument};
+ghost use Rattle.bac_objects.specs.Documents.{AreRead, AreReadTable, IsInObject, IsRead, IsReadTable, ReadsDocument};
 ghost use Rattle.bac_objects.specs.Right.{AreFit};
 ghost use Rattle.bac_objects.specs.Objects.{in_object as in_object_of, list_in as list_of, objects_in as objects_of, objects_on, with_object as with_object_of};
 
+use crate::described;
 use crate::described::{described_store, is_described};
 use crate::fault::{DocumentFault, Flaw, ObjectFault, Place};
 use crate::held::{count, member};
@@ -154,6 +155,33 @@ pub fn read_objects(alloc: Global, text: &[u8]) -> Result<Store, DocumentFault>
     match toml::table_from_slice(alloc, text) {
         Ok(table) if is_described(&table) => described_store(alloc, &table),
         Ok(table) => store_in(alloc, &table),
+        Err(error) if error.is_memory() => Err(DocumentFault::NoMemory),
+        Err(error) => Err(DocumentFault::NoToml {
+            line: line_of(text, &error),
+            error,
+        }),
+    }
+}
+
+/// The objects of a document's table.
+fn objects_of_table(alloc: Global, table: &Table) -> Result<Vec<Object>, DocumentFault>
+    ensures { AreReadTable (table_view table.now) result }
+{
+    if is_described(table) {
+        described::objects_in(alloc, table)
+    } else {
+        objects_in(alloc, table)
+    }
+}
+
+/// Reads the objects of a document, in its order: those that [`read_objects`] makes a store of.
+///
+/// The faults are those of `read_objects`, but `Refused`, which the objects alone don't show.
+pub fn read_object_list(alloc: Global, text: &[u8]) -> Result<Vec<Object>, DocumentFault>
+    ensures { AreRead text.now result }
+{
+    match toml::table_from_slice(alloc, text) {
+        Ok(table) => objects_of_table(alloc, &table),
         Err(error) if error.is_memory() => Err(DocumentFault::NoMemory),
         Err(error) => Err(DocumentFault::NoToml {
             line: line_of(text, &error),

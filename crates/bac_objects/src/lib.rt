@@ -23,7 +23,7 @@ mod scalars;
 mod values;
 
 pub use collecting::document_findings;
-pub use document::read_objects;
+pub use document::{read_object_list, read_objects};
 pub use fault::{DocumentFault, Place, Refusal};
 pub use finding::{Finding, Wrong};
 pub use form::{Kind, ValueForm};

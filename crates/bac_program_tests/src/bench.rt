@@ -345,6 +345,11 @@ impl Machine for BenchMachine {
         database_at(self.alloc, path)
     }
 
+    /// From the first look on.
+    fn has_input_ended(&self) -> bool {
+        true
+    }
+
     fn shows_progress(&self) -> bool {
         self.is_terminal
     }

@@ -15,6 +15,7 @@ mod client_pairs;
 mod decoded;
 mod explained;
 mod files;
+mod followed;
 mod forgotten;
 mod help;
 mod json;

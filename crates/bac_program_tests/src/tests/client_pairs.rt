@@ -98,6 +98,10 @@ impl Machine for CrowdedMachine {
         self.machine.open_database(path)
     }
 
+    fn has_input_ended(&self) -> bool {
+        true
+    }
+
     fn shows_progress(&self) -> bool {
         false
     }

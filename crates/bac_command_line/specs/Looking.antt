@@ -1,0 +1,73 @@
+-- What `serve --follow` and `serve --until-eof` print, and their statuses: a node served in stretches, between which it may change its own store.
+use Rattle.std.specs.Prelude.{◌≡◌, ℕ, ◌+◌, min, List, [], ◌∷◌, Option, Some, None}
+use Rattle.std.specs.Io.KnownBytes.{Appends, Keeps}
+use Rattle.bac_store.specs.AtNode.{Change}
+use Rattle.bac_store.specs.Stores.{Store}
+use Rattle.bac_text.specs.declared.status.Status.{Status}
+use Rattle.bac_world.specs.Node.{Node, with_change}
+use Rattle.bac_driver.specs.BoundNodes.{BoundNode}
+use Rattle.bac_driver.specs.Moments.{with_moment}
+use Rattle.bac_driver.specs.Runs.{Run, Timed, timed}
+use Rattle.bac_driver.specs.Serving.{Serves}
+use Rattle.bac_driver.specs.Waits.{MOST}
+use Rattle.bac_commands.specs.Houses.{server_node}
+use Rattle.bac_commands.specs.Reports.{served_line}
+use Rattle.bac_commands.specs.Statuses.{ByStatus}
+use Rattle.bac_command_line.specs.Keeping.{OfDocument}
+use Rattle.bac_command_line.specs.Online.{Clocks, HasTold, IsAt, Links}
+use Rattle.bac_command_line.specs.Serving.{restart_of}
+use Rattle.bac_command_line.specs.declared.serving.Serving.{Serving}
+
+-- a node after changes of its own store, one after the other
+abbrev pub with_changes : List Change → Node → Node
+with_changes [] n = n
+with_changes (c ∷ cs) n = with_changes cs (with_change c n)
+
+-- the node made changes of its own store, and nothing else is new
+pub record IsChanged (old new : BoundNode) : Type 0 where
+  pub changes : List Change
+  pub is : new ≡ record old { node = with_changes changes old.node }
+
+-- turns up to a moment, in which so many requests were performed, and then changes at the node
+pub record TakesStretch (old : Timed) (effects : ℕ) (new : Timed) : Type 0 where
+  pub began : ℕ
+  pub until : ℕ
+  pub middle : Timed
+  pub serves : Serves (record { wait = MOST; until = Some until }) MOST effects (timed old.bound_node (with_moment old.told began)) middle
+  pub changed : IsChanged middle.bound_node new.bound_node
+
+-- the sum of the requests in stretches, the newest first, as far as the counter goes
+abbrev pub total : List ℕ → ℕ
+total [] = 0
+total (effects ∷ before) = min (total before + effects) MOST
+
+-- stretches one after the other, in which so many requests were performed
+pub record TakesStretches (old : Timed) (effects : ℕ) (new : Timed) : Type 0 where
+  pub stretches : List ℕ
+  pub last : Timed
+  pub runs : Run TakesStretch stretches old last
+  pub counted : effects ≡ total stretches
+  pub same : new.bound_node ≡ last.bound_node
+
+-- a node with that store, on a link that was bound, beside a clock that was made and told that moment
+pub record IsServer (IsOn : Links) (IsClock : Clocks) (serving : Serving) (store : Store) (start : ℕ) (server : Timed) : Type 0 where
+  pub node :
+      IsAt IsOn serving.host serving.port (λ address. server_node serving.slots (restart_of serving.restarted start) address store) serving.reuse
+      server.bound_node
+  pub clock : HasTold IsClock start server.told
+
+-- a node with the store of a document served in stretches, and how many requests it performed was printed
+pub record ServesLooking (IsOn : Links) (IsClock : Clocks) (serving : Serving) (old new : Option (List ℕ)) (document : Store) : Type 0 where
+  pub start : ℕ
+  pub before : Timed
+  pub after : Timed
+  pub server : IsServer IsOn IsClock serving document start before
+  pub effects : ℕ
+  pub takes : TakesStretches before effects after
+  pub printed : Appends old new (served_line effects)
+
+-- where the command line is refused, nothing was printed
+abbrev pub IsServedLooking : (IsFile : (path : List ℕ) → (content : Option (List ℕ)) → Type 0) → (objects : Option (List ℕ)) → Links → Clocks → Status → Serving
+    → (old new : Option (List ℕ)) → Type 0
+IsServedLooking IsFile objects IsOn IsClock s serving old new =
+    ByStatus s (OfDocument IsFile objects (ServesLooking IsOn IsClock serving old new)) ⊥ (Keeps old new)

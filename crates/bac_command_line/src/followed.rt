@@ -1,0 +1,244 @@
+//! A document that a server follows: it is read again, and where it changed the node gets the values that it changed.
+ghost use Rattle.bac_command_line.specs.Looking.{IsChanged};
+
+use crate::files::OpenFiles;
+use crate::listing::{file_line, values_line};
+use crate::part_words::print_about;
+use crate::reasons::print_document_fault;
+use crate::station::Station;
+use bac_commands::LevelLog;
+use bac_driver::{BoundNode, Clock, Link};
+use bac_follow::{Documents, FollowFault, changes_between};
+use bac_objects::{DocumentFault, read_object_list, read_objects};
+use bac_store::{Change, ChangeFault, Store};
+use bac_text::no_memory;
+use bac_value::NoMemory;
+use std::alloc::Global;
+use std::io;
+use std::io::{ErrorKind, Read, Write};
+
+/// A document that a server follows.
+#[derive(Drop)]
+pub(crate) struct Followed<'p> {
+    path: &'p str,
+    /// The octets that were read last; None where the file could not be read.
+    octets: Option<Vec<u8>>,
+    /// The store that the document meant when its values were last given to the node.
+    store: Store,
+}
+
+/// Why a document is not followed now, apart from memory.
+#[derive(Drop)]
+enum Refusal {
+    /// It means no store.
+    Wrong(DocumentFault),
+    /// The served objects cannot follow it.
+    Unfit(FollowFault),
+}
+
+/// What a document as it is now changes.
+#[derive(Drop)]
+struct News {
+    store: Store,
+    changes: Vec<Change>,
+}
+
+/// All octets of a file.
+fn octets_at<F: OpenFiles>(alloc: Global, files: &F, path: &str) -> io::Result<Vec<u8>> {
+    let mut file = files.open(path)?;
+    let mut octets = Vec::new(alloc);
+    file.read_to_end(&mut octets)?;
+    Ok(octets)
+}
+
+/// What the octets of a document change of the store that it meant before. `NoMemory` where that is refused.
+fn news_in(
+    alloc: Global,
+    before: &Store,
+    octets: &[u8],
+) -> Result<Result<News, Refusal>, NoMemory> {
+    let store = match read_objects(alloc, octets) {
+        Ok(store) => store,
+        Err(DocumentFault::NoMemory) => return Err(NoMemory),
+        Err(fault) => return Ok(Err(Refusal::Wrong(fault))),
+    };
+    let Ok(objects) = read_object_list(alloc, octets) else {
+        return Err(NoMemory);
+    };
+    let documents = Documents {
+        before,
+        now: &store,
+    };
+    match changes_between(alloc, documents, &objects) {
+        Ok(changes) => Ok(Ok(News { store, changes })),
+        Err(FollowFault::NoMemory) => Err(NoMemory),
+        Err(fault) => Ok(Err(Refusal::Unfit(fault))),
+    }
+}
+
+/// Tells that the served objects cannot follow a document, and why.
+fn print_unfit<E: Write>(alloc: Global, path: &str, fault: FollowFault, err: &mut E) {
+    // if that fails too, nothing is printed
+    match fault {
+        FollowFault::Cannot {
+            object,
+            property,
+            fault,
+        } => {
+            if let Ok(why) = format!(in alloc; "{fault}: not followed, start the server again") {
+                let _ = print_about(alloc, path, object, property, &why, err);
+            }
+        }
+        fault => {
+            let _ = writeln!(err, "{path}: {fault}: not followed, start the server again");
+        }
+    }
+}
+
+/// The line of a log for a change: what the document gave.
+fn change_line(alloc: Global, moment: u64, change: &Change) -> Result<Vec<u8>, NoMemory> {
+    let head = format!(in alloc; "{moment} document ")?;
+    let what = match change {
+        Change::Value {
+            object,
+            property,
+            octets,
+        } => values_line(alloc, *object, *property, octets)?,
+        Change::File { object, octets } => file_line(alloc, *object, octets.len() as u64)?,
+    };
+    let mut line = head.into_bytes();
+    line.extend_from_slice(what.as_slice())?;
+    Ok(line)
+}
+
+/// The node makes a change, and the log tells it.
+fn make<L: Link, E: Write>(
+    alloc: Global,
+    moment: u64,
+    bound_node: &mut BoundNode<L>,
+    change: &Change,
+    log: &mut LevelLog,
+    err: &mut E,
+) -> Result<(), ChangeFault>
+    ensures { IsChanged bound_node.old bound_node.new }
+{
+    let line = if log.is_on() {
+        change_line(alloc, moment, change)?
+    } else {
+        Vec::new(alloc)
+    };
+    bound_node.change(change)?;
+    log.write_line(&line, err);
+    Ok(())
+}
+
+impl<'p> Followed<'p> {
+    /// The document at a path, whose octets mean that store.
+    pub(crate) fn new(path: &'p str, octets: Vec<u8>, store: Store) -> Followed<'p> {
+        Followed {
+            path,
+            octets: Some(octets),
+            store,
+        }
+    }
+
+    /// Whether the octets are those that were read last.
+    fn has_read(&self, octets: &[u8]) -> bool {
+        match &self.octets {
+            Some(last) => last.as_slice() == octets,
+            None => false,
+        }
+    }
+
+    /// The node makes the changes of the document, in order. At a fault the rest is left for the next look.
+    fn make_all<L: Link, C: Clock, E: Write>(
+        &mut self,
+        station: &mut Station<L, C>,
+        news: News,
+        log: &mut LevelLog,
+        err: &mut E,
+    ) -> Result<(), ChangeFault>
+        ensures { IsChanged station.old.bound_node station.new.bound_node }
+    {
+        let News { store, changes } = news;
+        let moment = station.clock.now();
+        for change in &changes {
+            make(
+                station.alloc,
+                moment,
+                &mut station.bound_node,
+                change,
+                log,
+                err,
+            )?;
+        }
+        self.store = store;
+        Ok(())
+    }
+
+    /// Takes the octets of the document that are new. An Err is out of memory: then they are tried again at the next look.
+    fn take<L: Link, C: Clock, E: Write>(
+        &mut self,
+        station: &mut Station<L, C>,
+        octets: &[u8],
+        log: &mut LevelLog,
+        err: &mut E,
+    ) -> Result<(), NoMemory>
+        ensures { IsChanged station.old.bound_node station.new.bound_node }
+    {
+        let alloc = station.alloc;
+        match news_in(alloc, &self.store, octets)? {
+            Ok(news) => match self.make_all(station, news, log, err) {
+                Ok(()) => Ok(()),
+                Err(_) => Err(NoMemory),
+            },
+            Err(Refusal::Wrong(fault)) => {
+                let _ = print_document_fault(alloc, self.path, octets, &fault, err);
+                Ok(())
+            }
+            Err(Refusal::Unfit(fault)) => {
+                print_unfit(alloc, self.path, fault, err);
+                Ok(())
+            }
+        }
+    }
+
+    /// Tells once that the file cannot be read.
+    fn print_unread<E: Write>(&mut self, error: &io::Error, err: &mut E) {
+        if error.kind() == ErrorKind::OutOfMemory {
+            let _ = no_memory(err);
+            return;
+        }
+        if self.octets.is_some() {
+            // if that fails too, nothing is printed
+            let path = self.path;
+            let _ = writeln!(err, "cannot read\n{path}: {error}");
+        }
+        self.octets = None;
+    }
+
+    /// Looks at the document. If it has other octets than before, the node makes its changes; a document that is wrong is told once, and nothing changes.
+    pub(crate) fn look<F: OpenFiles, L: Link, C: Clock, E: Write>(
+        &mut self,
+        files: &F,
+        station: &mut Station<L, C>,
+        log: &mut LevelLog,
+        err: &mut E,
+    )
+        ensures { IsChanged station.old.bound_node station.new.bound_node }
+    {
+        let octets = match octets_at(station.alloc, files, self.path) {
+            Ok(octets) => octets,
+            Err(error) => return self.print_unread(&error, err),
+        };
+        if self.has_read(&octets) {
+            return;
+        }
+        match self.take(station, &octets, log, err) {
+            Ok(()) => self.octets = Some(octets),
+            Err(_) => {
+                let _ = no_memory(err);
+            }
+        }
+    }
+}

@@ -1,0 +1,262 @@
+//! `serve --follow` and `serve --until-eof`: serving in stretches of at most a second, between which a server looks at its document and at standard input.
+ghost use Rattle.std.specs.Prelude.{IfErr, IfOk};
+ghost use Rattle.std.specs.Option.{option_map};
+ghost use Rattle.bac_commands.specs.Statuses.{ByStatus};
+ghost use Rattle.std.specs.Io.KnownBytes.{Keeps};
+ghost use Rattle.bac_driver.specs.Runs.{timed};
+ghost use Rattle.bac_text.specs.Statuses.{IsFailure, IsStop};
+ghost use Rattle.bac_command_line.specs.Files.{OfFile, OnFile};
+ghost use Rattle.bac_command_line.specs.Keeping.{IsDocument};
+ghost use Rattle.bac_command_line.specs.Looking.{IsChanged, IsServedLooking, IsServer, ServesLooking, TakesStretches};
+ghost use Rattle.bac_command_line.specs.Online.{OnClock, OnPort};
+ghost use Rattle.bac_command_line.specs.Stores.{MeansStore};
+
+use crate::environment::Environment;
+use crate::files::{OpenFiles, opened};
+use crate::followed::Followed;
+use crate::objects::{document_of, octets_of, store_in};
+use crate::online::Machine;
+use crate::serving::{Serving, print_listening, print_not_bound};
+use crate::station::Station;
+use bac_commands::{LevelLog, bound_server, clock_fault, print_served, serve_stretch};
+use bac_driver::{Clock, RunLimit, WaitLimit};
+use bac_node::NewNodeFault;
+use bac_store::Store;
+use bac_text::{Status, complain, no_memory};
+use std::alloc::Global;
+use std::io::{Read, Write};
+
+/// The longest stretch, in milliseconds.
+const STRETCH: u64 = 1_000;
+
+/// The store that a node serves, and its document if it is followed.
+#[derive(Drop)]
+struct Served<'p> {
+    store: Store,
+    followed: Option<Followed<'p>>,
+}
+
+/// What a server looks at between stretches, and where it tells of it.
+#[derive(Drop)]
+struct Looker<'p> {
+    until_eof: bool,
+    followed: Option<Followed<'p>>,
+    log: LevelLog,
+}
+
+/// The limit of the stretch that begins at a moment, of a server that ends at one, if there is one.
+fn stretch_from(now: u64, end: Option<u64>) -> RunLimit {
+    let stretch = now.saturating_add(STRETCH);
+    let until = match end {
+        Some(end) => end.min(stretch),
+        None => stretch,
+    };
+    RunLimit {
+        turns: u64::MAX,
+        wait_limit: WaitLimit {
+            wait: u64::MAX,
+            until: Some(until),
+        },
+    }
+}
+
+/// Whether a moment is the end, or after it.
+fn is_over(now: u64, end: Option<u64>) -> bool {
+    match end {
+        Some(end) => end <= now,
+        None => false,
+    }
+}
+
+/// The store that the octets of an open file mean, and the document that is followed.
+#[tactic(auto, using(crate::proofs::StoresOfFiles::meant_by_file))]
+fn followed_from<'p, F: Read + Drop, E: Write>(
+    alloc: Global,
+    path: &'p str,
+    file: F,
+    err: &mut E,
+) -> Result<Served<'p>, Status>
+    ensures store { IfOk result (λ s. MeansStore (F.remaining file) s.store) }
+    ensures told { IfErr result IsStop }
+{
+    let octets = octets_of(alloc, path, file, err)?;
+    let store = store_in(alloc, path, &octets, err)?;
+    match store.copy(alloc) {
+        Ok(before) => Ok(Served {
+            store,
+            followed: Some(Followed::new(path, octets, before)),
+        }),
+        Err(_) => Err(no_memory(err)),
+    }
+}
+
+/// The store of a document that is followed.
+fn followed_document<'p, F: OpenFiles, M: Machine, E: Write>(
+    environment: &Environment<'_, F, M>,
+    path: &'p str,
+    err: &mut E,
+) -> Result<Served<'p>, Status>
+    ensures store { IfOk result (λ s. OfFile (OnFile F.is_file F.File.remaining) path.now (λ content. MeansStore content s.store)) }
+    ensures told { IfErr result IsStop }
+{
+    let file = opened(environment.files, path, err)?;
+    followed_from(environment.alloc, path, file, err)
+}
+
+/// The store of a document, which is followed where that is wanted.
+fn served_document<'p, F: OpenFiles, M: Machine, E: Write>(
+    environment: &Environment<'_, F, M>,
+    serving: &Serving,
+    objects: Option<&'p str>,
+    err: &mut E,
+) -> Result<Served<'p>, Status>
+    ensures document { IfOk result (λ s. IsDocument (OnFile F.is_file F.File.remaining) (option_map (λ p. p.now) objects.entry) s.store) }
+    ensures told { IfErr result IsStop }
+{
+    match objects {
+        Some(path) if serving.follow => followed_document(environment, path, err),
+        objects => Ok(Served {
+            store: document_of(environment, objects, err)?,
+            followed: None,
+        }),
+    }
+}
+
+/// A node with a store on its link, which begins at the moment that is returned.
+fn station_of<F: OpenFiles, M: Machine, E: Write>(
+    environment: &Environment<'_, F, M>,
+    serving: &Serving,
+    store: Store,
+    err: &mut E,
+) -> Result<(Station<M::Link, M::Timer>, u64), Status>
+    ensures server { IfOk result (λ r. IsServer (OnPort M.is_bound M.Link.failures M.Link.calls) (OnClock M.is_made M.Timer.told) serving.now store r.1
+        (timed r.0.bound_node (M.Timer.told r.0.clock))) }
+    ensures told { IfErr result IsStop }
+{
+    let alloc = environment.alloc;
+    let (link, address) = match environment.machine.bind(serving.host, serving.port) {
+        Ok(bound) => bound,
+        Err(error) => return Err(print_not_bound(serving, &error, err)),
+    };
+    let Some(mut clock) = environment.machine.timer() else {
+        return Err(clock_fault(err));
+    };
+    let start = clock.now();
+    let objects = store.object_count();
+    let restart = serving.restart(start);
+    let bound = bound_server(alloc, link, address, store, serving.slots, restart);
+    let mut bound_node = match bound {
+        Ok(bound_node) => bound_node,
+        Err(NewNodeFault::BadSlots) => {
+            return Err(complain(err, "bad slots", Status::CommandLine));
+        }
+        Err(_) => return Err(no_memory(err)),
+    };
+    serving.set(&mut bound_node);
+    print_listening(serving, address, objects, start, err);
+    let station = Station {
+        alloc,
+        bound_node,
+        clock,
+    };
+    Ok((station, start))
+}
+
+/// Looks at what a server looks at. Returns whether it ends.
+fn look<F: OpenFiles, M: Machine, E: Write>(
+    environment: &Environment<'_, F, M>,
+    looker: &mut Looker<'_>,
+    station: &mut Station<M::Link, M::Timer>,
+    err: &mut E,
+) -> bool
+    ensures { IsChanged station.old.bound_node station.new.bound_node }
+{
+    if looker.until_eof && environment.machine.has_input_ended() {
+        return true;
+    }
+    if let Some(followed) = &mut looker.followed {
+        followed.look(environment.files, station, &mut looker.log, err);
+    }
+    false
+}
+
+/// A node serves in stretches, up to a moment if there is one. Returns how many requests it performed, at most 2^64 - 1.
+fn serve_stretches<F: OpenFiles, M: Machine, E: Write>(
+    environment: &Environment<'_, F, M>,
+    end: Option<u64>,
+    looker: &mut Looker<'_>,
+    station: &mut Station<M::Link, M::Timer>,
+    err: &mut E,
+) -> Result<u64, Status>
+    ensures taken { IfOk result (λ effects. TakesStretches (timed station.old.bound_node (M.Timer.told station.old.clock)) effects
+        (timed station.new.bound_node (M.Timer.told station.new.clock))) }
+    ensures failed { IfErr result IsFailure }
+{
+    let mut effects = 0u64;
+    for _ in 0..u64::MAX {
+        let now = station.clock.now();
+        if is_over(now, end) {
+            return Ok(effects);
+        }
+        let more = serve_stretch(
+            &mut station.bound_node,
+            &mut station.clock,
+            &stretch_from(now, end),
+            &mut looker.log,
+            err,
+        )?;
+        effects = effects.saturating_add(more);
+        if look(environment, looker, station, err) {
+            return Ok(effects);
+        }
+    }
+    Ok(effects)
+}
+
+/// A node serves with a store, and how many requests it performed is printed.
+fn serve_store<F: OpenFiles, M: Machine, O: Write, E: Write>(
+    environment: &Environment<'_, F, M>,
+    serving: &Serving,
+    served: Served<'_>,
+    out: &mut O,
+    err: &mut E,
+) -> Result<(), Status>
+    ensures served { IfOk result (λ _. ServesLooking (OnPort M.is_bound M.Link.failures M.Link.calls) (OnClock M.is_made M.Timer.told) serving.now
+        (O.contents out.old) (O.contents out.new) served.entry.store) }
+    ensures failed { IfErr result (λ s. ByStatus s ⊥ ⊥ (Keeps (O.contents out.old) (O.contents out.new))) }
+{
+    let Served { store, followed } = served;
+    let (mut station, start) = station_of(environment, serving, store, err)?;
+    let mut looker = Looker {
+        until_eof: serving.until_eof,
+        followed,
+        log: serving.log_from(environment.alloc, start),
+    };
+    let end = serving.wait_limit(start).until;
+    let effects = serve_stretches(environment, end, &mut looker, &mut station, err)?;
+    print_served(effects, out, err)?;
+    looker.log.end(err);
+    Ok(())
+}
+
+/// A node serves so, with the house or the objects of a document; at most a second apart it looks at the document, if it follows it, and at standard input, if
+/// it ends with that. A file is reported as by `objects::answer`.
+pub(crate) fn serve_looking<F: OpenFiles, M: Machine, O: Write, E: Write>(
+    environment: &Environment<'_, F, M>,
+    serving: &Serving,
+    objects: Option<&str>,
+    out: &mut O,
+    err: &mut E,
+) -> Status
+    ensures { IsServedLooking (OnFile F.is_file F.File.remaining) (option_map (λ p. p.now) objects.entry) (OnPort M.is_bound M.Link.failures M.Link.calls)
+        (OnClock M.is_made M.Timer.told) result serving.now (O.contents out.old) (O.contents out.new) }
+{
+    let served = match served_document(environment, serving, objects, err) {
+        Ok(served) => served,
+        Err(status) => return status,
+    };
+    match serve_store(environment, serving, served, out, err) {
+        Ok(()) => Status::Done,
+        Err(status) => status,
+    }
+}

@@ -1,0 +1,54 @@
+//! The changes that make of the store of a document the store of the document as it is now.
+ghost use Rattle.std.specs.Prelude.{◌≡◌, map, IfOk};
+ghost use Rattle.bac_store.specs.Stores.{Store as Objects};
+ghost use Rattle.bac_store.specs.Views.{change_view};
+ghost use Rattle.bac_follow.specs.Following.{followed, made};
+
+use crate::fault::FollowFault;
+use crate::news::news_of;
+use bac_store::{Change, Object, Store};
+use std::alloc::Global;
+
+/// The stores that a document meant before, and means now.
+#[derive(Clone, Copy)]
+pub struct Documents<'a> {
+    pub before: &'a Store,
+    pub now: &'a Store,
+}
+
+/// A copy of a store, with all these changes.
+fn made_of(alloc: Global, store: &Store, changes: &[Change]) -> Result<Store, FollowFault>
+    ensures { IfOk result (λ s. s ≡ made (map change_view changes.now) store.now) }
+{
+    let mut store = store.copy(alloc)?;
+    for change in changes {
+        if let Err(fault) = store.change(alloc, change) {
+            return Err(FollowFault::of(change, fault));
+        }
+    }
+    Ok(store)
+}
+
+/// The changes that make of the store of a document before the one that it means now. `objects` are those that the document lists now.
+///
+/// Made at any store, they give each property the document's values where those differ from what the document said before, each file its octets where they
+/// differ, and leave all else: what a client wrote stays unless the document's own value changed.
+///
+/// `Cannot` for the first property or file that the served objects cannot give what the document says now, and `Other` where the documents differ in more than
+/// values and octets: then the server has to be started again to follow the document. `NoMemory` if an allocation fails.
+#[tactic(auto, using(crate::proofs::Followed::follows))]
+pub fn changes_between(
+    alloc: Global,
+    documents: Documents<'_>,
+    objects: &[Object],
+) -> Result<Vec<Change>, FollowFault>
+    ensures whole { IfOk result (λ v. made (map change_view v.items) documents.entry.before.now ≡ documents.entry.now.now) }
+    ensures followed { IfOk result (λ v. (s : Objects) → made (map change_view v.items) s ≡ followed documents.entry.before.now documents.entry.now.now s) }
+{
+    let changes = news_of(alloc, documents, objects)?;
+    let store = made_of(alloc, documents.before, &changes)?;
+    if !store.same(documents.now) {
+        return Err(FollowFault::Other);
+    }
+    Ok(changes)
+}
