@@ -10,19 +10,19 @@ use Rattle.bac_protocol.specs.declared.times.TheConstants.{KEEP}
 use Rattle.bac_protocol.specs.Claims.{IsBounded}
 use Rattle.bac_protocol.specs.Context.{Context}
 use Rattle.bac_protocol.specs.Pace.{Clock, IsShown, clock_at, goes_on}
-use Rattle.bac_protocol.specs.Server.{Effect, Reaction, ServerTransaction}
+use Rattle.bac_protocol.specs.Server.{Effect, Reaction, ServerTransaction, is_live}
 use Rattle.bac_protocol.specs.Service.{Octets}
 use Rattle.bac_protocol.specs.Transaction.{Key, Rules}
 use Rattle.bac_protocol.specs.Wire.{is_from_client}
 use Rattle.bac_protocol.specs.World.{Net}
 use Rattle.bac_protocol.proofs.Paces.{shows_on}
 use Rattle.bac_reuse.proofs.ReusingMoves.{in_order_so}
-use Rattle.bac_slots.specs.Slots.{IsDistinct, value_at}
+use Rattle.bac_slots.specs.Slots.{IsDistinct, keep, value_at}
 use Rattle.bac_transaction.specs.Ends.{act_at, context_of, is_free, key_of}
 use Rattle.bac_transaction.specs.Keys.{PeerKey, same_key}
 use Rattle.bac_transaction.specs.Reuse.{is_read}
 use Rattle.bac_transaction.specs.Services.{service_of}
-use Rattle.bac_transaction.proofs.KeyedSlots.{changed_value, decide_slot_key, value_changed}
+use Rattle.bac_transaction.proofs.KeyedSlots.{changed, changed_value, decide_slot_key, distinct_changed, passing_value, value_changed}
 use Rattle.bac_world.specs.Node.{IsDropped, Node, NodeTick, Outcome}
 use Rattle.bac_world.specs.Once.{Fact}
 use Rattle.bac_world.specs.Once.Fact.{Asked, AskedAway, Changed, Restarted}
@@ -38,6 +38,7 @@ use Rattle.bac_world.proofs.Settings.{end_heard, reusing_in}
 use Rattle.bac_world.proofs.Steps.{Over, decide_number, each_with}
 use Rattle.bac_writes.specs.Writes.{AddsNothingFor, HearsNoOther, IsNoOther}
 use Rattle.bac_writes.proofs.Kept.{HasKept, none_performed, other_kept, own_kept, table, tick_kept}
+use Rattle.bac_writes.proofs.Machine.{IsKeptEntry, live_until}
 use Rattle.bac_writes.proofs.Logs.{IsOfOther, adds_ended, adds_logged, adds_none, adds_one, adds_then}
 
 -- what was performed is of that key
@@ -168,12 +169,18 @@ module _ (begin choice : ℕ) (request : Option Octets) (key : PeerKey) where
       ticked : (i : ℕ) (a b : Node) (o : Outcome) → slice_get v.nodes i ≡ Some a → NodeTick (told v i) a b o → i ≡ node → KeptIn b
       ticked i a b o at t is =
           let k = was a (subst (λ j. slice_get v.nodes j ≡ Some a) is at) in
+          let then : told v i ≤ begin + KEEP = subst (λ j. told v j ≤ begin + KEEP) (sym is) young in
+          let next : ServerTransaction = entry_tick a.settings (told v i) key k.entry in
+          let kept : IsKeptEntry begin choice request next = tick_kept begin choice request (context_of a.settings (told v i) key) k.entry then k.kept in
+          let live : is_live (told v i) next ≡ true = live_until (told v i) next (let b = kept.begin_is in omega arith) in
           record {
-            entry = entry_tick a.settings (told v i) key k.entry;
+            entry = next;
             there = ap (λ (m : Node). value_at same_key key m.servers.slots) t.node
-                ∙ value_changed ServerTransaction (entry_tick a.settings (told v i)) key a.servers.slots
-                ∙ ap (changed_value ServerTransaction (entry_tick a.settings (told v i)) key) k.there;
-            kept = tick_kept begin choice request (context_of a.settings (told v i) key) k.entry (subst (λ j. told v j ≤ begin + KEEP) (sym is) young) k.kept;
+                ∙ passing_value ServerTransaction (is_live (told v i)) key (changed ServerTransaction (entry_tick a.settings (told v i)) a.servers.slots)
+                (distinct_changed ServerTransaction (entry_tick a.settings (told v i)) a.servers.slots ((h.nodes i a at).servers).distinct)
+                ∙ ap (keep (is_live (told v i))) (value_changed ServerTransaction (entry_tick a.settings (told v i)) key a.servers.slots
+                ∙ ap (changed_value ServerTransaction (entry_tick a.settings (told v i)) key) k.there) ∙ ap (λ b. if b then Some next else None) live;
+            kept = kept;
           }
 
       pub step_went : (e : Event) → IsOfNone v.nodes key.peer.link → RunsOn node (e ∷ []) → HearsNoOther node key choice request (e ∷ [])
