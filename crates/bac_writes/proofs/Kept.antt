@@ -1,6 +1,6 @@
 -- The entry of a write in the reply table of a node.
 use Rattle.std.proofs.Common.{◌≡◌, ℕ, ◌+◌, ◌≤◌, Bool, true, false, List, [], ◌∷◌, ◌⊎◌, Option, Some, None, if◌then◌else◌, refl, sym, ap, subst, inl, inr, ◌∙◌, arith}
-use Rattle.bac_apdu.specs.Apdu.{Apdu}
+use Rattle.bac_apdu.specs.Apdu.{Apdu, Segment}
 use Rattle.bac_protocol.specs.declared.times.TheConstants.{KEEP}
 use Rattle.bac_protocol.specs.Context.{Context, Settings}
 use Rattle.bac_protocol.specs.Reuse.{server_hears}
@@ -46,6 +46,12 @@ module _ (now : ℕ) (reuse : Bool) (c : Settings) (service : Service) (q : Peer
   here : live_entry now (value_at same_key q table) ≡ live_entry now heard.entry
   here = entry_here now q left distinct_left heard.entry (heard_none q reuse (context_of c now q) service free apdu slots distinct)
 
+  -- where it performs a write, the entry of that is there
+  pub performs_there : (segment : Option Segment) (choice : ℕ) (octets : Octets) (p : Performs now segment choice octets heard)
+      → value_at same_key q table ≡ Some p.entry
+  performs_there segment choice octets p = from_live now (value_at same_key q table) p.entry
+      (here ∙ ap (live_entry now) p.entry_is ∙ live_is now p.entry p.live)
+
   module _ (begin choice : ℕ) (request : Option Octets) (young : now ≤ begin + KEEP) where
     alive : (e : ServerTransaction) → IsKeptEntry begin choice request e → is_live now e ≡ true
     alive e k = live_until now e (let b = k.begin_is in omega arith)
@@ -60,10 +66,10 @@ module _ (now : ℕ) (reuse : Bool) (c : Settings) (service : Service) (q : Peer
     }
 
     -- its own stays too, and nothing is performed
-    module _ (write : is_read choice ≡ false) (h : HasKept begin choice request q slots) (same_as : IsNoOther choice request apdu) where
-      rests : Rests choice write begin request heard
-      rests = subst (λ o. Rests choice write begin request (hearing o)) (sym h.there)
-          (hears_rests choice write (context_of c now q) service free begin request h.entry (alive h.entry h.kept) h.kept apdu reuse same_as)
+    module _ (h : HasKept begin choice request q slots) (same_as : IsNoOther choice request apdu) where
+      rests : Rests choice begin request heard
+      rests = subst (λ o. Rests choice begin request (hearing o)) (sym h.there)
+          (hears_rests choice (context_of c now q) service free begin request h.entry (alive h.entry h.kept) h.kept apdu reuse same_as)
 
       pub none_performed : heard.effect ≡ None
       none_performed = rests.effect

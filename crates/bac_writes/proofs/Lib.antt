@@ -2,3 +2,4 @@ pub mod Machine
 pub mod Logs
 pub mod Kept
 pub mod Steps
+pub mod Runs

@@ -79,11 +79,11 @@ and_false : (b : Bool) → b && false ≡ false
 and_false true = refl
 and_false false = refl
 
-module _ (choice : ℕ) (write : is_read choice ≡ false) where
+module _ (choice : ℕ) where
   unended_by : (e : ServerTransaction) (request : Option Octets) → e.choice ≡ choice → e.request ≡ request → (a : Apdu) → IsNoOther choice request a
       → is_ended_by is_read e a ≡ false
   unended_by e (Some kept) asked is (ConfirmedRequest limits id None c octets) same_as =
-      let read : is_read c ≡ false = ap is_read same_as.0 ∙ write in
+      let read : is_read c ≡ false = same_as.2 in
       let same : nat_eq c e.choice ≡ true = let eq : c ≡ e.choice = same_as.0 ∙ sym asked in grind (arith, nat_tests) in
       let own : is_kept e e.request c octets ≡ true =
       ap (λ r. is_kept e r c octets) is ∙ ap (λ b. b && bytes_eq octets kept) same ∙ (bytes_eq-Decides octets kept).1 same_as.1 in

@@ -21,10 +21,10 @@ use Rattle.bac_world.specs.Services.{Performed}
 use Rattle.bac_world.specs.World.{Event, IsBounded, IsFresh, IsOfNone, RunsOn, World, told}
 use Rattle.bac_world.specs.World.Event.{Stray}
 
--- An APDU that comes is no other request than the one that an entry keeps: it is that request again, a later segment, or no Confirmed-Request. Of a request
--- that came in segments, whose octets are not kept, only a request without SEG is surely another one.
+-- An APDU that comes is no other request than the one of an entry: it is that request again, which is no read, a later segment, or no Confirmed-Request. Where
+-- that request came in segments, its octets are not kept, and any segment counts as one of it.
 abbrev pub IsNoOther : (choice : ℕ) → (request : Option Octets) → Apdu → Type 0
-IsNoOther choice (Some kept) (ConfirmedRequest limits invoke_id None asked octets) = (asked ≡ choice) × (octets ≡ kept)
+IsNoOther choice (Some kept) (ConfirmedRequest limits invoke_id None asked octets) = (asked ≡ choice) × (octets ≡ kept) × (is_read asked ≡ false)
 IsNoOther choice (Some kept) (ConfirmedRequest limits invoke_id (Some segment) asked octets) = segment.number ≢ 0
 IsNoOther choice None (ConfirmedRequest limits invoke_id None asked octets) = ⊥
 IsNoOther choice None (ConfirmedRequest limits invoke_id (Some segment) asked octets) = Unit {0}
