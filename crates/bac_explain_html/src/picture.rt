@@ -128,6 +128,7 @@ fn asked_text(alloc: Global, asked: u64) -> Result<String, AllocError>
 }
 
 /// The picture of a transaction whose request was first seen at this moment.
+#[tactic(auto, using(crate::proofs::Told::picture_told))]
 pub(crate) fn picture(
     alloc: Global,
     key: TransactionKey,
