@@ -4,11 +4,11 @@ use Rattle.bac_explain_html.specs.Escapes.{entity, escaped, has_markup, is_marku
 
 both : (a b : List ℕ) → has_markup a ≡ false → has_markup b ≡ false → has_markup (a ++ b) ≡ false
 both [] b ea eb = eb
-both (octet ∷ a) b ea eb = go (is_markup octet) ea
+both (octet ∷ a) b ea eb = go (is_markup octet) ea (λ e. both a b e eb)
   where
-    go : (m : Bool) → m || has_markup a ≡ false → m || has_markup (a ++ b) ≡ false
-    go true e = absurd cc
-    go false e = both a b e eb
+    go : (m : Bool) → m || has_markup a ≡ false → (has_markup a ≡ false → has_markup (a ++ b) ≡ false) → m || has_markup (a ++ b) ≡ false
+    go true e rest = absurd cc
+    go false e rest = rest e
 
 -- by what stands for the octet, and whether it is markup itself
 abbrev markup_in : Option (List ℕ) → Bool → Bool
