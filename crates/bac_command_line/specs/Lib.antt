@@ -19,3 +19,4 @@ pub mod Stores
 pub mod Tasks
 pub mod Forgetting
 pub mod Keeping
+pub mod WholeFiles

@@ -7,6 +7,7 @@ ghost use Rattle.bac_command_line.specs.Tasks.{IsPerformed};
 
 use crate::asking_lines::ask_lines;
 use crate::environment::Environment;
+use crate::file_task::do_with_files;
 use crate::files::{OpenFiles, chart, check, explain, show, simulate};
 use crate::forgetting::forget_kept;
 use crate::grammar::matches;
@@ -70,6 +71,7 @@ fn perform<F: OpenFiles, M: Machine, O: Write, E: Write>(
             default,
             path,
         } => ask_lines(environment, &asking, default, path, out, err),
+        Task::Files { task, work } => do_with_files(environment, &task, work, out, err),
         Task::Pair => online::pair(alloc, environment.machine, out, err),
         Task::Tell(telling) => tell(telling, out, err),
     }

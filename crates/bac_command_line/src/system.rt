@@ -12,6 +12,7 @@ use crate::online::Machine;
 use bac_driver::{MonotonicClock, UdpLink};
 use bac_keep_file::{KeptFile, OpenFault};
 use bac_npdu::LinkAddress;
+use std::io::Write;
 use std::net::{Ipv4Addr, Net, SocketAddr, UdpSocket};
 use std::rt::Files;
 use std::time::{Duration, SystemTime, UNIX_EPOCH};
@@ -53,6 +54,16 @@ impl<R: Files> OpenFiles for System<'_, R> {
     fn open(&self, path: &str) -> io::Result<R::File> {
         let path = if path == "-" { STANDARD_INPUT } else { path };
         fs::open(self.runtime, path)
+    }
+
+    fn write(&self, path: &str, octets: &[u8]) -> io::Result<()> {
+        let mut file = fs::create(self.runtime, path)?;
+        file.write_all(octets)?;
+        file.flush()
+    }
+
+    fn make_folder(&self, path: &str) -> io::Result<()> {
+        fs::create_dir_all(self.runtime, path)
     }
 }
 

@@ -1,12 +1,12 @@
 //! A file that is put together from parts.
-ghost use Rattle.std.specs.Prelude.{◌≡◌, ◌⊎◌, ◌≤◌, length, None, Some, IfErr, OnErr, OnOk};
+ghost use Rattle.std.specs.Prelude.{◌≡◌, ◌⊎◌, ◌≤◌, [], length, None, Some, IfErr, OnErr, OnOk};
 ghost use Rattle.bac_files.specs.Limits.{MOST_OCTETS};
 ghost use Rattle.bac_files.specs.Parts.{AreJoined, AreJoinedWith, NOTHING, fault_of, part_view, with_part};
 ghost use Rattle.bac_files.specs.declared.part_fault.PartFault.TheVariants as fault;
 
 use crate::part_fault::PartFault;
 use bac_service::{Content, FileRead};
-use std::alloc::Global;
+use std::alloc::{AllocError, Global};
 use std::marker::Model;
 
 /// The most octets of a file that is put together (own limit): 64 MiB.
@@ -91,6 +91,18 @@ impl Gathering {
         }
     }
 
+    /// The part goes behind those that were taken before. After an Err nothing has changed.
+    fn append(&mut self, part: FileRead<Content<'_>>) -> Result<(), AllocError>
+        requires right { fault_of self.old (part_view part) ≡ None }
+        ensures taken { OnOk result (self.new ≡ with_part self.old (part_view part.entry)) }
+        ensures joined { OnOk result (AreJoinedWith (part_view part.entry) self.old self.new) }
+        ensures same { OnErr result (self.new ≡ self.old) }
+    {
+        self.octets.extend_from_slice(part.content.octets)?;
+        self.is_whole = part.end_of_file;
+        Ok(())
+    }
+
     /// Takes the part with which a read was answered: it goes behind those that were taken before.
     ///
     /// Each fault says what is wrong with the part; after one, nothing has changed.
@@ -104,10 +116,9 @@ impl Gathering {
         if let Some(fault) = self.fault_of(part) {
             return Err(fault);
         }
-        if self.octets.extend_from_slice(part.content.octets).is_err() {
-            return Err(PartFault::NoMemory);
+        match self.append(part) {
+            Ok(()) => Ok(()),
+            Err(_) => Err(PartFault::NoMemory),
         }
-        self.is_whole = part.end_of_file;
-        Ok(())
     }
 }

@@ -1,7 +1,7 @@
 //! The list of the files of a backup: a line for each, with its digest, its length and its name in the folder.
-ghost use Rattle.std.specs.Prelude.{◌≡◌, IfOk, IfSome};
+ghost use Rattle.std.specs.Prelude.{◌≡◌, map, IfOk};
 ghost use Rattle.bac_value.specs.Views.{object_identifier_view};
-ghost use Rattle.bac_files.specs.Manifests.{line_of, name_of};
+ghost use Rattle.bac_files.specs.Manifests.{line_of, name_octet, name_of};
 
 use bac_value::ObjectIdentifier;
 use bac_value_text::{object_in, object_text};
@@ -18,19 +18,30 @@ pub struct SavedFile {
     pub digest: [u8; 32],
 }
 
-fn name_octet(octet: u8) -> u8 {
+/// The octet of a name for that of a text: a hyphen for a colon.
+fn name_octet(octet: u8) -> u8
+    ensures { result ≡ name_octet octet }
+{
     if octet == b':' { b'-' } else { octet }
+}
+
+/// A text with hyphens in the place of its colons.
+fn hyphened(alloc: Global, text: &[u8]) -> Result<Vec<u8>, AllocError>
+    ensures { IfOk result (λ name. name.items ≡ map name_octet text.now) }
+{
+    let mut name = Vec::new(alloc);
+    for octet in text {
+        name.push(name_octet(*octet))?;
+    }
+    Ok(name)
 }
 
 /// The name of the file in a folder that has the octets of an object: `file-1.bin`.
 pub fn file_name(alloc: Global, object: ObjectIdentifier) -> Result<Vec<u8>, AllocError>
     ensures { IfOk result (λ name. name.items ≡ name_of (object_identifier_view object)) }
 {
-    let mut name = Vec::new(alloc);
     let text = object_text(alloc, object)?;
-    for octet in &text {
-        name.push(name_octet(*octet))?;
-    }
+    let mut name = hyphened(alloc, &text)?;
     name.extend_from_slice(b".bin")?;
     Ok(name)
 }
