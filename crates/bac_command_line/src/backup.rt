@@ -69,7 +69,8 @@ fn name_in<E: Write>(alloc: Global, object: ObjectIdentifier, err: &mut E) -> Re
 fn add_line(alloc: Global, file: &SavedFile, manifest: &mut Vec<u8>) -> Result<(), AllocError> {
     let line = manifest_line(alloc, file)?;
     manifest.extend_from_slice(&line)?;
-    manifest.push(b'\n')
+    manifest.push(b'\n')?;
+    Ok(())
 }
 
 /// Whether octets are those of a saved file.

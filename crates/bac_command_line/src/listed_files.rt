@@ -90,7 +90,8 @@ pub(crate) fn listed_files<M: Machine, E: Write>(
         };
         // if that fails too, only the status is left
         let _ = err.write_all(b"object-list: ");
-        let _ = err.writeln(words.as_slice());
+        let _ = err.write_all(&words);
+        let _ = err.write_all(b"\n");
     }
     Ok(files)
 }

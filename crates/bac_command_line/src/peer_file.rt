@@ -92,12 +92,13 @@ pub(crate) fn ask_part<M: Machine, E: Write>(
     asking: &Asking,
     client: &mut Client<'_, M>,
     file: &PeerFile<'_>,
-    (position, size): (u64, PartSize),
+    wanted: (u64, PartSize),
     err: &mut E,
 ) -> Result<Asked, Status>
     ensures told { IfErr result IsStop }
 {
     let alloc = client.station.alloc;
+    let (position, size) = wanted;
     let position = word_of(alloc, position, err)?;
     let count = word_of(alloc, size.octets() as u64, err)?;
     let words = ["get", file.object, position.as_str(), count.as_str()];
@@ -109,12 +110,13 @@ pub(crate) fn put_part<M: Machine, E: Write>(
     asking: &Asking,
     client: &mut Client<'_, M>,
     file: &PeerFile<'_>,
-    (position, part): (u64, &[u8]),
+    written: (u64, &[u8]),
     err: &mut E,
 ) -> Result<Asked, Status>
     ensures told { IfErr result IsStop }
 {
     let alloc = client.station.alloc;
+    let (position, part) = written;
     let position = word_of(alloc, position, err)?;
     let digits = digits_of(alloc, part, err)?;
     let words = ["put", file.object, position.as_str(), digits.as_str()];

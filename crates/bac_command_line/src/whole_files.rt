@@ -147,13 +147,14 @@ pub(crate) fn get<F: OpenFiles, M: Machine, O: Write, E: Write>(
 fn print_put<M: Machine, O: Write, E: Write>(
     asking: &Asking,
     client: &Client<'_, M>,
-    (object, count): (&str, usize),
+    of: (&str, usize),
     put: Put,
     out: &mut O,
     err: &mut E,
 ) -> Result<bool, Status>
     ensures told { IfErr result IsStop }
 {
+    let (object, count) = of;
     let Asked { question, end } = put.last;
     let end: AskEnd = if put.is_whole { written_end() } else { end };
     print_asked(asking, client, &Asked { question, end }, out, err)?;

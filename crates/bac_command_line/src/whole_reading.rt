@@ -79,7 +79,7 @@ pub(crate) struct Got {
 }
 
 /// What was read of a file, by what is known of it and the last read. Memory that was refused is a failure.
-fn got<E: Write>(reading: Reading, last: Asked, err: &mut E) -> Result<Got, Status>
+fn got_so_far<E: Write>(reading: Reading, last: Asked, err: &mut E) -> Result<Got, Status>
     ensures told { IfErr result IsStop }
 {
     let fault = reading.fault;
@@ -114,7 +114,7 @@ pub(crate) fn read_whole<M: Machine, E: Write>(
         }
         last = ask_part(asking, client, file, reading.next_part(), err)?;
     }
-    got(reading, last, err)
+    got_so_far(reading, last, err)
 }
 
 /// The end of an ask that is answered with all octets of a file.

@@ -1,5 +1,5 @@
 -- The list of the files of a backup: a line for each, with its digest, its length and its name in the folder.
-use Rattle.std.specs.Prelude.{◌≡◌, ℕ, ◌==◌, List, ◌++◌, codes, decimal, map, if◌then◌else◌}
+use Rattle.std.specs.Prelude.{ℕ, ◌==◌, List, ◌++◌, codes, decimal, map, if◌then◌else◌}
 use Rattle.hex.specs.Hex.{encode_lower}
 use Rattle.bac_value.specs.Value.{ObjectId}
 use Rattle.bac_value.specs.Views.{object_identifier_view}

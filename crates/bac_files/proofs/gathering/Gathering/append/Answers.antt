@@ -1,6 +1,6 @@
-use Rattle.std.proofs.Common.{rules, ◌≡◌, ◌++◌, List, ap}
+use Rattle.std.proofs.Common.{rules}
 use Rattle.bac_files.proofs.Joined.{taken_into}
-use Rattle.bac_files.specs.Parts.{part_view, with_part}
+use Rattle.bac_files.specs.Parts.{part_view}
 use Rattle.bac_files.proofs.gathering.Gathering.append.Goals as goal
 
 -- src/gathering.rt
