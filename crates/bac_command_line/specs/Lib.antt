@@ -23,3 +23,4 @@ pub mod Tasks
 pub mod Forgetting
 pub mod Keeping
 pub mod Copied
+pub mod WholeFiles

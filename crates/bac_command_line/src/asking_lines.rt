@@ -65,7 +65,7 @@ fn ends_spent(end: &AskEnd) -> bool
 }
 
 /// A client asks; where its node has nothing left for that, the next one does. Answers how that ended.
-fn ask_on<M: Machine, E: Write>(
+pub(crate) fn ask_on<M: Machine, E: Write>(
     asking: &Asking,
     client: &mut Client<'_, M>,
     question: &Question,

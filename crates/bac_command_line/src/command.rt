@@ -9,6 +9,7 @@ use crate::asking_lines::ask_lines;
 use crate::copied::decode_copied;
 use crate::environment::Environment;
 use crate::explaining::{explain_html, explain_json};
+use crate::file_task::do_with_files;
 use crate::files::{OpenFiles, chart, check, explain, show, simulate};
 use crate::forgetting::forget_kept;
 use crate::grammar::matches;
@@ -86,6 +87,7 @@ fn perform<F: OpenFiles, M: Machine, O: Write, E: Write>(
             default,
             path,
         } => ask_lines(environment, &asking, default, path, out, err),
+        Task::Files { task, work } => do_with_files(environment, &task, work, out, err),
         Task::Pair => online::pair(alloc, environment.machine, out, err),
         Task::Tell(telling) => tell(telling, out, err),
     }

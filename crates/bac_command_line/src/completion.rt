@@ -1,4 +1,5 @@
 //! The script that completes words in bash.
+use crate::backup_words::backups;
 use crate::help_words::{about, offline, online};
 use crate::words::{Grammar, WordForm};
 use std::io;
@@ -38,6 +39,7 @@ fn write_names<O: Write>(out: &mut O, grammars: &[Grammar]) -> io::Result<()> {
 fn write_all_names<O: Write>(out: &mut O) -> io::Result<()> {
     write_names(out, offline())?;
     write_names(out, online())?;
+    write_names(out, backups())?;
     write_names(out, about())
 }
 
@@ -69,6 +71,7 @@ pub(crate) fn write_completion<O: Write>(out: &mut O) -> io::Result<()> {
     out.write_all(MIDDLE.as_bytes())?;
     write_cases(out, offline())?;
     write_cases(out, online())?;
+    write_cases(out, backups())?;
     out.write_all(b"            help) words=\"--man")?;
     write_all_names(out)?;
     out.writeln("\" ;;")?;

@@ -25,6 +25,16 @@ pub trait OpenFiles {
     /// Opens a file for reading.
     fn open(&self, path: &str) -> io::Result<Self::File>
         ensures { IfOk result (λ f. Self.is_file path.now f) };
+
+    /// Writes octets to a file, in place of what it has. An Err where the system refuses it; files that are only read answer `Unsupported`.
+    fn write(&self, _path: &str, _octets: &[u8]) -> io::Result<()> {
+        Err(io::Error::from(io::ErrorKind::Unsupported))
+    }
+
+    /// Makes a folder, and those that it is in, where they are not there. An Err where the system refuses it; files that are only read answer `Unsupported`.
+    fn make_folder(&self, _path: &str) -> io::Result<()> {
+        Err(io::Error::from(io::ErrorKind::Unsupported))
+    }
 }
 
 /// A file, opened for reading. Where it cannot be opened, `err` and the status say so.

@@ -65,7 +65,7 @@ impl<'a> Forgetting<'a> {
 }
 
 /// Complains of a word that names no object, or no property: `bad words`, and which.
-fn print_bad_name<E: Write>(alloc: Global, word: BadWord<'_>, err: &mut E) -> Status
+pub(crate) fn print_bad_name<E: Write>(alloc: Global, word: BadWord<'_>, err: &mut E) -> Status
     ensures { IsStop result }
 {
     let Ok(mut text) = word.text(alloc) else {

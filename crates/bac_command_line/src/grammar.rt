@@ -1,4 +1,5 @@
 //! Command lines, read by the table of commands.
+use crate::backup_words::backups;
 use crate::help_words::about;
 use crate::words::{Grammar, Need, OFFLINE, ONLINE, Word, WordForm};
 use clap::builder::ValueParser;
@@ -90,9 +91,14 @@ fn online<'a>(alloc: Global) -> Result<Command<'a>, clap::Error> {
     with_commands(alloc, offline(alloc)?, ONLINE)
 }
 
+/// The program with those, and the commands that keep whole files.
+fn with_backups<'a>(alloc: Global) -> Result<Command<'a>, clap::Error> {
+    with_commands(alloc, online(alloc)?, backups())
+}
+
 /// The program with all of its commands: a table a function, since the prover writes out what a function names.
 fn commands<'a>(alloc: Global) -> Result<Command<'a>, clap::Error> {
-    with_commands(alloc, online(alloc)?, about())
+    with_commands(alloc, with_backups(alloc)?, about())
 }
 
 /// What the words of a command line give. An Err is out of memory, or has the text for who wrote them.

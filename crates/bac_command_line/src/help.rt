@@ -1,6 +1,7 @@
 //! What `bac help`, `bac version` and `bac completion` print, by the table of commands.
 ghost use Rattle.bac_command_line.specs.Tasks.{IsTold};
 
+use crate::backup_words::backups;
 use crate::completion::write_completion;
 use crate::help_words::{about, command_named, more_example, offline, online};
 use crate::manual::write_manual;
@@ -90,6 +91,7 @@ fn write_all_commands<O: Write>(out: &mut O) -> io::Result<()> {
     out.write_all(b"\n")?;
     write_names(out, offline())?;
     write_names(out, online())?;
+    write_names(out, backups())?;
     write_names(out, about())?;
     out.write_all(b"\n")?;
     out.writeln("Example: bac help serve")?;

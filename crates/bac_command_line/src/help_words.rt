@@ -1,4 +1,5 @@
 //! The commands that tell of the program itself, and more examples for help.
+use crate::backup_words::backups;
 use crate::words::{Grammar, Need, OFFLINE, ONLINE, Word, WordForm};
 
 /// What `help` takes.
@@ -80,6 +81,9 @@ pub(crate) fn command_named(name: &str) -> Option<&'static Grammar> {
         return Some(found);
     }
     if let Some(found) = among(name, online()) {
+        return Some(found);
+    }
+    if let Some(found) = among(name, backups()) {
         return Some(found);
     }
     among(name, about())

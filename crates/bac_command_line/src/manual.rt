@@ -1,4 +1,5 @@
 //! The page of the manual.
+use crate::backup_words::backups;
 use crate::help::write_form;
 use crate::help_words::{about, more_example, offline, online};
 use crate::words::{Grammar, Word};
@@ -95,6 +96,7 @@ pub(crate) fn write_manual<O: Write>(out: &mut O) -> io::Result<()> {
     out.write_all(HEAD.as_bytes())?;
     write_commands(out, offline())?;
     write_commands(out, online())?;
+    write_commands(out, backups())?;
     write_commands(out, about())?;
     out.write_all(TAIL.as_bytes())
 }

@@ -124,7 +124,7 @@ pub(crate) fn serve<M: Machine, O: Write, E: Write>(
 }
 
 /// The question for a peer that some words are.
-fn question_in(alloc: Global, peer: Peer, words: &[&str]) -> Result<Question, FormFault>
+pub(crate) fn question_in(alloc: Global, peer: Peer, words: &[&str]) -> Result<Question, FormFault>
     ensures { ReadsQuestion (peer_view peer) (map (λ w. w.now) words.now) result }
 {
     let mut octets = Vec::new(alloc);

@@ -1,5 +1,6 @@
 //! The second line of a complaint: which file, address or digit it is about, and why.
 ghost use Rattle.std.specs.Prelude.{◌≡◌};
+ghost use Rattle.bac_text.specs.Statuses.{IsFailure, IsStop};
 ghost use Rattle.bac_text.specs.declared.status.Status.TheVariants as status;
 
 use crate::address::{EVERY_HOST, read_end, read_host, read_link, read_route};
@@ -7,7 +8,7 @@ use crate::seconds::{bad_pace, print_bad_pace};
 use crate::serving::{read_memory, remembers_in_vain};
 use bac_forms::FORM_NAMES;
 use bac_objects::{DocumentFault, document_findings};
-use bac_text::{Status, complain};
+use bac_text::{Status, complain, no_memory};
 use clap::ArgMatches;
 use std::alloc::Global;
 use std::io;
@@ -21,6 +22,41 @@ pub(crate) fn print_unread<E: Write>(path: &str, error: &io::Error, err: &mut E)
     // if that fails too, only the status is left
     let _ = writeln!(err, "{path}: {error}");
     status
+}
+
+/// Complains that a file or a folder cannot be written, and tells which and the system's reason.
+pub(crate) fn print_unwritten<E: Write>(path: &str, error: &io::Error, err: &mut E) -> Status
+    ensures { IsFailure result }
+{
+    if error.kind() == io::ErrorKind::OutOfMemory {
+        return no_memory(err);
+    }
+    let status = complain(err, "cannot write", Status::Output);
+    // if that fails too, only the status is left
+    let _ = writeln!(err, "{path}: {error}");
+    status
+}
+
+/// Complains of words that ask for no whole file, where one was to be written.
+pub(crate) fn print_no_whole_file<E: Write>(err: &mut E) -> Status
+    ensures { result ≡ status.CommandLine }
+{
+    let status = complain(err, "bad words", Status::CommandLine);
+    // if that fails too, only the status is left
+    let _ = err.writeln("--out takes a whole file: `get T:I` wanted");
+    status
+}
+
+/// Complains of a line of a manifest that is none.
+pub(crate) fn print_bad_manifest<E: Write>(number: usize, err: &mut E) -> Status
+    ensures { IsStop result }
+{
+    // if that fails too, only the status is left
+    let _ = writeln!(
+        err,
+        "manifest: line {number}: a digest, a length and the name of a file, as file-1.bin, wanted"
+    );
+    Status::CommandLine
 }
 
 /// Tells the first fault of a document, and then all of them, each with its line; the first alone where memory is refused.
@@ -140,6 +176,7 @@ pub(crate) fn print_no_task<E: Write>(matches: &ArgMatches<'_>, err: &mut E) -> 
             }
             None => print_bad_address(bad_node(given), err),
         },
+        Some(("backup" | "restore", given)) => print_bad_address(bad_node(given), err),
         _ => complain(err, "no command", Status::CommandLine),
     }
 }

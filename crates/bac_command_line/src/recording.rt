@@ -94,13 +94,13 @@ fn take_end(line: &mut Vec<u8>)
 
 /// How an ask ended in words, and whether it succeeded.
 #[derive(Drop)]
-struct EndWords {
-    words: Vec<u8>,
-    succeeded: bool,
+pub(crate) struct EndWords {
+    pub words: Vec<u8>,
+    pub succeeded: bool,
 }
 
 /// The line of `ask --text` without its end.
-fn words_of(
+pub(crate) fn words_of(
     alloc: Global,
     strict: bool,
     request: &OwnedRequest,

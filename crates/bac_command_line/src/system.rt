@@ -14,7 +14,7 @@ use bac_keep_file::{KeptFile, OpenFault};
 use bac_npdu::LinkAddress;
 use mio::unix::SourceFd;
 use mio::{Events, Interest, Poll, Token};
-use std::io::{ErrorKind, Read};
+use std::io::{ErrorKind, Read, Write};
 use std::net::{Ipv4Addr, Net, SocketAddr, UdpSocket};
 use std::rt::Files;
 use std::time::{Duration, SystemTime, UNIX_EPOCH};
@@ -99,6 +99,16 @@ impl<R: Files> OpenFiles for System<'_, R> {
     fn open(&self, path: &str) -> io::Result<R::File> {
         let path = if path == "-" { STANDARD_INPUT } else { path };
         fs::open(self.runtime, path)
+    }
+
+    fn write(&self, path: &str, octets: &[u8]) -> io::Result<()> {
+        let mut file = fs::create(self.runtime, path)?;
+        file.write_all(octets)?;
+        file.flush()
+    }
+
+    fn make_folder(&self, path: &str) -> io::Result<()> {
+        fs::create_dir_all(self.runtime, path)
     }
 }
 

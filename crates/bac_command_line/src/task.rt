@@ -1,6 +1,7 @@
 //! What a command line asks for.
 use crate::asking::{Asking, asking_of, default_of, peer_of};
 use crate::copied::{Copied, copied_of, is_copied};
+use crate::file_task::{FileTask, FileWork, backup_of, file_task_of, work_of};
 use crate::files::{CaptureFile, ScriptFile};
 use crate::forgetting::Forgetting;
 use crate::help::Telling;
@@ -104,6 +105,11 @@ pub(crate) enum Task<'m, 'a> {
         default: Option<Peer>,
         path: &'a str,
     },
+    /// That, with whole files of a peer.
+    Files {
+        task: FileTask,
+        work: FileWork<'m, 'a>,
+    },
     /// Two nodes.
     Pair,
     /// What is told of the program.
@@ -157,6 +163,10 @@ impl<'m, 'a> Task<'m, 'a> {
                 asking: asking.towards(machine, peer),
                 peer,
                 words,
+            },
+            Task::Files { task, work } => Task::Files {
+                task: task.from_source(machine),
+                work,
             },
             task => task,
         }
@@ -266,6 +276,10 @@ pub(crate) fn task_of<'m, 'a>(
                 });
             }
             let peer = peer_of(given)?;
+            if let Some(work) = work_of(given, &asking) {
+                let task = FileTask { asking, peer };
+                return Some(Task::Files { task, work });
+            }
             let words = given.get_strs("WORDS")?;
             Some(Task::Ask {
                 asking,
@@ -273,6 +287,14 @@ pub(crate) fn task_of<'m, 'a>(
                 words,
             })
         }
+        ("backup", given) => Some(Task::Files {
+            task: file_task_of(given, shows_progress)?,
+            work: backup_of(given)?,
+        }),
+        ("restore", given) => Some(Task::Files {
+            task: file_task_of(given, shows_progress)?,
+            work: FileWork::Restore(given.get_str("folder")?),
+        }),
         ("pair", _) => Some(Task::Pair),
         ("help", given) if given.get_flag("man") => Some(Task::Tell(Telling::Manual)),
         ("help", given) => Some(Task::Tell(Telling::Help(given.get_str("COMMAND")))),

@@ -495,7 +495,7 @@ const KEEP: &[Word] = &[
 
 /// The requests of `ask`.
 const WORDS_HELP: &str =
-    "The request: `read T:I P`, `write T:I P VALUE..`, `append T:I HEX`, `put T:I POS HEX` or `get T:I POS COUNT`";
+    "The request: `read T:I P`, `write T:I P VALUE..`, `append T:I HEX`, `put T:I POS HEX` or `get T:I POS COUNT`; of a whole file `get T:I` or `put T:I @FILE`";
 
 /// The parts of a request, and examples for `ask`.
 const ASK_EXAMPLES: &str = "\
@@ -515,7 +515,9 @@ Example: bac ask --to 192.168.1.20 --text --every 60 read analog-input:5 present
 Example: bac ask --lines points.txt --csv --every 60 --times 60
 Example: bac ask --to 192.168.1.20 --json read analog-input:5 present-value
 Example: bac ask --port 47808 put file:1 0 @log.bin
-Example: bac ask --port 47808 --raw get file:1 0 1000 > log.bin";
+Example: bac ask --port 47808 --raw get file:1 0 1000 > log.bin
+Example: bac ask --port 47808 --out log.bin get file:1
+Example: bac ask --port 47808 put file:1 @log.bin";
 
 /// What `ask` takes.
 const ASK: &[Word] = &[
@@ -567,6 +569,13 @@ const ASK: &[Word] = &[
         need: Need::Never,
         against: &["text"],
         help: "For `get`: writes only the octets of the file; if there are none, standard error says how the ask ended, and the status is 1",
+    },
+    Word {
+        name: "out",
+        form: WordForm::Text("FILE"),
+        need: Need::Never,
+        against: &["raw", "json", "csv", "lines", "every"],
+        help: "For `get T:I`: writes the octets of the whole file to FILE once its end is reached, and prints how many they are",
     },
     Word {
         name: "json",

@@ -34,6 +34,8 @@ pub(crate) enum Behind {
     Reads(&'static [u8]),
     /// The same, and the system refuses each link but the first.
     ReadsOnce(&'static [u8]),
+    /// Who is asked answers one request after the other with these APDUs, in which the second octet is the invoke ID of the request.
+    Replies(&'static [&'static [u8]]),
     /// So many requests wait at each link.
     Requests(u8),
     /// These come at each link, one after the other: the last octet of the port of 127.0.0.1 that sent one, and it in hexadecimal.
@@ -89,6 +91,16 @@ fn read_answer(alloc: Global, request: &[u8], data: &[u8]) -> Option<Vec<u8>> {
     Some(answer)
 }
 
+/// The datagram of a reply, for the invoke ID of a request.
+fn reply_datagram(alloc: Global, request: &[u8], reply: &[u8]) -> Option<Vec<u8>> {
+    let invoke_id = *request.get(8)?;
+    let (first, rest) = reply.split_first()?;
+    let len = u8::try_from(reply.len()).ok()?.checked_add(6)?;
+    let mut answer = Vec::from_slice(alloc, &[0x81, 0x0A, 0, len, 1, 0, *first, invoke_id]).ok()?;
+    answer.extend_from_slice(rest.get(1..)?).ok()?;
+    Some(answer)
+}
+
 impl Behind {
     /// Whether all answers wait.
     fn keeps_all(self) -> bool {
@@ -132,6 +144,15 @@ impl BenchLink {
         Some(([127, 0, 0, 1, 0xBA, *port], octets))
     }
 
+    /// What answers the next request.
+    fn next_reply(&mut self, list: &'static [&'static [u8]], request: &[u8]) -> Option<Vec<u8>>
+        ensures { self.new.failures ≡ self.old.failures }
+    {
+        let reply = list.get(self.came)?;
+        self.came = self.came.saturating_add(1);
+        reply_datagram(self.alloc, request, *reply)
+    }
+
     /// An answer waits. Out of memory is a failure.
     fn keep(&mut self, from: [u8; 6], answer: Vec<u8>) -> Result<(), LinkFault>
         ensures { self.new.failures ≡ (if is_ok result then self.old.failures else one_more self.old.failures) }
@@ -173,7 +194,11 @@ impl Link for BenchLink {
         if matches!(self.behind, Behind::Unsent(_)) {
             return Err(self.failed());
         }
-        let Some(answer) = self.answer_from(to, octets) else {
+        let answer = match self.behind {
+            Behind::Replies(list) => self.next_reply(list, octets),
+            _ => self.answer_from(to, octets),
+        };
+        let Some(answer) = answer else {
             return Ok(());
         };
         self.keep(to, answer)

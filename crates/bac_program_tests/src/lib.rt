@@ -6,6 +6,8 @@
 #[cfg(test)]
 mod bench;
 #[cfg(test)]
+mod disk;
+#[cfg(test)]
 mod kept_files;
 #[cfg(test)]
 mod tests;

@@ -31,6 +31,7 @@ mod served;
 mod served_documents;
 mod sockets;
 mod told;
+mod whole_files;
 mod wrong;
 
 /// What is printed, what is complained of, and the exit status.

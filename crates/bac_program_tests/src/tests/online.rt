@@ -752,8 +752,8 @@ const NO_REQUEST: &[BenchRow] = &[
     ),
     (
         NO_LINKS,
-        "ask --port 47899 get 10:1",
-        ("", "bad words\nposition is missing\n", 2),
+        "ask --port 47899 get 10:1 0",
+        ("", "bad words\ncount is missing\n", 2),
     ),
     (
         NO_LINKS,
@@ -771,8 +771,8 @@ const NO_REQUEST: &[BenchRow] = &[
     ),
     (
         NO_LINKS,
-        "ask --port 47899 --text get 10:1",
-        ("", "bad words: position is missing\n", 2),
+        "ask --port 47899 --text get 10:1 0",
+        ("", "bad words: count is missing\n", 2),
     ),
 ];
 

@@ -1,0 +1,356 @@
+//! What `backup` and `restore` do: whole files of a peer, in a folder.
+ghost use Rattle.std.specs.Prelude.{IfErr};
+ghost use Rattle.bac_text.specs.Statuses.{IsStop};
+
+use crate::asking::Asking;
+use crate::client::Client;
+use crate::environment::Environment;
+use crate::file_news::{FileNews, print_news, print_not_read};
+use crate::file_task::FileTask;
+use crate::files::OpenFiles;
+use crate::folder::{Folder, MANIFEST};
+use crate::listed_files::{listed_files, objects_in};
+use crate::online::Machine;
+use crate::peer_file::{PeerFile, end_words};
+use crate::reasons::print_bad_manifest;
+use crate::whole_files::client_of;
+use crate::whole_reading::{Got, read_whole};
+use crate::whole_writing::write_whole;
+use bac_files::{
+    Comparison, SavedFile, compare, digest_of, file_name, manifest_line, read_manifest_line,
+};
+use bac_npdu::Peer;
+use bac_text::{Status, no_memory};
+use bac_value::ObjectIdentifier;
+use std::alloc::{AllocError, Global};
+use std::io::Write;
+
+/// The files of a peer, and the folder that has them.
+#[derive(Drop)]
+struct Backup<'e, F, M: Machine> {
+    asking: &'e Asking,
+    peer: Peer,
+    client: Client<'e, M>,
+    folder: Folder<'e, F>,
+}
+
+/// The words for an object in a request.
+fn object_words<E: Write>(
+    alloc: Global,
+    object: ObjectIdentifier,
+    err: &mut E,
+) -> Result<String, Status>
+    ensures told { IfErr result IsStop }
+{
+    let ObjectIdentifier { kind, instance, .. } = object;
+    match format!(in alloc; "{kind}:{instance}") {
+        Ok(words) => Ok(words),
+        Err(_) => Err(no_memory(err)),
+    }
+}
+
+/// The name of the file in a folder that has the octets of an object.
+fn name_in<E: Write>(alloc: Global, object: ObjectIdentifier, err: &mut E) -> Result<String, Status>
+    ensures told { IfErr result IsStop }
+{
+    let Ok(name) = file_name(alloc, object) else {
+        return Err(no_memory(err));
+    };
+    match std::str::from_utf8(&name) {
+        Ok(text) => match String::from_str(alloc, text) {
+            Ok(name) => Ok(name),
+            Err(_) => Err(no_memory(err)),
+        },
+        Err(_) => Err(no_memory(err)),
+    }
+}
+
+/// Adds the line of a file to a manifest.
+fn add_line(alloc: Global, file: &SavedFile, manifest: &mut Vec<u8>) -> Result<(), AllocError> {
+    let line = manifest_line(alloc, file)?;
+    manifest.extend_from_slice(&line)?;
+    manifest.push(b'\n')?;
+    Ok(())
+}
+
+/// Whether octets are those of a saved file.
+fn are_saved(file: &SavedFile, octets: &[u8]) -> bool {
+    octets.len() as u64 == file.length && digest_of(octets) == file.digest
+}
+
+impl<F: OpenFiles, M: Machine> Backup<'_, F, M> {
+    /// Reads a file of the peer as a whole.
+    fn read<E: Write>(&mut self, object: ObjectIdentifier, err: &mut E) -> Result<Got, Status>
+        ensures told { IfErr result IsStop }
+    {
+        let words = object_words(self.client.station.alloc, object, err)?;
+        let file = PeerFile {
+            peer: self.peer,
+            object: &words,
+        };
+        read_whole(self.asking, &mut self.client, &file, err)
+    }
+
+    /// Writes octets to the file of the folder for an object, and reads them again. Answers what the manifest says of it, and whether the folder has these octets.
+    fn keep<E: Write>(
+        &self,
+        object: ObjectIdentifier,
+        octets: &[u8],
+        err: &mut E,
+    ) -> Result<(SavedFile, bool), Status>
+        ensures told { IfErr result IsStop }
+    {
+        let name = name_in(self.folder.alloc, object, err)?;
+        self.folder.write(&name, octets, err)?;
+        let there = self.folder.read(&name, err)?;
+        let file = SavedFile {
+            object,
+            length: octets.len() as u64,
+            digest: digest_of(octets),
+        };
+        let is_there = are_saved(&file, &there);
+        Ok((file, is_there))
+    }
+
+    /// Prints that the file of the folder for an object has other octets than it should.
+    fn print_damaged<O: Write, E: Write>(
+        &self,
+        object: ObjectIdentifier,
+        out: &mut O,
+        err: &mut E,
+    ) -> Result<(), Status>
+        ensures told { IfErr result IsStop }
+    {
+        let alloc = self.folder.alloc;
+        let name = name_in(alloc, object, err)?;
+        print_news(alloc, object, &FileNews::Damaged(&name), out, err)
+    }
+
+    /// Saves a file of the peer, and adds its line to a manifest. Answers whether it was saved.
+    fn save<O: Write, E: Write>(
+        &mut self,
+        object: ObjectIdentifier,
+        manifest: &mut Vec<u8>,
+        out: &mut O,
+        err: &mut E,
+    ) -> Result<bool, Status>
+        ensures told { IfErr result IsStop }
+    {
+        let alloc = self.folder.alloc;
+        let got = self.read(object, err)?;
+        if !got.is_whole {
+            print_not_read(alloc, object, &got, out, err)?;
+            return Ok(false);
+        }
+        let (file, is_there) = self.keep(object, &got.octets, err)?;
+        if !is_there {
+            self.print_damaged(object, out, err)?;
+            return Ok(false);
+        }
+        if add_line(alloc, &file, manifest).is_err() {
+            return Err(no_memory(err));
+        }
+        print_news(alloc, object, &FileNews::Saved(got.octets.len()), out, err)?;
+        Ok(true)
+    }
+
+    /// Saves files of the peer, and then their manifest. Answers whether all were saved.
+    fn save_all<O: Write, E: Write>(
+        &mut self,
+        objects: &[ObjectIdentifier],
+        out: &mut O,
+        err: &mut E,
+    ) -> Result<bool, Status>
+        ensures told { IfErr result IsStop }
+    {
+        self.folder.make(err)?;
+        let mut manifest = Vec::new(self.folder.alloc);
+        let mut all = true;
+        for object in objects {
+            let saved = self.save(*object, &mut manifest, out, err)?;
+            all = all && saved;
+        }
+        self.folder.write(MANIFEST, &manifest, err)?;
+        Ok(all)
+    }
+
+    /// Writes the octets of a file of the folder into that of the peer. Answers whether all were written; prints why not.
+    fn put<O: Write, E: Write>(
+        &mut self,
+        object: ObjectIdentifier,
+        octets: &[u8],
+        out: &mut O,
+        err: &mut E,
+    ) -> Result<bool, Status>
+        ensures told { IfErr result IsStop }
+    {
+        let alloc = self.folder.alloc;
+        let words = object_words(alloc, object, err)?;
+        let file = PeerFile {
+            peer: self.peer,
+            object: &words,
+        };
+        let put = write_whole(self.asking, &mut self.client, &file, octets, err)?;
+        if put.is_whole {
+            return Ok(true);
+        }
+        let Ok(why) = end_words(alloc, &put.last) else {
+            return Err(no_memory(err));
+        };
+        let news = FileNews::NotPut(put.count, octets.len(), &why);
+        print_news(alloc, object, &news, out, err)?;
+        Ok(false)
+    }
+
+    /// Reads a file of the peer again, and prints whether it has the octets that were put into it. Answers whether it has.
+    fn compare<O: Write, E: Write>(
+        &mut self,
+        file: &SavedFile,
+        count: usize,
+        out: &mut O,
+        err: &mut E,
+    ) -> Result<bool, Status>
+        ensures told { IfErr result IsStop }
+    {
+        let alloc = self.folder.alloc;
+        let got = self.read(file.object, err)?;
+        if !got.is_whole {
+            print_not_read(alloc, file.object, &got, out, err)?;
+            return Ok(false);
+        }
+        let there = got.octets.len();
+        let comparison = compare(count, &file.digest, &got.octets);
+        let news = match comparison {
+            Comparison::Same => FileNews::Restored(count),
+            Comparison::Longer => FileNews::Longer(count, there),
+            Comparison::Differs => FileNews::Differs(count, there),
+        };
+        print_news(alloc, file.object, &news, out, err)?;
+        Ok(comparison == Comparison::Same)
+    }
+
+    /// Writes a file of the folder back, and reads it again. Answers whether the peer has it then.
+    fn restore<O: Write, E: Write>(
+        &mut self,
+        file: &SavedFile,
+        out: &mut O,
+        err: &mut E,
+    ) -> Result<bool, Status>
+        ensures told { IfErr result IsStop }
+    {
+        let name = name_in(self.folder.alloc, file.object, err)?;
+        let octets = self.folder.read(&name, err)?;
+        if !are_saved(file, &octets) {
+            self.print_damaged(file.object, out, err)?;
+            return Ok(false);
+        }
+        if !self.put(file.object, &octets, out, err)? {
+            return Ok(false);
+        }
+        self.compare(file, octets.len(), out, err)
+    }
+
+    /// Writes files of the folder back, one after the other. Answers whether the peer has all of them then.
+    fn restore_all<O: Write, E: Write>(
+        &mut self,
+        files: &[SavedFile],
+        out: &mut O,
+        err: &mut E,
+    ) -> Result<bool, Status>
+        ensures told { IfErr result IsStop }
+    {
+        let mut all = true;
+        for file in files {
+            let restored = self.restore(file, out, err)?;
+            all = all && restored;
+        }
+        Ok(all)
+    }
+}
+
+/// A client of the peer of a task, beside a folder.
+fn backup_in<'e, F: OpenFiles, M: Machine, E: Write>(
+    environment: &Environment<'e, F, M>,
+    task: &'e FileTask,
+    path: &'e str,
+    err: &mut E,
+) -> Result<Backup<'e, F, M>, Status>
+    ensures told { IfErr result IsStop }
+{
+    let client = client_of(environment, &task.asking, err)?;
+    Ok(Backup {
+        asking: &task.asking,
+        peer: task.peer,
+        client,
+        folder: Folder {
+            alloc: environment.alloc,
+            files: environment.files,
+            path,
+        },
+    })
+}
+
+/// Saves the files that words name, or without any all that the peer lists, in a folder. Answers whether all were saved.
+pub(crate) fn back_up<F: OpenFiles, M: Machine, O: Write, E: Write>(
+    environment: &Environment<'_, F, M>,
+    task: &FileTask,
+    words: &[&str],
+    path: &str,
+    out: &mut O,
+    err: &mut E,
+) -> Result<bool, Status>
+    ensures told { IfErr result IsStop }
+{
+    let named = objects_in(environment.alloc, words, err)?;
+    let mut backup = backup_in(environment, task, path, err)?;
+    if !named.is_empty() {
+        return backup.save_all(&named, out, err);
+    }
+    match listed_files(&task.asking, &mut backup.client, task.peer, err)? {
+        Some(listed) => backup.save_all(&listed, out, err),
+        None => Ok(false),
+    }
+}
+
+/// The files of a manifest. A line of no such form: its number on `err`.
+fn files_in<E: Write>(alloc: Global, text: &[u8], err: &mut E) -> Result<Vec<SavedFile>, Status>
+    ensures told { IfErr result IsStop }
+{
+    let Ok(text) = std::str::from_utf8(text) else {
+        return Err(print_bad_manifest(1, err));
+    };
+    let mut files = Vec::new(alloc);
+    for (place, line) in text.lines().enumerate() {
+        let Ok(read) = read_manifest_line(alloc, line) else {
+            return Err(no_memory(err));
+        };
+        let Some(file) = read else {
+            return Err(print_bad_manifest(place.saturating_add(1), err));
+        };
+        if files.push(file).is_err() {
+            return Err(no_memory(err));
+        }
+    }
+    Ok(files)
+}
+
+/// Writes the files of a folder back, and compares what the peer then has. Answers whether it has all of them.
+pub(crate) fn restore<F: OpenFiles, M: Machine, O: Write, E: Write>(
+    environment: &Environment<'_, F, M>,
+    task: &FileTask,
+    path: &str,
+    out: &mut O,
+    err: &mut E,
+) -> Result<bool, Status>
+    ensures told { IfErr result IsStop }
+{
+    let folder = Folder {
+        alloc: environment.alloc,
+        files: environment.files,
+        path,
+    };
+    let text = folder.read(MANIFEST, err)?;
+    let files = files_in(environment.alloc, &text, err)?;
+    let mut backup = backup_in(environment, task, path, err)?;
+    backup.restore_all(&files, out, err)
+}

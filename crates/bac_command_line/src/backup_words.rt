@@ -1,0 +1,96 @@
+//! What `backup` and `restore` take.
+use crate::words::{Grammar, Need, Word, WordForm};
+
+/// The port of the node to ask.
+const PORT: Word = Word {
+    name: "port",
+    form: WordForm::Number("P", 65_535),
+    need: Need::Unless("to"),
+    against: &[],
+    help: "The UDP port of the node to ask, on 127.0.0.1; 1 to 65535",
+};
+
+/// Its address.
+const TO: Word = Word {
+    name: "to",
+    form: WordForm::Text("A.B.C.D[:P]"),
+    need: Need::Never,
+    against: &["port"],
+    help: "The IPv4 address of the node to ask, and its UDP port, 47808 by default",
+};
+
+/// The way on from there.
+const ROUTE: Word = Word {
+    name: "route",
+    form: WordForm::Text("NET:MAC"),
+    need: Need::Never,
+    against: &[],
+    help: "The node to ask is behind a router at that address: its network, 1 to 65534, and its address there, 1 to 8 octets in hexadecimal",
+};
+
+/// How long it is waited for.
+const TIMEOUT: Word = Word {
+    name: "timeout",
+    form: WordForm::Number("S", 60),
+    need: Need::Never,
+    against: &[],
+    help: "Stops waiting for an answer after S seconds, 1 to 60; an ask ends by itself after at most 60 seconds",
+};
+
+/// What `backup` takes.
+const BACKUP: &[Word] = &[
+    PORT,
+    TO,
+    ROUTE,
+    TIMEOUT,
+    Word {
+        name: "folder",
+        form: WordForm::Text("DIR"),
+        need: Need::Always,
+        against: &[],
+        help: "The folder for the files, as file-1.bin, and for their list, `manifest`: a line `SHA256 LENGTH NAME` for each. It is made if it is not there; files of these names are overwritten",
+    },
+    Word {
+        name: "OBJECTS",
+        form: WordForm::Several,
+        need: Need::Never,
+        against: &[],
+        help: "The files to save, as file:1, each by type and instance; by default all files of the device's object-list",
+    },
+];
+
+/// What `restore` takes.
+const RESTORE: &[Word] = &[
+    PORT,
+    TO,
+    ROUTE,
+    TIMEOUT,
+    Word {
+        name: "folder",
+        form: WordForm::Text("DIR"),
+        need: Need::Always,
+        against: &[],
+        help: "The folder that `bac backup` has made: the files that its `manifest` lists are written back",
+    },
+];
+
+/// The commands that keep whole files of a device in a folder.
+const BACKUPS: &[Grammar] = &[
+    Grammar {
+        name: "backup",
+        about: "Saves files of a device in a folder, with their digests",
+        after: "Example: bac backup --port 47808 --folder saved\nExample: bac backup --to 192.168.1.20 --folder saved file:1 file:2",
+        words: BACKUP,
+    },
+    Grammar {
+        name: "restore",
+        about: "Writes the files of such a folder back to a device, and compares what it then has by their digests",
+        after: "Example: bac restore --port 47808 --folder saved\nExample: bac restore --to 192.168.1.20 --folder saved",
+        words: RESTORE,
+    },
+];
+
+/// Those commands.
+pub(crate) fn backups() -> &'static [Grammar] {
+    BACKUPS
+}

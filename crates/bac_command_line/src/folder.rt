@@ -1,0 +1,69 @@
+//! The folder of a backup.
+ghost use Rattle.std.specs.Prelude.{IfErr};
+ghost use Rattle.bac_text.specs.Statuses.{IsStop};
+
+use crate::files::{OpenFiles, opened};
+use crate::objects::octets_of;
+use crate::reasons::print_unwritten;
+use bac_text::{Status, no_memory};
+use std::alloc::Global;
+use std::io::Write;
+
+/// The name of the list of the files of a backup.
+pub(crate) const MANIFEST: &str = "manifest";
+
+/// A folder, and the files that it is among.
+#[derive(Drop)]
+pub(crate) struct Folder<'e, F> {
+    pub alloc: Global,
+    pub files: &'e F,
+    pub path: &'e str,
+}
+
+impl<F: OpenFiles> Folder<'_, F> {
+    /// The path of a file in it.
+    fn path_of<E: Write>(&self, name: &str, err: &mut E) -> Result<String, Status>
+        ensures told { IfErr result IsStop }
+    {
+        let folder = self.path;
+        match format!(in self.alloc; "{folder}/{name}") {
+            Ok(path) => Ok(path),
+            Err(_) => Err(no_memory(err)),
+        }
+    }
+
+    /// Makes it, where it is not there. Where that fails, `err` and the status say so.
+    pub(crate) fn make<E: Write>(&self, err: &mut E) -> Result<(), Status>
+        ensures told { IfErr result IsStop }
+    {
+        match self.files.make_folder(self.path) {
+            Ok(()) => Ok(()),
+            Err(error) => Err(print_unwritten(self.path, &error, err)),
+        }
+    }
+
+    /// Writes octets to a file in it. Where they cannot be written, `err` and the status say so.
+    pub(crate) fn write<E: Write>(
+        &self,
+        name: &str,
+        octets: &[u8],
+        err: &mut E,
+    ) -> Result<(), Status>
+        ensures told { IfErr result IsStop }
+    {
+        let path = self.path_of(name, err)?;
+        match self.files.write(&path, octets) {
+            Ok(()) => Ok(()),
+            Err(error) => Err(print_unwritten(&path, &error, err)),
+        }
+    }
+
+    /// The octets of a file in it. Where it cannot be read, `err` and the status say so.
+    pub(crate) fn read<E: Write>(&self, name: &str, err: &mut E) -> Result<Vec<u8>, Status>
+        ensures told { IfErr result IsStop }
+    {
+        let path = self.path_of(name, err)?;
+        let file = opened(self.files, &path, err)?;
+        octets_of(self.alloc, &path, file, err)
+    }
+}

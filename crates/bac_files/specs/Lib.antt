@@ -1,0 +1,5 @@
+pub mod Comparing
+pub mod Limits
+pub mod Manifests
+pub mod Parts
+pub mod Sizes
