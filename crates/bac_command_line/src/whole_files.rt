@@ -1,7 +1,6 @@
 //! What `ask` does with whole files: `get T:I`, `--out FILE`, and `put T:I @FILE`.
 ghost use Rattle.std.specs.Prelude.{IfErr};
-ghost use Rattle.bac_command_line.specs.WholeFiles.{IfRefused, status_of};
-ghost use Rattle.bac_text.specs.Statuses.{IsFailure, IsStop};
+ghost use Rattle.bac_text.specs.Statuses.{IsStop};
 
 use crate::asking::Asking;
 use crate::client::Client;
@@ -26,7 +25,7 @@ pub(crate) fn client_of<'e, F: OpenFiles, M: Machine, E: Write>(
     asking: &Asking,
     err: &mut E,
 ) -> Result<Client<'e, M>, Status>
-    ensures failed { IfErr result IsFailure }
+    ensures told { IfErr result IsStop }
 {
     Client::new(environment.alloc, environment.machine, asking.host, err)
 }
@@ -39,7 +38,7 @@ fn print_asked<M: Machine, O: Write, E: Write>(
     out: &mut O,
     err: &mut E,
 ) -> Result<bool, Status>
-    ensures failed { IfErr result IsFailure }
+    ensures told { IfErr result IsStop }
 {
     let alloc = client.station.alloc;
     print_header(alloc, asking.records, out, err)?;
@@ -55,7 +54,7 @@ fn write_out<F: OpenFiles, O: Write, E: Write>(
     out: &mut O,
     err: &mut E,
 ) -> Result<(), Status>
-    ensures failed { IfErr result IsFailure }
+    ensures told { IfErr result IsStop }
 {
     if let Err(error) = files.write(path, octets) {
         return Err(print_unwritten(path, &error, err));
@@ -76,7 +75,7 @@ fn print_whole<M: Machine, O: Write, E: Write>(
     out: &mut O,
     err: &mut E,
 ) -> Result<bool, Status>
-    ensures failed { IfErr result IsFailure }
+    ensures told { IfErr result IsStop }
 {
     let question = got.last.question;
     match whole_end(got.octets) {
@@ -99,7 +98,7 @@ fn print_stopped<M: Machine, O: Write, E: Write>(
     out: &mut O,
     err: &mut E,
 ) -> Result<bool, Status>
-    ensures failed { IfErr result IsFailure }
+    ensures told { IfErr result IsStop }
 {
     if is_printed(asking, got) {
         print_asked(asking, client, &got.last, out, err)?;
@@ -127,7 +126,6 @@ pub(crate) fn get<F: OpenFiles, M: Machine, O: Write, E: Write>(
     err: &mut E,
 ) -> Result<bool, Status>
     ensures told { IfErr result IsStop }
-    ensures refused { IfRefused (status_of result) (O.contents out.old) (O.contents out.new) }
 {
     let asking = &task.asking;
     let peer = task.peer;
@@ -154,7 +152,7 @@ fn print_put<M: Machine, O: Write, E: Write>(
     out: &mut O,
     err: &mut E,
 ) -> Result<bool, Status>
-    ensures failed { IfErr result IsFailure }
+    ensures told { IfErr result IsStop }
 {
     let (object, count) = of;
     let Asked { question, end } = put.last;
