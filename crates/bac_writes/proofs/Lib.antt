@@ -3,3 +3,4 @@ pub mod Logs
 pub mod Kept
 pub mod Steps
 pub mod Runs
+pub mod Computed

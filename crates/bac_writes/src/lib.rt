@@ -1,5 +1,9 @@
 //! What servers perform of the writes of strangers, of either setting: a law.
+//!
+//! The definitions are in `specs/Writes`, and `examples` has runs that are computed. The functions here have no body: each carries a law as its contract.
 #![tactic(auto)]
+
+pub mod examples;
 
 ghost use Rattle.bac_writes.specs.Writes.{WritesActOnce};
 
