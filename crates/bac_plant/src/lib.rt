@@ -65,8 +65,9 @@ pub fn turns_are_events()
 {}
 
 /// After each run of a fresh plant, whichever stations let invoke IDs be used again, whatever a call promises of a station, at the moment of its clock and by a
-/// datagram that the network may hand over, is a step of the plant: there are the asks, transactions and strangers of all that it returned. So no turn is left
-/// out of the law above.
+/// datagram that the network may hand over, is a step of the plant: there are the asks, transactions and strangers of all that it returned. A turn, also one
+/// whose sends are held, is a step where its station lets no client use an invoke ID again, or remembers each request for 65,000 ms. So no turn of such a
+/// station is left out of the law above.
 #[tactic(auto, using(crate::proofs::Next::changes_go_on, crate::proofs::Next::restarts_go_on))]
 pub fn calls_go_on()
     ensures turns { (W overtake : ℕ) (p : Plant) → IsReached W overtake p → TurnsGoOn overtake p }
@@ -81,7 +82,7 @@ pub fn calls_go_on()
 
 /// What `serve`, `ask` and `pair` promise is a chain of turns of each station, for `ask` after its ask; for `serve` and `ask` also where a fault stops them.
 /// The turns of a station that does nothing else in a run of a plant are such a chain too, whatever other stations do between them; and by the law above
-/// each turn of a chain is a step.
+/// each turn of a chain is a step, where that station lets no client use an invoke ID again, or remembers each request for 65,000 ms.
 #[tactic(auto, using(crate::proofs::Chained::first_chain, crate::proofs::Chained::second_chain, crate::proofs::Chained::steps_chain))]
 pub fn chains_are_steps()
     ensures served { (p : WaitLimit) (turns effects : ℕ) (old new : Timed) → Serves p turns effects old new
@@ -102,9 +103,10 @@ pub fn chains_are_steps()
 {}
 
 /// What `round_before` and `serve_kept` promise of a station is a chain of rounds: turns whose sends are held, one after the other, and then all that they
-/// hold is sent. By `calls_go_on` each of these is a step. Where serving stops for a fault, so are the rounds before; and a round that fails is such turns too,
-/// after which its link may have failed to receive, as a step does. The turns that a station holds in a run of a plant, also in a round that a power cut takes
-/// back, where it does nothing else, are such a chain too, whatever other stations do between them; and with the sends of all that they hold they are a round.
+/// hold is sent. By `calls_go_on` each of these is a step, where the station lets no client use an invoke ID again, or remembers each request for 65,000 ms.
+/// Where serving stops for a fault, so are the rounds before; and a round that fails is such turns too, after which its link may have failed to receive, as a
+/// step does. The turns that a station holds in a run of a plant, also in a round that a power cut takes back, where it does nothing else, are such a chain
+/// too, whatever other stations do between them; and with the sends of all that they hold they are a round.
 #[tactic(auto, using(crate::proofs::Holding::held_chain))]
 pub fn rounds_are_events<W, O: Observer<W>, K: Keeper>()
     ensures round { (p : WaitLimit) (old : Observed O.State) (effects : ℕ) (new : Observed O.State) → kept_rounds.TakesRound O.Sees p old effects new
