@@ -43,7 +43,7 @@ settings_of p i = reuse_of (slice_get p.stations i)
 abbrev pub IsSetTo : (reuse : Bool) → BoundNode → Type 0
 IsSetTo reuse b = b.reuse ≡ as_ever reuse
 
--- it does not, or remembers a request that long
+-- a station does not, or it remembers a request that long
 abbrev pub RemembersInFull : BoundNode → Type 0
 RemembersInFull b = IsSetTo (is_reusing b.reuse) b
 

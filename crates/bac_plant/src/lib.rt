@@ -41,15 +41,17 @@ use bac_driver::Observer;
 use bac_keep::Keeper;
 
 /// The turns that stations take, also those of a round, whose sends are held, their asks, changes and restarts are events of a world: a run of a plant is the
-/// run of its world through the events of its steps, in which the nodes let clients use invoke IDs again whose stations do; no step changes such a setting.
+/// run of its world through the events of its steps, in which the nodes let clients use invoke IDs again whose stations do; no step changes a setting.
 /// A station that takes a turn lets no client do so, or remembers each request for 65,000 ms: turns of a station that forgets sooner are no steps.
 /// After a run of a fresh plant the log, which has all that turns returned as performed and ended, is right with the stores.
 /// Where no station lets invoke IDs be used again, no read is performed twice either; and whatever strangers send, what a station performs for one of them
 /// under one invoke ID, between two of its restarts, it performs in entries that began more than 65,000 ms apart.
-#[tactic(auto, using(crate::proofs::Settings::run_settings, crate::proofs::Runs::run_events, crate::proofs::Runs::run_events_ever))]
+#[tactic(auto, using(crate::proofs::Settings::run_settings, crate::proofs::Settings::run_stays, crate::proofs::Runs::run_events, crate::proofs::Runs::run_events_ever))]
 pub fn turns_are_events()
     ensures settings { (overtake : ℕ) (steps : List Step) (old new : Plant) → PlantRun overtake steps old new → (station : ℕ)
         → settings_of new station ≡ settings_of old station }
+    ensures stays { (overtake : ℕ) (steps : List Step) (old new : Plant) → PlantRun overtake steps old new → (station : ℕ) (before after : BoundNode)
+        → slice_get old.stations station ≡ Some before → slice_get new.stations station ≡ Some after → after.reuse ≡ before.reuse }
     ensures events { (overtake : ℕ) (steps : List Step) (old new : Plant) → PlantRun overtake steps old new
         → WorldRunSo overtake (settings_of old) (world_of old) (events_of steps) (world_of new) }
     ensures once { (W overtake : ℕ) (old new : Plant) → IsFresh (world_of old) → IsTimely old.time.pace → IsBounded W overtake (world_of old)
