@@ -4,3 +4,4 @@ pub mod Kept
 pub mod Steps
 pub mod Runs
 pub mod Computed
+pub mod Heard
