@@ -1,6 +1,6 @@
 -- Whatever a call promises after a run can be the next step.
 use Rattle.std.proofs.Common.{◌≡◌, ℕ, Bool, true, false, List, [], ◌∷◌, ◌++◌, ◌⊎◌, length, take, Option, Some, None, slice_get, slice_set}
-use Rattle.std.proofs.Common.{refl, sym, subst, inl, inr, ◌∙◌}
+use Rattle.std.proofs.Common.{refl, sym, ap, subst, inl, inr, ◌∙◌}
 use Rattle.std.proofs.lemmas.Option.{slice_get_within}
 use Rattle.bac_apdu.specs.Apdu.{Limits}
 use Rattle.bac_service.specs.Values.{Request}
@@ -19,6 +19,8 @@ use Rattle.bac_world.specs.World.{ending_fact, is_away, link_at, peer_at, told, 
 use Rattle.bac_journal.specs.Entering.{AreOfPeer, AreOfPeerSo, CanBeCopied, CanEnterSo, CanGoOnSo, CanLeave, Every, IsNoted, IsOfClient, IsOfStranger}
 use Rattle.bac_journal.proofs.GoingOn.{runs_can_go_on_so}
 use Rattle.bac_journal.proofs.Lists.{get_set}
+use Rattle.bac_node.specs.Remembering.{as_ever}
+use Rattle.bac_node.proofs.Remembering.{as_heard}
 use Rattle.bac_driver.specs.Asking.{IsBegun}
 use Rattle.bac_driver.specs.BoundNodes.{BoundNode}
 use Rattle.bac_driver.specs.Turns as turns
@@ -26,7 +28,7 @@ use Rattle.bac_driver.specs.Turns.{Turn, ended_of, performed_of, sends_of}
 use Rattle.bac_plant.specs.Network.{HandsOver, IsOfStation, Source}
 use Rattle.bac_plant.specs.Network.Source.{Noise, Nowhere, Station, Stranger}
 use Rattle.bac_plant.specs.NextSteps.{AsksGoOn, ChangesGoOn, FailuresGoOn, HeldSendsGoOn, HeldTurnsGoOn, IsReached, LeadsTo, RestartsGoOn, StrangersAskedGoOn, TurnsGoOn}
-use Rattle.bac_plant.specs.Plants.{Plant, nodes_of, settings_of, shows, world_of}
+use Rattle.bac_plant.specs.Plants.{IsSetTo, Plant, RemembersInFull, nodes_of, settings_of, shows, world_of}
 use Rattle.bac_plant.specs.Steps.{HappensAt, HoldsSomeTurn, IsSomeTurn, away_note, note_of, question, with_station}
 use Rattle.bac_plant.specs.Steps.Step.{Begins, Holds, Takes}
 use Rattle.bac_plant.specs.Events.{events_of, heard_events}
@@ -127,18 +129,21 @@ module _ (u : Reuses) (W overtake : ℕ) (p : Plant) (on : CanGoOnSo u W overtak
       (on.outside i sender sent outside a b o at
       (subst (λ l. NodeHears (u i) (shows p i) l sent a b o) link_is (subst (λ os. NodeHears (u i) (shows p i) from os a b o) whole h))).0
 
-  came_enters : (source : Source) (d : Octets × ℕ) (buffer : Octets) (heard : Option Outcome) → turns.HearsOne (u i) (shows p i) d.0 (take d.1 buffer) a b heard
+  came_enters : (source : Source) (d : Octets × ℕ) (buffer : Octets) (heard : Option Outcome) → turns.HearsOne (as_ever (u i)) (shows p i) d.0 (take d.1 buffer) a b heard
       → HandsOver overtake p i source (Some d) buffer → MayEnter (u i) (world_of p) i b heard
   came_enters source d buffer None h from = tt
   came_enters Nowhere d buffer (Some o) h from = absurd from
-  came_enters (Station number) d buffer (Some o) h from = copy_enters number d.0 (take d.1 buffer) o from h
+  came_enters (Station number) d buffer (Some o) h from =
+      copy_enters number d.0 (take d.1 buffer) o from (as_heard (shows p i) a b o d.0 (take d.1 buffer) (u i) h)
   came_enters (Stranger sender octets) d buffer (Some o) h from =
-      outside_enters sender octets d.0 (take d.1 buffer) o from.link_is from.whole (inl from.stranger) h
+      outside_enters sender octets d.0 (take d.1 buffer) o from.link_is from.whole (inl from.stranger)
+      (as_heard (shows p i) a b o d.0 (take d.1 buffer) (u i) h)
   came_enters (Noise sender octets) d buffer (Some o) h from =
-      outside_enters sender octets d.0 (take d.1 buffer) o from.link_is from.whole (inr from.meaningless) h
+      outside_enters sender octets d.0 (take d.1 buffer) o from.link_is from.whole (inr from.meaningless)
+      (as_heard (shows p i) a b o d.0 (take d.1 buffer) (u i) h)
 
-  heard_enters : (source : Source) (came : Option (Octets × ℕ)) (buffer : Octets) (heard : Option Outcome) → turns.Hears (u i) (shows p i) buffer came a b heard
-      → HandsOver overtake p i source came buffer → MayEnter (u i) (world_of p) i b heard
+  heard_enters : (source : Source) (came : Option (Octets × ℕ)) (buffer : Octets) (heard : Option Outcome)
+      → turns.Hears (as_ever (u i)) (shows p i) buffer came a b heard → HandsOver overtake p i source came buffer → MayEnter (u i) (world_of p) i b heard
   heard_enters source (Some d) buffer heard h from = came_enters source d buffer heard h from
   heard_enters source None buffer None h from = tt
   heard_enters source None buffer (Some o) h from = absurd (let e = h.0 in cc)
@@ -165,8 +170,8 @@ module _ (W overtake : ℕ) (p : Plant) (r : IsReached W overtake p) (i : ℕ) (
   abbrev u : Reuses
   u = settings_of r.first
 
-  setting : before.reuse ≡ u i
-  setting = sym (setting_at p i before at) ∙ run_settings overtake r.steps r.first p r.run i
+  set_as : RemembersInFull before → IsSetTo (u i) before
+  set_as full = full ∙ ap as_ever (sym (setting_at p i before at) ∙ run_settings overtake r.steps r.first p r.run i)
 
   goes_on : CanGoOnSo u W overtake (world_of p)
   goes_on = reached_world W overtake p r [] (world_of p) refl
@@ -175,7 +180,7 @@ module _ (W overtake : ℕ) (p : Plant) (r : IsReached W overtake p) (i : ℕ) (
   stands after = get_set p.stations i after (slice_get_within p.stations i before at)
 
   -- a turn, whose node is the middle one between hearing and the tick
-  module _ (turn : Turn) (after : BoundNode) (middle : Node) (hears : turns.Hears (u i) (shows p i) after.buffer turn.received before.node middle turn.heard)
+  module _ (turn : Turn) (after : BoundNode) (middle : Node) (hears : turns.Hears (as_ever (u i)) (shows p i) after.buffer turn.received before.node middle turn.heard)
       (ticks : turns.Ticks (shows p i) middle after.node turn.ticked) (source : Source) (from : HandsOver overtake p i source turn.received after.buffer) where
     first : MayEnter (u i) (world_of p) i middle turn.heard
     first = heard_enters u W overtake p goes_on i before.node middle first_at source turn.received after.buffer turn.heard hears from
@@ -205,7 +210,7 @@ module _ (W overtake : ℕ) (p : Plant) (r : IsReached W overtake p) (i : ℕ) (
 
     linked : (j : ℕ) → link_at (nodes_of p.stations) j ≡ link_at Middle.nodes j
     linked j = sym (set_links (nodes_of p.stations) i before.node middle first_at
-        (hears_link (u i) (shows p i) after.buffer turn.received before.node middle turn.heard hears) j)
+        (hears_link (as_ever (u i)) (shows p i) after.buffer turn.received before.node middle turn.heard hears) j)
 
     abbrev later_sends : (cs : List Copy) × AreCopied Middle.nodes p.time.now i (sends_of turn.ticked) cs
     later_sends = may_send false Middle i after.node turn.ticked second
@@ -228,19 +233,27 @@ module _ (W overtake : ℕ) (p : Plant) (r : IsReached W overtake p) (i : ℕ) (
       stands after,
     )
 
-  turn_leads : (turn : Turn) (after : BoundNode) → IsSomeTurn (shows p i) before turn after → (source : Source)
+  turn_leads : RemembersInFull before → (turn : Turn) (after : BoundNode) → IsSomeTurn (shows p i) before turn after → (source : Source)
       → HandsOver overtake p i source turn.received after.buffer → LeadsTo overtake p (Takes i source turn) i after
-  turn_leads turn after t source from =
-      let m = may_happen turn after t.is.acts.middle (turn_hears (u i) (shows p i) before turn after t setting) t.is.acts.ticks source from in
-      let happens = subst (λ (y : Bool). HappensAt y overtake p i source turn t.is.acts.middle after m.0) (sym setting) m.1 in
-      record { new = m.0; goes = record { before = before; at = at; after = after; takes = t; happens = happens }; there = m.2 }
+  turn_leads full turn after t source from =
+      let set : IsSetTo (u i) before = set_as full in
+      let m = may_happen turn after t.is.acts.middle (turn_hears (as_ever (u i)) (shows p i) before turn after t set) t.is.acts.ticks source from in
+      record {
+        new = m.0;
+        goes = record { before = before; at = at; after = after; takes = t; reuse = u i; set = set; happens = m.1 };
+        there = m.2;
+      }
 
-  held_leads : (turn : Turn) (after : BoundNode) → HoldsSomeTurn (shows p i) before turn after → (source : Source)
+  held_leads : RemembersInFull before → (turn : Turn) (after : BoundNode) → HoldsSomeTurn (shows p i) before turn after → (source : Source)
       → HandsOver overtake p i source turn.received after.buffer → LeadsTo overtake p (Holds i source turn) i after
-  held_leads turn after t source from =
-      let m = may_happen turn after t.takes.middle (held_hears (u i) (shows p i) before turn after t setting) t.takes.ticks source from in
-      let happens = subst (λ (y : Bool). HappensAt y overtake p i source turn t.takes.middle after m.0) (sym setting) m.1 in
-      record { new = m.0; goes = record { before = before; at = at; after = after; holds = t; happens = happens }; there = m.2 }
+  held_leads full turn after t source from =
+      let set : IsSetTo (u i) before = set_as full in
+      let m = may_happen turn after t.takes.middle (held_hears (as_ever (u i)) (shows p i) before turn after t set) t.takes.ticks source from in
+      record {
+        new = m.0;
+        goes = record { before = before; at = at; after = after; holds = t; reuse = u i; set = set; happens = m.1 };
+        there = m.2;
+      }
 
   ask_leads : (server : ℕ) (link : Octets) → link_at (nodes_of p.stations) server ≡ Some link → (limits : Limits) (request : Request) (ticket : ℕ)
       (after : BoundNode) → IsBegun (shows p i) (question (peer_at link) limits request) before ticket after
@@ -270,10 +283,10 @@ module _ (W overtake : ℕ) (p : Plant) (r : IsReached W overtake p) (i : ℕ) (
       }
 
 pub turns_go_on : (W overtake : ℕ) (p : Plant) → IsReached W overtake p → TurnsGoOn overtake p
-turns_go_on W overtake p r i before at turn after t source from = turn_leads W overtake p r i before at turn after t source from
+turns_go_on W overtake p r i before at full turn after t source from = turn_leads W overtake p r i before at full turn after t source from
 
 pub held_turns_go_on : (W overtake : ℕ) (p : Plant) → IsReached W overtake p → HeldTurnsGoOn overtake p
-held_turns_go_on W overtake p r i before at turn after t source from = held_leads W overtake p r i before at turn after t source from
+held_turns_go_on W overtake p r i before at full turn after t source from = held_leads W overtake p r i before at full turn after t source from
 
 pub held_sends_go_on : (overtake : ℕ) (p : Plant) → HeldSendsGoOn overtake p
 held_sends_go_on overtake p i before at turns after sends = record {

@@ -14,7 +14,7 @@ use Rattle.bac_driver.specs.BoundNodes.{BoundNode}
 use Rattle.bac_driver.specs.Runs.{CannotReceive, Timed}
 use Rattle.bac_driver.specs.Turns.{Turn}
 use Rattle.bac_plant.specs.Network.{HandsOver, Source}
-use Rattle.bac_plant.specs.Plants.{Plant, nodes_of, shows, world_of}
+use Rattle.bac_plant.specs.Plants.{Plant, RemembersInFull, nodes_of, shows, world_of}
 use Rattle.bac_plant.specs.Steps.{AreSent, HoldsSomeTurn, IsSomeTurn, PlantRun, PlantStep, Step, question}
 use Rattle.bac_plant.specs.Steps.Step.{Begins, BeginsAway, Changes, FailsToReceive, Holds, Restarts, SendsHeld, Takes}
 
@@ -33,17 +33,18 @@ pub record LeadsTo (overtake : ℕ) (p : Plant) (step : Step) (station : ℕ) (a
   pub goes : PlantStep overtake p step new
   pub there : slice_get new.stations station ≡ Some after
 
--- each turn of a station at the moment of its clock, by a datagram that the network may hand over
+-- each turn of a station at the moment of its clock, by a datagram that the network may hand over, where the station lets no client use an invoke ID again, or
+-- remembers each request for 65,000 ms
 abbrev pub TurnsGoOn : (overtake : ℕ) → Plant → Type 0
 TurnsGoOn overtake p =
-    (i : ℕ) (before : BoundNode) → slice_get p.stations i ≡ Some before → (turn : Turn) (after : BoundNode)
+    (i : ℕ) (before : BoundNode) → slice_get p.stations i ≡ Some before → RemembersInFull before → (turn : Turn) (after : BoundNode)
     → IsSomeTurn (shows p i) before turn after → (source : Source) → HandsOver overtake p i source turn.received after.buffer
     → LeadsTo overtake p (Takes i source turn) i after
 
 -- the same of each turn of a round, whose sends are held
 abbrev pub HeldTurnsGoOn : (overtake : ℕ) → Plant → Type 0
 HeldTurnsGoOn overtake p =
-    (i : ℕ) (before : BoundNode) → slice_get p.stations i ≡ Some before → (turn : Turn) (after : BoundNode)
+    (i : ℕ) (before : BoundNode) → slice_get p.stations i ≡ Some before → RemembersInFull before → (turn : Turn) (after : BoundNode)
     → HoldsSomeTurn (shows p i) before turn after → (source : Source) → HandsOver overtake p i source turn.received after.buffer
     → LeadsTo overtake p (Holds i source turn) i after
 

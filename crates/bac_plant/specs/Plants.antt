@@ -43,6 +43,10 @@ settings_of p i = reuse_of (slice_get p.stations i)
 abbrev pub IsSetTo : (reuse : Bool) → BoundNode → Type 0
 IsSetTo reuse b = b.reuse ≡ as_ever reuse
 
+-- a station does not, or it remembers a request that long
+abbrev pub RemembersInFull : BoundNode → Type 0
+RemembersInFull b = IsSetTo (is_reusing b.reuse) b
+
 -- none does
 abbrev pub HasNoReuse : Plant → Type 0
 HasNoReuse p = (i : ℕ) → settings_of p i ≡ false

@@ -41,15 +41,17 @@ use bac_driver::Observer;
 use bac_keep::Keeper;
 
 /// The turns that stations take, also those of a round, whose sends are held, their asks, changes and restarts are events of a world: a run of a plant is the
-/// run of its world through the events of its steps, in which the nodes let clients use invoke IDs again whose stations do; no step changes such a setting.
+/// run of its world through the events of its steps, in which the nodes let clients use invoke IDs again whose stations do; no step changes a setting.
 /// A station that takes a turn lets no client do so, or remembers each request for 65,000 ms: turns of a station that forgets sooner are no steps.
 /// After a run of a fresh plant the log, which has all that turns returned as performed and ended, is right with the stores.
 /// Where no station lets invoke IDs be used again, no read is performed twice either; and whatever strangers send, what a station performs for one of them
 /// under one invoke ID, between two of its restarts, it performs in entries that began more than 65,000 ms apart.
-#[tactic(auto, using(crate::proofs::Settings::run_settings, crate::proofs::Runs::run_events, crate::proofs::Runs::run_events_ever))]
+#[tactic(auto, using(crate::proofs::Settings::run_settings, crate::proofs::Settings::run_stays, crate::proofs::Runs::run_events, crate::proofs::Runs::run_events_ever))]
 pub fn turns_are_events()
     ensures settings { (overtake : ℕ) (steps : List Step) (old new : Plant) → PlantRun overtake steps old new → (station : ℕ)
         → settings_of new station ≡ settings_of old station }
+    ensures stays { (overtake : ℕ) (steps : List Step) (old new : Plant) → PlantRun overtake steps old new → (station : ℕ) (before after : BoundNode)
+        → slice_get old.stations station ≡ Some before → slice_get new.stations station ≡ Some after → after.reuse ≡ before.reuse }
     ensures events { (overtake : ℕ) (steps : List Step) (old new : Plant) → PlantRun overtake steps old new
         → WorldRunSo overtake (settings_of old) (world_of old) (events_of steps) (world_of new) }
     ensures once { (W overtake : ℕ) (old new : Plant) → IsFresh (world_of old) → IsTimely old.time.pace → IsBounded W overtake (world_of old)
@@ -65,8 +67,9 @@ pub fn turns_are_events()
 {}
 
 /// After each run of a fresh plant, whichever stations let invoke IDs be used again, whatever a call promises of a station, at the moment of its clock and by a
-/// datagram that the network may hand over, is a step of the plant: there are the asks, transactions and strangers of all that it returned. So no turn is left
-/// out of the law above.
+/// datagram that the network may hand over, is a step of the plant: there are the asks, transactions and strangers of all that it returned. A turn, also one
+/// whose sends are held, is a step where its station lets no client use an invoke ID again, or remembers each request for 65,000 ms. So no turn of such a
+/// station is left out of the law above.
 #[tactic(auto, using(crate::proofs::Next::changes_go_on, crate::proofs::Next::restarts_go_on))]
 pub fn calls_go_on()
     ensures turns { (W overtake : ℕ) (p : Plant) → IsReached W overtake p → TurnsGoOn overtake p }
@@ -81,7 +84,7 @@ pub fn calls_go_on()
 
 /// What `serve`, `ask` and `pair` promise is a chain of turns of each station, for `ask` after its ask; for `serve` and `ask` also where a fault stops them.
 /// The turns of a station that does nothing else in a run of a plant are such a chain too, whatever other stations do between them; and by the law above
-/// each turn of a chain is a step.
+/// each turn of a chain is a step, where that station lets no client use an invoke ID again, or remembers each request for 65,000 ms.
 #[tactic(auto, using(crate::proofs::Chained::first_chain, crate::proofs::Chained::second_chain, crate::proofs::Chained::steps_chain))]
 pub fn chains_are_steps()
     ensures served { (p : WaitLimit) (turns effects : ℕ) (old new : Timed) → Serves p turns effects old new
@@ -102,9 +105,10 @@ pub fn chains_are_steps()
 {}
 
 /// What `round_before` and `serve_kept` promise of a station is a chain of rounds: turns whose sends are held, one after the other, and then all that they
-/// hold is sent. By `calls_go_on` each of these is a step. Where serving stops for a fault, so are the rounds before; and a round that fails is such turns too,
-/// after which its link may have failed to receive, as a step does. The turns that a station holds in a run of a plant, also in a round that a power cut takes
-/// back, where it does nothing else, are such a chain too, whatever other stations do between them; and with the sends of all that they hold they are a round.
+/// hold is sent. By `calls_go_on` each of these is a step, where the station lets no client use an invoke ID again, or remembers each request for 65,000 ms.
+/// Where serving stops for a fault, so are the rounds before; and a round that fails is such turns too, after which its link may have failed to receive, as a
+/// step does. The turns that a station holds in a run of a plant, also in a round that a power cut takes back, where it does nothing else, are such a chain
+/// too, whatever other stations do between them; and with the sends of all that they hold they are a round.
 #[tactic(auto, using(crate::proofs::Holding::held_chain))]
 pub fn rounds_are_events<W, O: Observer<W>, K: Keeper>()
     ensures round { (p : WaitLimit) (old : Observed O.State) (effects : ℕ) (new : Observed O.State) → kept_rounds.TakesRound O.Sees p old effects new

@@ -1,10 +1,10 @@
 -- The entry of a write in the reply table of a node.
-use Rattle.std.proofs.Common.{◌≡◌, ℕ, ◌+◌, ◌≤◌, Bool, true, false, List, [], ◌∷◌, ◌⊎◌, Option, Some, None, if◌then◌else◌, refl, sym, ap, subst, inl, inr, ◌∙◌, arith}
+use Rattle.std.proofs.Common.{◌≡◌, ℕ, ◌+◌, ◌≤◌, Bool, true, List, Option, Some, None, sym, ap, subst, ◌∙◌, arith}
 use Rattle.bac_apdu.specs.Apdu.{Apdu, Segment}
 use Rattle.bac_protocol.specs.declared.times.TheConstants.{KEEP}
 use Rattle.bac_protocol.specs.Context.{Context, Settings}
 use Rattle.bac_protocol.specs.Reuse.{server_hears}
-use Rattle.bac_protocol.specs.Server.{Effect, Reaction, ServerTransaction, Service, is_live, live_entry, server_ticks}
+use Rattle.bac_protocol.specs.Server.{Reaction, ServerTransaction, Service, is_live, live_entry, server_ticks}
 use Rattle.bac_protocol.specs.Service.{Octets}
 use Rattle.bac_slots.specs.Slots.{IsDistinct, value_at}
 use Rattle.bac_transaction.specs.Ends.{ServerSlot, context_of, entry_or, put_entry}
@@ -14,7 +14,7 @@ use Rattle.bac_transaction.proofs.Entries.{entry_here, entry_there}
 use Rattle.bac_world.proofs.Reused.{heard_left, heard_none}
 use Rattle.bac_world.proofs.Settings.{slots_heard}
 use Rattle.bac_writes.specs.Writes.{IsNoOther}
-use Rattle.bac_writes.proofs.Machine.{IsKeptEntry, Performs, Rests, from_live, hears_performs, hears_rests, live_is, live_until, ticks_kept}
+use Rattle.bac_writes.proofs.Machine.{IsKeptEntry, Performs, Rests, from_live, hears_rests, live_is, live_until, ticks_kept}
 
 -- the table has it at that key
 pub record HasKept (begin choice : ℕ) (request : Option Octets) (key : PeerKey) (slots : List ServerSlot) : Type 0 where

@@ -3,3 +3,5 @@ pub mod Logs
 pub mod Kept
 pub mod Steps
 pub mod Runs
+pub mod Computed
+pub mod Heard

@@ -1,5 +1,5 @@
 -- Logs to which nothing was added that a node performed for that stranger under that invoke ID.
-use Rattle.std.proofs.Common.{◌≡◌, ℕ, Bool, true, false, List, [], ◌∷◌, ◌++◌, append_assoc, Option, Some, None, ◌⊎◌, refl, sym, ap, subst, inl, inr, ◌∙◌}
+use Rattle.std.proofs.Common.{◌≡◌, ℕ, Bool, true, false, List, [], ◌∷◌, ◌++◌, append_assoc, Option, Some, None, ◌⊎◌, refl, sym, ap, inl, inr, ◌∙◌}
 use Rattle.bac_transaction.specs.Keys.{PeerKey}
 use Rattle.bac_transaction.specs.Meanings.{EndedView, Ending}
 use Rattle.bac_world.specs.Node.{Node}
@@ -7,7 +7,7 @@ use Rattle.bac_world.specs.Once.{Fact}
 use Rattle.bac_world.specs.Once.Fact.{Asked, AskedAway, Changed, Ended, EndedAway, Performed, Restarted, Served}
 use Rattle.bac_world.specs.ReusingWorlds.{AreLoggedSo, IsServedSo}
 use Rattle.bac_world.specs.Services as service
-use Rattle.bac_world.specs.World.{AreEnded, AreLogged, IsLogged, IsServedTo, Note, ending_fact, is_away}
+use Rattle.bac_world.specs.World.{AreEnded, IsLogged, IsServedTo, Note, ending_fact, is_away}
 use Rattle.bac_writes.specs.Writes.{AddsNothingFor, HasNothingFor}
 
 module _ (node : ℕ) (key : PeerKey) where

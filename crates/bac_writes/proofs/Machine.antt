@@ -1,5 +1,5 @@
 -- What the server's machine of either setting makes of an APDU, where an entry keeps the reply to a write.
-use Rattle.std.proofs.Common.{◌≡◌, ℕ, ◌+◌, ◌-◌, ◌≤◌, ◌⊎◌, Bool, true, false, ◌&&◌, ◌||◌, not, [], ◌∷◌, Option, Some, None, if◌then◌else◌, nat_eq, nat_le}
+use Rattle.std.proofs.Common.{◌≡◌, ℕ, ◌+◌, ◌-◌, ◌≤◌, ◌⊎◌, Bool, true, false, ◌&&◌, ◌||◌, not, Option, Some, None, if◌then◌else◌, nat_eq, nat_le}
 use Rattle.std.proofs.Common.{refl, sym, ap, subst, inl, inr, ◌∙◌, arith}
 use Rattle.std.proofs.lemmas.Bool.Decides.{nat_tests}
 use Rattle.std.proofs.lemmas.Slice.Eq.{bytes_eq-Decides}
@@ -7,16 +7,15 @@ use Rattle.std.specs.Prelude.{is_some}
 use Rattle.std.specs.Str.{bytes_eq}
 use Rattle.bac_apdu.specs.Apdu.{Apdu, Limits, Segment}
 use Rattle.bac_apdu.specs.Apdu.Apdu.{ConfirmedRequest}
-use Rattle.bac_segment.specs.Window.{Outgoing, Incoming}
 use Rattle.bac_protocol.specs.declared.times.TheConstants.{KEEP}
 use Rattle.bac_protocol.specs.Context.{Context}
-use Rattle.bac_protocol.specs.Reuse.{Reads, ends_entry, idle_on_read, idle_reusing, is_ended_by, is_over, left_on_apdu, reusing_on_apdu, server_hears}
+use Rattle.bac_protocol.specs.Reuse.{ends_entry, idle_on_read, idle_reusing, is_ended_by, is_over, left_on_apdu, server_hears}
 use Rattle.bac_protocol.specs.Server.{Effect, Reaction, ServerTransaction, Service, State, Transfer, idle_on_request, is_kept, is_live, is_none_live, live_entry, server_on_apdu}
 use Rattle.bac_protocol.specs.Server.{server_ticks}
 use Rattle.bac_protocol.specs.Server as server
 use Rattle.bac_protocol.specs.Server.State.{Done, Dropped, SegmentedResponse}
 use Rattle.bac_protocol.specs.Service.{Octets}
-use Rattle.bac_protocol.specs.Steps.{BeginsWith, IsEffect, IsEntryFor, IsSameEntry, IsSegmentedRequest, KeepsReply, MayPerform, StateStays, StaysIn}
+use Rattle.bac_protocol.specs.Steps.{BeginsWith, IsEffect, IsEntryFor, IsSegmentedRequest, KeepsReply, MayPerform, StateStays, StaysIn}
 use Rattle.bac_protocol.proofs.Reused.{goes_on_where}
 use Rattle.bac_protocol.proofs.Served.{effects_are_kept, live_stays_law}
 use Rattle.bac_transaction.specs.Reuse.{is_read}
@@ -63,12 +62,16 @@ module _ (begin choice : ℕ) (request : Option Octets) where
 
   pub stays_kept : (e : ServerTransaction) (o : Option ServerTransaction) → Kept e → StaysIn e o → (d : ServerTransaction) × (o ≡ Some d) × Kept d
   stays_kept e None k stays = absurd stays
-  stays_kept e (Some d) k stays = (d, refl, record {
-    begin_is = stays.0.begin ∙ k.begin_is;
-    choice_is = stays.0.choice ∙ k.choice_is;
-    request_is = stays.0.request ∙ k.request_is;
-    gathered = gathers_none e.state d.state k.gathered stays.1;
-  })
+  stays_kept e (Some d) k stays = (
+    d,
+    refl,
+    record {
+      begin_is = stays.0.begin ∙ k.begin_is;
+      choice_is = stays.0.choice ∙ k.choice_is;
+      request_is = stays.0.request ∙ k.request_is;
+      gathered = gathers_none e.state d.state k.gathered stays.1;
+    },
+  )
 
   pub ticks_kept : (c : Context) (e : ServerTransaction) → is_live c.now e ≡ true → Kept e → (d : ServerTransaction) × ((server_ticks c (Some e)).entry ≡ Some d) × Kept d
   ticks_kept c e live k = stays_kept e (server_ticks c (Some e)).entry k (live_stays_law.ticks c e live)

@@ -16,23 +16,23 @@ use Rattle.bac_protocol.specs.Transaction.{Rules}
 use Rattle.bac_protocol.specs.Wire.{is_from_client}
 use Rattle.bac_protocol.specs.World.{Net, net_start}
 use Rattle.bac_slots.specs.Slots.{IsDistinct, value_at}
-use Rattle.bac_transaction.specs.Ends.{act_at, context_of, is_free, key_of}
+use Rattle.bac_transaction.specs.Ends.{act_at, context_of, is_free}
 use Rattle.bac_transaction.specs.Keys.{PeerKey, same_key}
 use Rattle.bac_transaction.specs.Reuse.{is_read}
 use Rattle.bac_transaction.specs.Services.{service_of}
 use Rattle.bac_world.specs.Node.{IsDropped, Node, Outcome}
 use Rattle.bac_world.specs.Once.{Fact, Stores}
 use Rattle.bac_world.specs.ReusingLogs.{IsOnceSo, Reuses}
-use Rattle.bac_world.specs.ReusingWorlds.{HearsSo, WorldRunSo, WorldStepSo}
+use Rattle.bac_world.specs.ReusingWorlds.{WorldRunSo, WorldStepSo}
 use Rattle.bac_world.specs.Services.{ArePerformed, Performed as performed}
-use Rattle.bac_world.specs.World.{Event, IsBounded, IsFresh, IsOfNone, RunsOn, World, link_at, stores_of, told}
+use Rattle.bac_world.specs.World.{Event, IsBounded, IsFresh, RunsOn, World, link_at, stores_of, told}
 use Rattle.bac_world.specs.World.Event.{Advance, Ask, AskAway, Change, Deliver, Noise, Restart, Stray, Tick}
 use Rattle.bac_world.proofs.Headline.{fresh_over, rules_bounded, rules_of, run_over_so}
 use Rattle.bac_world.proofs.Heard.{IsHeardIn, IsHeardInBy, heard_in}
 use Rattle.bac_world.proofs.Settings.{end_heard}
 use Rattle.bac_world.proofs.Steps.{Over}
 use Rattle.bac_writes.specs.Writes.{AddsNothingFor, HearsNoOther, KeepsWrite, PerformsWrite, WritesActOnce}
-use Rattle.bac_writes.proofs.Kept.{heard, performs_there, table}
+use Rattle.bac_writes.proofs.Kept.{heard, performs_there}
 use Rattle.bac_writes.proofs.Logs.{adds_none, adds_then}
 use Rattle.bac_writes.proofs.Machine.{IsBegunBy, Performs, hears_performs}
 use Rattle.bac_writes.proofs.Steps.{KeptAt, step_later, step_went}
@@ -184,11 +184,13 @@ module _ (W overtake : ℕ) (u : Reuses) (first old new : World) (fresh : IsFres
   abbrev entry : ServerTransaction
   entry = keeping.performs.entry
 
+  is_after : (a : Node) → slice_get new.nodes node ≡ Some a → p.hears.after ≡ a
+  is_after a at = let e : Some p.hears.after ≡ Some a = sym p.hears.acts.nodes.here ∙ at in cc
+
   kept : KeptAt entry.begin entry.choice entry.request key new.nodes node
   kept a at = record {
     entry = entry;
-    there = subst (λ (n : Node). value_at same_key key n.servers.slots ≡ Some entry)
-        (let e : Some p.hears.after ≡ Some a = sym p.hears.acts.nodes.here ∙ at in cc) keeping.there;
+    there = subst (λ (n : Node). value_at same_key key n.servers.slots ≡ Some entry) (is_after a at) keeping.there;
     kept = record { begin_is = refl; choice_is = refl; request_is = refl; gathered = keeping.performs.gathered };
   }
 

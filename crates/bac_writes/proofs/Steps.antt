@@ -8,9 +8,8 @@ use Rattle.bac_npdu.specs.Datagram.{Means}
 use Rattle.bac_npdu.specs.Peers.{PeerView}
 use Rattle.bac_protocol.specs.declared.times.TheConstants.{KEEP}
 use Rattle.bac_protocol.specs.Claims.{IsBounded}
-use Rattle.bac_protocol.specs.Context.{Context}
 use Rattle.bac_protocol.specs.Pace.{Clock, IsShown, clock_at, goes_on}
-use Rattle.bac_protocol.specs.Server.{Effect, Reaction, ServerTransaction, is_live}
+use Rattle.bac_protocol.specs.Server.{Effect, ServerTransaction, is_live}
 use Rattle.bac_protocol.specs.Service.{Octets}
 use Rattle.bac_protocol.specs.Transaction.{Key, Rules}
 use Rattle.bac_protocol.specs.Wire.{is_from_client}
@@ -20,17 +19,15 @@ use Rattle.bac_reuse.proofs.ReusingMoves.{in_order_so}
 use Rattle.bac_slots.specs.Slots.{IsDistinct, keep, value_at}
 use Rattle.bac_transaction.specs.Ends.{act_at, context_of, is_free, key_of}
 use Rattle.bac_transaction.specs.Keys.{PeerKey, same_key}
-use Rattle.bac_transaction.specs.Reuse.{is_read}
 use Rattle.bac_transaction.specs.Services.{service_of}
 use Rattle.bac_transaction.proofs.KeyedSlots.{changed, changed_value, decide_slot_key, distinct_changed, passing_value, value_changed}
 use Rattle.bac_world.specs.Node.{IsDropped, Node, NodeTick, Outcome}
-use Rattle.bac_world.specs.Once.{Fact}
 use Rattle.bac_world.specs.Once.Fact.{Asked, AskedAway, Changed, Restarted}
 use Rattle.bac_world.specs.ReusingLogs.{Reuses}
 use Rattle.bac_world.specs.ReusingNodes.{NodeHears}
 use Rattle.bac_world.specs.ReusingWorlds.{DeliversIfSo, HearsSo, WorldStepSo}
 use Rattle.bac_world.specs.Services.{ArePerformed, Performed}
-use Rattle.bac_world.specs.World.{AreLogged, Copy, Event, IsOfNone, IsWithNode, RunsOn, Time, World, is_deliverable, link_at, told}
+use Rattle.bac_world.specs.World.{Copy, Event, IsOfNone, IsWithNode, RunsOn, Time, World, is_deliverable, told}
 use Rattle.bac_world.specs.World.Event.{Advance, Ask, AskAway, Change, Deliver, Noise, Restart, Stray, Tick}
 use Rattle.bac_world.proofs.Heard.{IsHeardIn, IsHeardInBy, heard_in}
 use Rattle.bac_world.proofs.ServerTick.{entry_tick}
@@ -169,9 +166,9 @@ module _ (begin choice : ℕ) (request : Option Octets) (key : PeerKey) where
       ticked : (i : ℕ) (a b : Node) (o : Outcome) → slice_get v.nodes i ≡ Some a → NodeTick (told v i) a b o → i ≡ node → KeptIn b
       ticked i a b o at t is =
           let k = was a (subst (λ j. slice_get v.nodes j ≡ Some a) is at) in
-          let then : told v i ≤ begin + KEEP = subst (λ j. told v j ≤ begin + KEEP) (sym is) young in
+          let young_there : told v i ≤ begin + KEEP = subst (λ j. told v j ≤ begin + KEEP) (sym is) young in
           let next : ServerTransaction = entry_tick a.settings (told v i) key k.entry in
-          let kept : IsKeptEntry begin choice request next = tick_kept begin choice request (context_of a.settings (told v i) key) k.entry then k.kept in
+          let kept : IsKeptEntry begin choice request next = tick_kept begin choice request (context_of a.settings (told v i) key) k.entry young_there k.kept in
           let live : is_live (told v i) next ≡ true = live_until (told v i) next (let b = kept.begin_is in omega arith) in
           record {
             entry = next;
@@ -185,38 +182,38 @@ module _ (begin choice : ℕ) (request : Option Octets) (key : PeerKey) where
 
       pub step_went : (e : Event) → IsOfNone v.nodes key.peer.link → RunsOn node (e ∷ []) → HearsNoOther node key choice request (e ∷ [])
           → WorldStepSo x.overtake u v e v' → Went node v v'
-      step_went (Ask client server limits r) stranger on no (inl s) = record {
+      step_went (Ask client server limits r) stranger on quiet_so (inl s) = record {
         kept = table_kept node v.nodes v'.nodes client s.before s.after s.at s.nodes (ap (λ (m : Node). m.servers.slots) s.asks.node) was;
         adds = adds_one node key (Asked (length v.notes) client server r) tt v.log v'.log s.log;
       }
-      step_went (Ask client server limits r) stranger on no (inr s) = stays node v v' was s.same
-      step_went (AskAway client peer limits r) stranger on no (inl s) = record {
+      step_went (Ask client server limits r) stranger on quiet_so (inr s) = stays node v v' was s.same
+      step_went (AskAway client peer limits r) stranger on quiet_so (inl s) = record {
         kept = table_kept node v.nodes v'.nodes client s.before s.after s.at s.nodes (ap (λ (m : Node). m.servers.slots) s.asks.node) was;
         adds = adds_one node key (AskedAway (length v.notes) client peer r) tt v.log v'.log s.log;
       }
-      step_went (AskAway client peer limits r) stranger on no (inr s) = stays node v v' was s.same
-      step_went (Deliver number) stranger on no s =
+      step_went (AskAway client peer limits r) stranger on quiet_so (inr s) = stays node v v' was s.same
+      step_went (Deliver number) stranger on quiet_so s =
           delivered (is_deliverable x.overtake v.time.pace.life v.time.now number v.copies s.copy) s.copy stranger s.goes
-      step_went (Noise i from octets) stranger on no (inl s) = hears_went i from octets (λ is peer p means same. absurd (s.fit peer p means)) s.hears
-      step_went (Noise i from octets) stranger on no (inr s) = stays node v v' was s.same
-      step_went (Stray i from octets) stranger on no (inl s) = hears_went i from octets no.0 s.hears
-      step_went (Stray i from octets) stranger on no (inr s) = stays node v v' was s.same
-      step_went (Tick i) stranger on no s = record {
+      step_went (Noise i from octets) stranger on quiet_so (inl s) = hears_went i from octets (λ is peer p means same. absurd (s.fit peer p means)) s.hears
+      step_went (Noise i from octets) stranger on quiet_so (inr s) = stays node v v' was s.same
+      step_went (Stray i from octets) stranger on quiet_so (inl s) = hears_went i from octets quiet_so.0 s.hears
+      step_went (Stray i from octets) stranger on quiet_so (inr s) = stays node v v' was s.same
+      step_went (Tick i) stranger on quiet_so s = record {
         kept = with_kept node v.nodes v'.nodes i s.after s.acts.nodes (ticked i s.before s.after s.outcome s.at s.tick) was;
         adds = adds_then node key v.log s.acts.between v'.log
             (adds_ended node key v.notes i s.outcome.ended v.log s.acts.between s.acts.ended)
             (adds_logged node key false v.nodes v.notes i s.after s.outcome.performed
             (λ d done e same. let none : None ≡ Some d = sym s.tick.performed ∙ done in cc) s.acts.between v'.log s.acts.logged);
       }
-      step_went (Advance by own) stranger on no s = record {
+      step_went (Advance by own) stranger on quiet_so s = record {
         kept = subst (λ (y : World). KeptAt y.nodes node) (sym s) was;
         adds = adds_none node key v.log v'.log (ap (λ (y : World). y.log) s);
       }
-      step_went (Change i change) stranger on no s = record {
+      step_went (Change i change) stranger on quiet_so s = record {
         kept = table_kept node v.nodes v'.nodes i s.before _ s.at s.nodes refl was;
         adds = adds_one node key (Changed i change) tt v.log v'.log s.log;
       }
-      step_went (Restart i exact store) stranger on no s = record {
+      step_went (Restart i exact store) stranger on quiet_so s = record {
         kept = with_kept node v.nodes v'.nodes i _ s.nodes (λ is. absurd (on.0 is)) was;
         adds = adds_one node key (Restarted i store) tt v.log v'.log s.log;
       }

@@ -53,16 +53,16 @@ pub record AddsNothingFor (node : ℕ) (key : PeerKey) (old new : List Fact) : T
 
 -- a node hears the APDU that completes a stranger's request, in one APDU or with a segment, which is no read, and performs it
 pub record PerformsWrite (u : Reuses) (old : World) (node : ℕ) (key : PeerKey) (segment : Option Segment) (choice : ℕ) (octets : Octets) (new : World) : Type 0
-    where
-  pub link : Octets
-  pub datagram : Octets
-  pub hears : HearsSo (u node) old node link datagram new
-  pub stranger : IsOfNone old.nodes link
-  pub limits : Limits
-  pub means : Means SpellsApdu link datagram key.peer (ConfirmedRequest limits key.invoke_id segment choice octets)
-  pub write : is_read choice ≡ false
-  pub performed : Performed
-  pub is : hears.outcome.performed ≡ Some performed
+  where
+    pub link : Octets
+    pub datagram : Octets
+    pub hears : HearsSo (u node) old node link datagram new
+    pub stranger : IsOfNone old.nodes link
+    pub limits : Limits
+    pub means : Means SpellsApdu link datagram key.peer (ConfirmedRequest limits key.invoke_id segment choice octets)
+    pub write : is_read choice ≡ false
+    pub performed : Performed
+    pub is : hears.outcome.performed ≡ Some performed
 
 -- from then on: while the entry lives, by the node's clock, the node does not restart, and no other request of that stranger comes under that invoke ID,
 -- nothing more is performed for it
