@@ -1,10 +1,15 @@
 -- Texts from their parts.
-use Rattle.std.proofs.Common.{◌≡◌, ◌∙◌, ◌++◌, ◌-◌, ℕ, List, codes, decimal}
+use Rattle.std.proofs.Common.{◌≡◌, ◌∙◌, ◌++◌, ◌-◌, ℕ, List, codes, decimal, IfOk, Result, Ok, Err}
 use Rattle.bac_explain.specs.declared.step.Step.{Step}
 use Rattle.bac_explain.specs.Keys.{Key}
 use Rattle.bac_explain.specs.Tables.{ClosedView}
 use Rattle.bac_explain_html.specs.Pictures.{IsAskedText, IsPicture, arrow, arrow_front, arrows, heading, mark, role_words}
 use Rattle.bac_explain_html.specs.Rows.{AreWordCells, IsEntry, entry_front, key_cells, row_end}
+
+-- what follows from a fact of a result where it is Ok
+pub if_ok : {A E : Type 0} (r : Result A E) (P Q : A → Type 0) → ((a : A) → P a → Q a) → IfOk r P → IfOk r Q
+if_ok (Ok a) P Q f h = f a h
+if_ok (Err e) P Q f h = h
 
 -- five texts, each by another that equals it
 pub five_told : (text a b d e f a' b' d' e' f' : List ℕ) → text ≡ a ++ (b ++ (d ++ (e ++ f))) → a ≡ a' → b ≡ b' → d ≡ d' → e ≡ e' → f ≡ f'

@@ -5,7 +5,7 @@ use Rattle.bac_npdu.specs.Peers.{PeerView}
 use Rattle.bac_npdu.specs.Views.{peer_view}
 use Rattle.bac_text.specs.Peers.{peer_text}
 use Rattle.serde_json.specs.Data.{Data, member, no_members, null, object, string, unsigned}
-use Rattle.serde_json.specs.Data.number as whole
+use Rattle.serde_json.specs.Data.{number as whole}
 use Rattle.serde_json.specs.Find.{of_integer}
 use Rattle.bac_log_json.specs.declared.event.EventKind as code
 use Rattle.bac_log_json.specs.declared.event.EventKind.TheVariants as kind
