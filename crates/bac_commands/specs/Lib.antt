@@ -8,14 +8,12 @@ pub mod Questions
 pub mod Reports
 pub mod Pairs
 pub mod CommandErrors
-pub mod FaultWords
 pub mod Words
 pub mod FileOctets
 pub mod AskEnds
 pub mod Frames
 pub mod LogWords
 pub mod Lines
-pub mod Objects
 pub mod Logs
 pub mod Kept
 pub mod Spent

@@ -6,12 +6,8 @@ use Rattle.bac_driver.specs.Runs.{Timed}
 use Rattle.bac_driver.specs.Seen.{Seen, Watcher}
 use Rattle.bac_driver.specs.declared.wait_limit.WaitLimit.{WaitLimit}
 use Rattle.bac_commands.specs.Lines.{AreLogLines, counts_away, is_said, is_turned_away}
-use Rattle.bac_commands.specs.Objects.{AreTurnObjects}
 use Rattle.bac_commands.specs.Reports.{ServingIsWatched}
 use Rattle.bac_commands.specs.declared.log.Tally.{Tally}
-use Rattle.bac_commands.specs.declared.log_manner.LogForm.{LogForm}
-use Rattle.bac_commands.specs.declared.log_manner.LogForm.TheVariants as form
-use Rattle.bac_commands.specs.declared.log_manner.LogManner.{LogManner}
 
 -- no request was turned away so far
 abbrev pub NONE_AWAY : Tally
@@ -25,17 +21,9 @@ counted from s t = counts_away (is_turned_away from s.turn s.node.servers) t.awa
 abbrev pub told_at : (at away : ℕ) → Tally → Tally
 told_at at away t = if is_said at away t.said then record { away = 0; said = Some at } else record { away = away; said = t.said }
 
--- the lines of a turn in a form, of a server that serves from a moment on; objects don't say again how many were turned away
-abbrev pub AreTextsIn : LogForm → (serves_from : ℕ) → Seen → (away : ℕ) → (said : Option ℕ) → List ℕ → Type 0
-AreTextsIn form.Lines from s away said text = AreLogLines from s away said text
-AreTextsIn (form.Objects epoch) from s away said text = AreTurnObjects epoch from s text
-
-abbrev pub AreTurnTexts : LogManner → Seen → (away : ℕ) → (said : Option ℕ) → List ℕ → Type 0
-AreTurnTexts m s away said text = AreTextsIn m.form m.serves_from s away said text
-
--- how it is written, whether each line was, how many were turned away, and what the output has
+-- from when on the server serves, whether each line was written, how many were turned away, and what the output has
 pub record Log : Type 0 where
-  pub manner : LogManner
+  pub serves_from : ℕ
   pub whole : Bool
   pub tally : Tally
   pub text : Option (List ℕ)
@@ -49,21 +37,21 @@ abbrev pub written_in : Log → Written
 written_in l = record { tally = l.tally; text = l.text }
 
 -- the lines of a turn were written
-pub record Prints (manner : LogManner) (s : Seen) (old new : Written) : Type 0 where
-  pub tally : new.tally ≡ told_at s.turn.at (counted manner.serves_from s old.tally) old.tally
-  pub tells : AppendsText old.text new.text (AreTurnTexts manner s (counted manner.serves_from s old.tally) old.tally.said)
+pub record Prints (serves_from : ℕ) (s : Seen) (old new : Written) : Type 0 where
+  pub tally : new.tally ≡ told_at s.turn.at (counted serves_from s old.tally) old.tally
+  pub tells : AppendsText old.text new.text (AreLogLines serves_from s (counted serves_from s old.tally) old.tally.said)
 
 -- while the log is whole
 pub record IsWritten (s : Seen) (old new : Log) : Type 0 where
   pub before : old.whole ≡ true
-  pub prints : Prints old.manner s (written_in old) (written_in new)
+  pub prints : Prints old.serves_from s (written_in old) (written_in new)
 
 pub record Logs (s : Seen) (old new : Log) : Type 0 where
-  pub same : new.manner ≡ old.manner
+  pub same : new.serves_from ≡ old.serves_from
   pub written : new.whole ≡ true → IsWritten s old new
 
 -- a node served, and the lines of each turn were written: from a text to another one
-pub record ServingIsLogged (s : Status) (manner : LogManner) (p : WaitLimit) (turns : ℕ) (before after : Timed) (from to : Option (List ℕ)) : Type 0 where
+pub record ServingIsLogged (s : Status) (serves_from : ℕ) (p : WaitLimit) (turns : ℕ) (before after : Timed) (from to : Option (List ℕ)) : Type 0 where
   pub last : Written
   pub text : last.text ≡ to
-  pub watched : ServingIsWatched s (Prints manner) p turns before after (record { tally = NONE_AWAY; text = from }) last
+  pub watched : ServingIsWatched s (Prints serves_from) p turns before after (record { tally = NONE_AWAY; text = from }) last

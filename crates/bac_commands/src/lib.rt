@@ -9,14 +9,11 @@ mod came;
 mod cause;
 mod done;
 mod facts;
-mod fault_words;
 mod frames;
 mod fresh_node;
 mod lines;
 mod log;
 mod log_level;
-mod log_manner;
-mod objects;
 mod online;
 mod serving;
 mod shortening;
@@ -28,9 +25,7 @@ pub use facts::{
     ending_words, print_asked, print_changed, print_ended, print_ending, print_ending_line,
     print_fault, print_nothing, print_performed, print_refused, print_sent,
 };
-pub use fault_words::ask_fault_words;
 pub use log_level::{LevelLog, LogLevel, OctetStyle};
-pub use log_manner::{LogForm, LogManner};
 pub use online::{
     AskCommand, CommandError, KeptServer, OutputFormat, Style, TURNS, ask, ask_unprinted,
     bound_client, bound_house, bound_server, clock_fault, is_spent, link_fault, pair,

@@ -34,7 +34,7 @@ pub(crate) fn is_full(now: u64, node: &Node) -> bool
 }
 
 /// Why a request is turned away, of a server that serves from a moment on.
-pub(crate) fn away_words(serves_from: u64, now: u64, node: &Node) -> &'static str
+fn away_words(serves_from: u64, now: u64, node: &Node) -> &'static str
     ensures { result.now ≡ away_words serves_from now node.now.servers }
 {
     if now < serves_from {
@@ -144,7 +144,7 @@ fn came_text(
 }
 
 /// So many octets from the front, or all where there are no more.
-pub(crate) fn front(octets: &[u8], len: usize) -> &[u8]
+fn front(octets: &[u8], len: usize) -> &[u8]
     ensures { result.now ≡ take len octets.now }
 {
     match octets.get(..len) {

@@ -1,14 +1,12 @@
 //! A log, written turn by turn.
-ghost use Rattle.std.specs.Prelude.{◌≡◌, IfOk, OnOk};
+ghost use Rattle.std.specs.Prelude.{◌≡◌, OnOk};
 ghost use Rattle.bac_text.specs.Texts.{AppendsText};
 ghost use Rattle.bac_driver.specs.Seen.{seen};
 ghost use Rattle.bac_driver.specs.Views.{turn_view};
 ghost use Rattle.bac_commands.specs.Lines.{AreLogLines, counts_away, is_turned_away};
-ghost use Rattle.bac_commands.specs.Logs.{AreTurnTexts, NONE_AWAY, told_at};
+ghost use Rattle.bac_commands.specs.Logs.{NONE_AWAY, told_at};
 
 use crate::lines::turn_lines;
-use crate::log_manner::{LogForm, LogManner};
-use crate::objects::{ObjectLog, turn_objects};
 use crate::turned_away::{counts_away, full_text, is_said, is_turned_away};
 use bac_driver::{Observer, Turn};
 use bac_node::Node;
@@ -53,7 +51,8 @@ impl Tally {
 #[derive(Drop)]
 pub(crate) struct Log {
     pub(crate) alloc: Global,
-    pub(crate) manner: LogManner,
+    /// From when on the server serves, in milliseconds; 0 where it did not restart.
+    pub(crate) serves_from: u64,
     /// Whether each line was written.
     pub(crate) whole: bool,
     pub(crate) tally: Tally,
@@ -62,54 +61,16 @@ pub(crate) struct Log {
 impl Log {
     /// How many were turned away, with what a turn did.
     fn counted(&self, node: &Node, turn: &Turn) -> u64
-        ensures { result ≡ counts_away (is_turned_away self.now.manner.serves_from (turn_view turn.now) node.now.servers) self.now.tally.away }
+        ensures { result ≡ counts_away (is_turned_away self.now.serves_from (turn_view turn.now) node.now.servers) self.now.tally.away }
     {
         counts_away(
-            is_turned_away(self.manner.serves_from, node, turn),
+            is_turned_away(self.serves_from, node, turn),
             self.tally.away,
         )
     }
 }
 
-/// The lines of a turn, and then how many were turned away so far.
-fn log_lines(
-    log: &Log,
-    away: u64,
-    node: &Node,
-    buffer: &[u8],
-    turn: &Turn,
-) -> io::Result<Vec<u8>>
-    ensures { IfOk result (λ t. AreLogLines log.now.manner.serves_from (seen node.now buffer.now (turn_view turn.now)) away log.now.tally.said t.items) }
-{
-    let mut lines = turn_lines(log.alloc, log.manner.serves_from, node, buffer, turn)?;
-    let full = full_text(log.alloc, turn.at, away, log.tally.said, node)?;
-    lines.extend_from_slice(full.as_slice())?;
-    Ok(lines)
-}
-
-/// The lines of a turn, in the form of the log.
-fn turn_texts(
-    log: &Log,
-    away: u64,
-    node: &Node,
-    buffer: &[u8],
-    turn: &Turn,
-) -> io::Result<Vec<u8>>
-    ensures { IfOk result (λ t. AreTurnTexts log.now.manner (seen node.now buffer.now (turn_view turn.now)) away log.now.tally.said t.items) }
-{
-    match log.manner.form {
-        LogForm::Lines => log_lines(log, away, node, buffer, turn),
-        LogForm::Objects { epoch } => {
-            let objects = ObjectLog {
-                alloc: log.alloc,
-                epoch,
-            };
-            turn_objects(objects, log.manner.serves_from, node, buffer, turn)
-        }
-    }
-}
-
-/// Writes the lines of a turn.
+/// Writes the lines of a turn, and then how many were turned away so far.
 fn write_turn<W: Write>(
     log: &Log,
     away: u64,
@@ -119,9 +80,11 @@ fn write_turn<W: Write>(
     out: &mut W,
 ) -> io::Result<()>
     ensures { OnOk result (AppendsText (W.contents out.old) (W.contents out.new)
-        (AreTurnTexts log.now.manner (seen node.now buffer.now (turn_view turn.now)) away log.now.tally.said)) }
+        (AreLogLines log.now.serves_from (seen node.now buffer.now (turn_view turn.now)) away log.now.tally.said)) }
 {
-    let lines = turn_texts(log, away, node, buffer, turn)?;
+    let mut lines = turn_lines(log.alloc, log.serves_from, node, buffer, turn)?;
+    let full = full_text(log.alloc, turn.at, away, log.tally.said, node)?;
+    lines.extend_from_slice(full.as_slice())?;
     out.write_all(lines.as_slice())
 }
 
@@ -130,7 +93,7 @@ impl<W: Write> Observer<W> for Log {
 
     ghost State = { logs.Log };
 
-    ghost state = { λ l out. record { manner = l.manner; whole = l.whole; tally = l.tally; text = W.contents out } };
+    ghost state = { λ l out. record { serves_from = l.serves_from; whole = l.whole; tally = l.tally; text = W.contents out } };
 
     ghost Sees = { logs.Logs };
 

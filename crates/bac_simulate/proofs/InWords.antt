@@ -6,7 +6,7 @@ use Rattle.std.proofs.lemmas.List.{append_assoc, drop_all, length-map, reverse-r
 use Rattle.std.proofs.lemmas.Option.{slice_get-map}
 use Rattle.std.specs.Option.{option_map}
 use Rattle.std.specs.Io.KnownBytes.{Appends}
-use Rattle.bac_simulate.specs.FaultWords.{change_fault_words, fault_words_line}
+use Rattle.bac_commands.specs.Facts.{fault_line}
 use Rattle.bac_journal.specs.Views.{copy_view}
 use Rattle.bac_journal.specs.declared.copies.Copy as copy
 use Rattle.bac_network.specs.Faults.{fault_number}
@@ -152,18 +152,17 @@ event_told line e told old new facts copies now reason head text a b fs cs ns wh
   ),
 )
 
-pub refusal_told : (line : ℕ) (e : Event) (f : WorldFault) (why : ChangeFault) (old new : WorldView) (now number : ℕ) (said head text : List ℕ)
+pub refusal_told : (line : ℕ) (e : Event) (f : WorldFault) (why : ChangeFault) (old new : WorldView) (now number : ℕ) (head text : List ℕ)
     → (a b : Option (List ℕ)) → change_fault_in f ≡ Some why
     → ((w : ChangeFault) → (IsErrOf (the_err f) (fault.BadChange w) ↔ RefusesChange (as_world old) (event_view old.time e) w))
     → new ≡ old → now ≡ ms_now old
-    → number ≡ change_fault_number why → said ≡ change_fault_words why → IsEventLine now (happening_view e) head
-    → text ≡ head ++ refused_news number said → Appends a b text
+    → number ≡ change_fault_number why → IsEventLine now (happening_view e) head → text ≡ head ++ refused_news number → Appends a b text
     → AppendsText a b (Steps in_words line true (Happens (happening_view e)) old new)
-refusal_told line e f why old new now number said head text a b bad change same ns is said_is is_head added printed = (
+refusal_told line e f why old new now number head text a b bad change same ns is is_head added printed = (
   text,
   (
     refuses in_words line e f why old new text bad change same
-        (record { head = head; is_head = head_at now (happening_view e) old head ns is_head; is = added ∙ (λ i. head ++ refused_news (is i) (said_is i)) }),
+        (record { head = head; is_head = head_at now (happening_view e) old head ns is_head; is = added ∙ ap (λ (n : ℕ). head ++ refused_news n) is }),
     printed,
   ),
 )
@@ -175,11 +174,11 @@ pub fault_told : (line : ℕ) (e : Event) (f : WorldFault) (old new : WorldView)
     → (IsErrOf (the_err f) fault.ClockEnd ↔ PassesClock (as_world old) (event_view old.time e))
     → ((why : ChangeFault) → (IsErrOf (the_err f) (fault.BadChange why) ↔ RefusesChange (as_world old) (event_view old.time e) why))
     → (IsErrOf (the_err f) fault.NoMemory → TakesMemory old.overtake (as_world old) (event_view old.time e))
-    → new ≡ old → number ≡ fault_number f → Appends a b (fault_words_line line number)
+    → new ≡ old → number ≡ fault_number f → Appends a b (fault_line line number)
     → AppendsText a b (Steps in_words line false (Happens (happening_view e)) old new)
 fault_told line e f old new number a b ends node copy link clock change memory same is printed = (
-  fault_words_line line number,
-  (fails in_words line e f old new (fault_words_line line number) ends node copy link clock change memory same (ap (λ (n : ℕ). fault_words_line line n) is), printed),
+  fault_line line number,
+  (fails in_words line e f old new (fault_line line number) ends node copy link clock change memory same (ap (λ (n : ℕ). fault_line line n) is), printed),
 )
 
 -- ---- a copy that counts as lost
@@ -190,9 +189,9 @@ lost_told line copy now w a b sent is printed =
     (lose_text now copy, (record { sent = sent; same = refl; is = ap (λ (n : ℕ). lose_text n copy) is }, printed))
 
 pub no_copy_told : (line copy : ℕ) (w : WorldView) (number : ℕ) (a b : Option (List ℕ)) → length w.copies ≤ copy
-    → number ≡ fault_number fault.NoSuchDatagram → Appends a b (fault_words_line line number) → AppendsText a b (Steps in_words line false (Lost copy) w w)
+    → number ≡ fault_number fault.NoSuchDatagram → Appends a b (fault_line line number) → AppendsText a b (Steps in_words line false (Lost copy) w w)
 no_copy_told line copy w number a b none is printed =
-    (fault_words_line line number, (record { none = none; same = refl; is = ap (λ (n : ℕ). fault_words_line line n) is }, printed))
+    (fault_line line number, (record { none = none; same = refl; is = ap (λ (n : ℕ). fault_line line n) is }, printed))
 
 -- ---- clocks
 
@@ -201,10 +200,10 @@ pub clock_passed_told : (line node start : ℕ) (w : WorldView) (a : Option (Lis
 clock_passed_told line node start w a there = ([], (clock_began in_words line node start w there, nothing_more a))
 
 pub clock_missing_told : (line node start : ℕ) (w : WorldView) (number : ℕ) (a b : Option (List ℕ)) → length w.nodes ≤ node
-    → number ≡ fault_number fault.NoSuchNode → Appends a b (fault_words_line line number) → AppendsText a b (Steps in_words line false (Began node start) w w)
+    → number ≡ fault_number fault.NoSuchNode → Appends a b (fault_line line number) → AppendsText a b (Steps in_words line false (Began node start) w w)
 clock_missing_told line node start w number a b none is printed = (
-  fault_words_line line number,
-  (no_clock in_words line node start w (fault_words_line line number) none (ap (λ (n : ℕ). fault_words_line line n) is), printed),
+  fault_line line number,
+  (no_clock in_words line node start w (fault_line line number) none (ap (λ (n : ℕ). fault_line line n) is), printed),
 )
 
 pub pace_told : (line node rate now : ℕ) (old new : WorldView) (a b : Option (List ℕ)) → as_world new ≡ as_world old → new.overtake ≡ old.overtake
@@ -222,11 +221,11 @@ pace_told line node rate now old new a b same overtake time within is printed = 
 pub pace_refused_told : (line node rate : ℕ) (f : PaceFault) (old new : WorldView) (number : ℕ) (a b : Option (List ℕ))
     → (IsErrOf (the_pace_err f) pace_fault.NoSuchNode ↔ (slice_get old.nodes node ≡ None))
     → (IsErrOf (the_pace_err f) pace_fault.BadPace → (rate + drift_of old.time.own < 1000000) ⊎ (1000000 + drift_of old.time.own < rate))
-    → new ≡ old → number ≡ pace_fault_number f → Appends a b (fault_words_line line number)
+    → new ≡ old → number ≡ pace_fault_number f → Appends a b (fault_line line number)
     → AppendsText a b (Steps in_words line false (Paced node rate) old new)
 pace_refused_told line node rate f old new number a b none beyond same is printed = (
-  fault_words_line line number,
-  (not_paced in_words line node rate f old new (fault_words_line line number) none beyond same (ap (λ (n : ℕ). fault_words_line line n) is), printed),
+  fault_line line number,
+  (not_paced in_words line node rate f old new (fault_line line number) none beyond same (ap (λ (n : ℕ). fault_line line n) is), printed),
 )
 
 -- ---- no line more

@@ -17,7 +17,6 @@ use Rattle.bac_simulate.specs.Runs.{IsUnread, Runs, Printing}
 use Rattle.bac_simulate.specs.Scripts.{Script, ScriptLine, most_limits, said_from, script_of, with_setting}
 use Rattle.bac_simulate.specs.Traces.{change_marks, event_marks, paced_mark}
 use Rattle.bac_simulate.specs.Views.{line_view}
-use Rattle.bac_simulate.specs.Objects.{in_objects}
 use Rattle.bac_simulate.specs.Worded.{in_words}
 use Rattle.bac_simulate.specs.declared.script.FirstLine.{FirstLine}
 use Rattle.bac_simulate.specs.declared.read_script.ReadScript.{ReadScript}
@@ -39,7 +38,6 @@ in_marks =
 -- drawing
 abbrev pub shown_text : View → (nodes : ℕ) → List Mark → (last : WorldView) → List ℕ
 shown_text view.Text nodes marks last = []
-shown_text view.Objects nodes marks last = []
 shown_text view.Chart nodes marks last = drawing_text form.Chart nodes marks
 shown_text view.Mermaid nodes marks last = drawing_text form.Mermaid nodes marks
 shown_text view.Capture nodes marks last = capture_of (parts_in last) last.copies
@@ -55,13 +53,8 @@ pub record IsDrawn (v : View) (nodes first : ℕ) (lines : List ScriptLine) (all
 abbrev pub IsWorded : (first : ℕ) → List ScriptLine → (all : Bool) → (world : WorldView) → (text : List ℕ) → Type 0
 IsWorded first lines all world text = (last : WorldView) × Runs in_words first lines all world last text
 
--- likewise, and that is printed as objects of JSON
-abbrev pub AreObjects : (first : ℕ) → List ScriptLine → (all : Bool) → (world : WorldView) → (text : List ℕ) → Type 0
-AreObjects first lines all world text = (last : WorldView) × Runs in_objects first lines all world last text
-
 abbrev pub IsShown : View → (nodes first : ℕ) → List ScriptLine → (all : Bool) → (world : WorldView) → (text : List ℕ) → Type 0
 IsShown view.Text nodes first lines all world text = IsWorded first lines all world text
-IsShown view.Objects nodes first lines all world text = AreObjects first lines all world text
 IsShown view.Chart nodes first lines all world text = IsDrawn view.Chart nodes first lines all world text
 IsShown view.Mermaid nodes first lines all world text = IsDrawn view.Mermaid nodes first lines all world text
 IsShown view.Capture nodes first lines all world text = IsDrawn view.Capture nodes first lines all world text

@@ -2,7 +2,7 @@
 use Rattle.std.specs.Prelude.{◌≡◌, ℕ, codes, decimal, ◌+◌, ◌-◌, nat_le, Bool, true, false, List, [], ◌∷◌, ◌++◌, length, drop, reverse, Option, Some, None}
 use Rattle.std.specs.Prelude.{slice_get}
 use Rattle.bac_chart.specs.Labels.{datagram_words}
-use Rattle.bac_commands.specs.FaultWords.{ask_fault_words, numbered_words}
+use Rattle.bac_commands.specs.Facts.{fault_line}
 use Rattle.bac_commands.specs.Words.{AreEndingWords}
 use Rattle.bac_transaction.specs.Meanings.{Ending}
 use Rattle.bac_service_text.specs.Answers.{AreReplyWords}
@@ -10,7 +10,6 @@ use Rattle.bac_service_text.specs.Dispatch.{AreRequestWords}
 use Rattle.bac_network.specs.Histories.{WorldView}
 use Rattle.bac_npdu.specs.Peers.{PeerView}
 use Rattle.bac_requester.specs.Faults.{ask_fault_number}
-use Rattle.bac_simulate.specs.FaultWords.{change_fault_words, fault_words_line}
 use Rattle.bac_requester.specs.declared.ask_fault.AskFault.{AskFault}
 use Rattle.bac_service.specs.Replies.{Reply}
 use Rattle.bac_service.specs.Values.{Request}
@@ -151,8 +150,8 @@ why_words why.HeardStranger = codes "heard"
 -- ---- all that came of an event
 
 -- by its number
-abbrev pub refused_news : (fault : ℕ) → (words : List ℕ) → List ℕ
-refused_news fault words = news_line (codes "refused " ++ numbered_words fault words)
+abbrev pub refused_news : (fault : ℕ) → List ℕ
+refused_news fault = news_line (codes "refused " ++ decimal fault)
 
 -- the facts after so many, oldest first, and then the copies after so many
 pub record AreNews (facts copies : ℕ) (w : WorldView) (text : List ℕ) : Type 0 where
@@ -166,7 +165,7 @@ AreNewsOrWhy false reason facts copies w text = AreNews facts copies w text
 
 -- a refused ask; or what is new in a world that had so many facts and copies, or why nothing is
 abbrev pub IsOutcome : Option AskFault → Why → (facts copies : ℕ) → WorldView → List ℕ → Type 0
-IsOutcome (Some fault) reason facts copies w text = text ≡ refused_news (ask_fault_number fault) (ask_fault_words fault)
+IsOutcome (Some fault) reason facts copies w text = text ≡ refused_news (ask_fault_number fault)
 IsOutcome None reason facts copies w text = AreNewsOrWhy (is_as_before facts copies w) reason facts copies w text
 
 pub record IsEventText (told : Option AskFault) (event : Happening) (old new : WorldView) (text : List ℕ) : Type 0 where
@@ -180,7 +179,7 @@ pub record IsEventText (told : Option AskFault) (event : Happening) (old new : W
 pub record IsRefusedText (fault : ChangeFault) (event : Happening) (old : WorldView) (text : List ℕ) : Type 0 where
   pub head : List ℕ
   pub is_head : IsEventLine (ms_now old) event head
-  pub is : text ≡ head ++ refused_news (change_fault_number fault) (change_fault_words fault)
+  pub is : text ≡ head ++ refused_news (change_fault_number fault)
 
 -- a copy that counts as lost
 abbrev pub lose_text : (now copy : ℕ) → List ℕ
@@ -200,7 +199,7 @@ in_words =
       refused = IsRefusedText;
       lost = λ old copy text. text ≡ lose_text (ms_now old) copy;
       clock = λ old node rate text. text ≡ pace_line_text (ms_now old) node rate;
-      ended = λ line fault text. text ≡ fault_words_line line fault;
+      ended = λ line fault text. text ≡ fault_line line fault;
     }
 
 -- these octets were added

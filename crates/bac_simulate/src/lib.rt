@@ -4,7 +4,6 @@
 mod bad_line;
 mod capture;
 mod clock_words;
-mod fault_words;
 mod line;
 mod line_reading;
 mod line_words;
@@ -12,7 +11,6 @@ mod link_words;
 mod marks;
 mod moments;
 mod nothing;
-mod objects;
 mod printing;
 mod read_script;
 mod script;

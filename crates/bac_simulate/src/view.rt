@@ -2,7 +2,7 @@
 ghost use Rattle.std.specs.Prelude.{◌≡◌, ◌+◌, map, IfOk, OnOk};
 ghost use Rattle.std.specs.Io.KnownBytes.{Appends};
 ghost use Rattle.bac_chart.specs.Views.{mark_view};
-ghost use Rattle.bac_simulate.specs.Drawn.{shown_text, AreObjects, IsDrawn, IsShown, IsWorded, Shows, ShowsAs};
+ghost use Rattle.bac_simulate.specs.Drawn.{shown_text, IsDrawn, IsShown, IsWorded, Shows, ShowsAs};
 ghost use Rattle.bac_simulate.specs.Runs.{status_for};
 ghost use Rattle.bac_simulate.specs.Scripts.{script_of};
 ghost use Rattle.bac_simulate.specs.Views.{line_view};
@@ -12,7 +12,6 @@ ghost use Rattle.bac_text.specs.Texts.{AppendsText};
 use crate::bad_line::print_bad_line;
 use crate::capture::print_capture;
 use crate::moments::parts_in;
-use crate::objects::print_objects;
 use crate::read_script::ReadScript;
 use crate::script::ScriptFault;
 use crate::script_reading::read_script;
@@ -31,8 +30,6 @@ use std::io::{Read, Write};
 pub enum View {
     /// Lines of text: each event at its moment, and below it what came of it, or why nothing did.
     Text,
-    /// Objects of JSON, one a line: what came of each event.
-    Objects,
     /// A sequence chart in text, for a terminal.
     Chart,
     /// A `sequenceDiagram` of Mermaid.
@@ -41,8 +38,7 @@ pub enum View {
     Capture,
 }
 
-/// Prints what a run is drawn as, by what came of its lines and the world in which it ended; what is printed in words, or as objects, is no
-/// drawing.
+/// Prints what a run is drawn as, by what came of its lines and the world in which it ended; what is printed in words is no drawing.
 fn print_view<W: Write>(
     alloc: Global,
     view: View,
@@ -56,7 +52,6 @@ fn print_view<W: Write>(
     let nodes = u64::from(nodes);
     match view {
         View::Text => Ok(()),
-        View::Objects => Ok(()),
         View::Chart => print_drawing(alloc, ChartFormat::Chart, nodes, marks, out),
         View::Mermaid => print_drawing(alloc, ChartFormat::Mermaid, nodes, marks, out),
         View::Capture => print_capture(alloc, parts_in(world), world.copies(), out),
@@ -75,20 +70,6 @@ fn run_in_words<O: Write>(alloc: Global, script: ReadScript, out: &mut O) -> io:
         ..
     } = script;
     print_lines(alloc, &mut world, before, &lines, out)
-}
-
-/// Runs a script, and prints what came of each event as objects of JSON. Answers whether all lines passed.
-fn run_in_objects<O: Write>(alloc: Global, script: ReadScript, out: &mut O) -> io::Result<bool>
-    ensures { IfOk result (λ all. AppendsText (O.contents out.old) (O.contents out.new)
-        (AreObjects (script.before + 1) (map line_view script.lines.items) all script.world)) }
-{
-    let ReadScript {
-        mut world,
-        before,
-        lines,
-        ..
-    } = script;
-    print_objects(alloc, &mut world, before, &lines, out)
 }
 
 /// Runs a script, and then prints what its run is drawn as. Answers whether all lines passed; `err` says which did not.
@@ -128,7 +109,6 @@ fn run_and_show<O: Write, E: Write>(
 {
     match view {
         View::Text => run_in_words(alloc, script, out),
-        View::Objects => run_in_objects(alloc, script, out),
         View::Chart => run_and_draw(alloc, View::Chart, script, out, err),
         View::Mermaid => run_and_draw(alloc, View::Mermaid, script, out, err),
         View::Capture => run_and_draw(alloc, View::Capture, script, out, err),
@@ -154,7 +134,7 @@ fn refuse<E: Write>(
             print_bad_line(alloc, notes, text, number, err);
             Status::CommandLine
         }
-        View::Objects | View::Chart | View::Mermaid | View::Capture => no_script(fault, err),
+        View::Chart | View::Mermaid | View::Capture => no_script(fault, err),
     }
 }
 
@@ -181,7 +161,7 @@ fn show<O: Write, E: Write>(
 
 /// Runs a script of events in a network of nodes, as [`simulate_lines_over`](crate::simulate_lines_over) does, and prints what its run is shown as in place of
 /// what comes of each event. It answers what that does; what ends the run stands on `err`, behind the events before it in what is shown, and where it is printed in
-/// words, or as objects, on `out`.
+/// words on `out`.
 pub fn show_over<R: Read, O: Write, E: Write>(
     alloc: Global,
     view: View,

@@ -3,18 +3,18 @@ ghost use Rattle.std.specs.Prelude.{◌+◌, ◌<◌, ◌^◌, length, map, IfOk
 ghost use Rattle.std.specs.Io.KnownBytes.{Appends};
 ghost use Rattle.bac_text.specs.Texts.{AppendsText};
 ghost use Rattle.bac_simulate.specs.Runs.{Runs, Steps};
-ghost use Rattle.bac_simulate.specs.Scripts.{Began, Happens, Lost, Paced};
+ghost use Rattle.bac_simulate.specs.Scripts.{Happens, Lost, Paced};
 ghost use Rattle.bac_simulate.specs.Views.{happening_view, line_view};
 ghost use Rattle.bac_simulate.specs.Worded.{in_words, lose_text, pace_line_text};
 
-use crate::fault_words::{change_fault_words, print_fault_words};
-use crate::line::{ClockPace, ClockStart};
+use crate::line::ClockPace;
 use crate::moments::ms_now;
 use crate::nothing::why_nothing;
 use crate::printing::{Seen, pace_text};
 use crate::script::ScriptLine;
-use crate::simulate::{change_fault_in, pace_fault_number};
+use crate::simulate::{change_fault_in, pace_fault_number, pass_start};
 use crate::words::{add_outcome, add_refused, event_line};
+use bac_commands::print_fault;
 use bac_network::{Event, World, WorldFault};
 use std::alloc::Global;
 use std::io;
@@ -44,12 +44,12 @@ fn print_event<W: Write>(
     };
     match change_fault_in(fault) {
         Some(why) => {
-            add_refused(alloc, why.number(), change_fault_words(why), &mut text)?;
+            add_refused(alloc, why.number(), &mut text)?;
             out.write_all(text.as_slice())?;
             Ok(true)
         }
         None => {
-            print_fault_words(line, fault.number(), out)?;
+            print_fault(line, fault.number(), out)?;
             Ok(false)
         }
     }
@@ -70,7 +70,7 @@ fn print_lost_copy<W: Write>(world: &World, line: u64, copy: u64, out: &mut W) -
         print_lose(ms_now(world), copy, out)?;
         Ok(true)
     } else {
-        print_fault_words(line, WorldFault::NoSuchDatagram.number(), out)?;
+        print_fault(line, WorldFault::NoSuchDatagram.number(), out)?;
         Ok(false)
     }
 }
@@ -107,27 +107,9 @@ fn print_pace<W: Write>(
             Ok(true)
         }
         Err(fault) => {
-            print_fault_words(line, pace_fault_number(fault), out)?;
+            print_fault(line, pace_fault_number(fault), out)?;
             Ok(false)
         }
-    }
-}
-
-/// That a node's clock began so, with the script: nothing is printed of it, or that there is no such node. Answers whether there is one.
-fn pass_start_in_words<W: Write>(
-    world: &World,
-    line: u64,
-    clock: &ClockStart,
-    out: &mut W,
-) -> io::Result<bool>
-    ensures { IfOk result (λ passed. AppendsText (W.contents out.old) (W.contents out.new)
-        (Steps in_words line passed (Began clock.now.node clock.now.start) world.now world.now)) }
-{
-    if clock.node < world.nodes().len() as u64 {
-        Ok(true)
-    } else {
-        print_fault_words(line, WorldFault::NoSuchNode.number(), out)?;
-        Ok(false)
     }
 }
 
@@ -146,7 +128,7 @@ fn print_line<W: Write>(
         ScriptLine::Happens(event) => print_event(alloc, world, line, event, out),
         ScriptLine::Lost(copy) => print_lost_copy(world, line, *copy, out),
         ScriptLine::Note => Ok(true),
-        ScriptLine::Began(clock) => pass_start_in_words(world, line, clock, out),
+        ScriptLine::Began(clock) => pass_start(world, line, clock, out),
         ScriptLine::Paced(clock) => print_pace(alloc, world, line, clock, out),
     }
 }

@@ -15,7 +15,7 @@ ghost use Rattle.bac_simulate.specs.Worded.{Adds, change_words, news_line, refus
 use crate::nothing::{Why, why_words};
 use crate::printing::{Seen, is_as_before};
 use bac_chart::datagram_words;
-use bac_commands::{ask_fault_words, ending_words};
+use bac_commands::ending_words;
 use bac_journal::Copy;
 use bac_network::{Event, Fact, World};
 use bac_npdu::{LinkAddress, Peer};
@@ -264,16 +264,11 @@ fn add_news(alloc: Global, world: &World, before: Seen, text: &mut Vec<u8>) -> i
     Ok(())
 }
 
-/// Adds that an event was refused, by the number of the fault, and why in words.
-pub(crate) fn add_refused(
-    alloc: Global,
-    fault: u8,
-    why: &str,
-    text: &mut Vec<u8>,
-) -> Result<(), AllocError>
-    ensures { OnOk result (text.new.items ≡ text.old.items ++ refused_news fault why.now) }
+/// Adds that an event was refused, by the number of the fault.
+pub(crate) fn add_refused(alloc: Global, fault: u8, text: &mut Vec<u8>) -> Result<(), AllocError>
+    ensures { OnOk result (text.new.items ≡ text.old.items ++ refused_news fault) }
 {
-    let words = format!(in alloc; "refused {fault} ({why})")?;
+    let words = format!(in alloc; "refused {fault}")?;
     add_line(words.as_bytes(), text)
 }
 
@@ -289,7 +284,7 @@ pub(crate) fn add_outcome(
     ensures { OnOk result (Adds text.old.items text.new.items (IsOutcome refused why before.facts before.copies world.now)) }
 {
     if let Some(fault) = refused {
-        add_refused(alloc, fault.number(), ask_fault_words(fault), text)?;
+        add_refused(alloc, fault.number(), text)?;
         return Ok(());
     }
     if is_as_before(world, before) {

@@ -6,9 +6,9 @@ use Rattle.bac_commands.proofs.serving.serve_logged.Goals as goal
 
 pub returns-clause-logged : goal.returns-clause-logged
 returns-clause-logged g c whole =
-    let from : Log = record { manner = c.args.command.now.manner; whole = true; tally = NONE_AWAY; text = g.E.Write.contents c.args.err.now } in
+    let from : Log = record { serves_from = c.args.command.now.serves_from; whole = true; tally = NONE_AWAY; text = g.E.Write.contents c.args.err.now } in
     let to : Log = record {
-      manner = c.serve-status.new.watch.manner;
+      serves_from = c.serve-status.new.watch.serves_from;
       whole = c.serve-status.new.watch.whole;
       tally = c.serve-status.new.watch.tally;
       text = g.E.Write.contents c.serve-status.new.err;

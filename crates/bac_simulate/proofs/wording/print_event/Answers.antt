@@ -16,12 +16,12 @@ returns-in-Ok g c =
 pub returns-in-Some : goal.returns-in-Some
 returns-in-Some g c =
     let told = c.in-Err.ensures in
-    refusal_told c.args.line c.args.event.now c.in-Err.fault c.in-Some.why c.args.world.now c.step.new.self c.ms_now.result c.number.result _ _ _ _ _
-    (sym c.change_fault_in.ensures ∙ c.in-Some.is) told.change told.err c.ms_now.ensures c.number.ensures c.change_fault_words.ensures c.in_ok-text.ensures
+    refusal_told c.args.line c.args.event.now c.in-Err.fault c.in-Some.why c.args.world.now c.step.new.self c.ms_now.result c.number.result _ _ _ _
+    (sym c.change_fault_in.ensures ∙ c.in-Some.is) told.change told.err c.ms_now.ensures c.number.ensures c.in_ok-text.ensures
     c.in_ok-add_refused-in-Some.ensures (written _ _ _ _ c.in_ok-write_all-in-Some.ensures.bytes c.as_slice-in-Some.ensures.value)
 
 pub returns : goal.returns
 returns g c =
     let told = c.in-Err.ensures in
     fault_told c.args.line c.args.event.now c.in-Err.fault c.args.world.now c.step.new.self _ _ _ (sym c.change_fault_in.ensures ∙ c.in-None.is)
-    told.node told.datagram told.link told.clock told.change told.memory told.err c.number-in-None.ensures c.in_ok-print_fault_words-in-None.ensures
+    told.node told.datagram told.link told.clock told.change told.memory told.err c.number-in-None.ensures c.in_ok-print_fault-in-None.ensures
