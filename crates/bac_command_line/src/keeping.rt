@@ -188,8 +188,7 @@ fn serve_round<M: Machine, K: Keeper, O: Write, E: Write>(
         clock: timer,
         round,
     };
-    let serving = serving.beginning_at(start, machine.time_of_day());
-    serve_kept_from(alloc, &serving, start, &mut server, out, err)
+    serve_kept_from(alloc, serving, start, &mut server, out, err)
 }
 
 /// A node serves with the store that a database, which may be new, makes over a document.

@@ -119,8 +119,7 @@ pub(crate) fn serve<M: Machine, O: Write, E: Write>(
         bound_node,
         clock: timer,
     };
-    let serving = serving.beginning_at(start, machine.time_of_day());
-    serve_from(&serving, start, &mut station, out, err)
+    serve_from(serving, start, &mut station, out, err)
 }
 
 /// The question for a peer that some words are.

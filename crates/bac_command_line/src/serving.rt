@@ -13,8 +13,7 @@ ghost use Rattle.bac_command_line.specs.Serving.{is_reusing, patience_of, restar
 use crate::address::{BACNET_PORT, EVERY_HOST, LOCAL_HOST, read_host};
 use crate::station::Station;
 use bac_commands::{
-    KeptServer, LevelLog, LogForm, LogLevel, LogManner, OctetStyle, ServeCommand, link_fault,
-    serve_kept_logged,
+    KeptServer, LevelLog, LogLevel, OctetStyle, ServeCommand, link_fault, serve_kept_logged,
 };
 use bac_driver::{BoundNode, Clock, Link, NoObserver, RunLimit, WaitLimit};
 use bac_keep::Keeper;
@@ -56,10 +55,6 @@ pub(crate) struct Serving {
     pub memory: usize,
     /// Whether its turns are logged, all of them.
     pub log: bool,
-    /// Whether the log has an object of JSON a line.
-    pub json: bool,
-    /// The time of day at moment 0 of its clock, in milliseconds since 1970 began in UTC, where the log has objects and it is known.
-    pub epoch: Option<u64>,
     /// Which of its turns are logged, with long octets by their first ones.
     pub level: Option<LogLevel>,
     /// Whether it follows its document.
@@ -119,30 +114,6 @@ impl Serving {
         match self.reuse {
             Reuse::Never => bound_node.set_reuse(false),
             Reuse::Remembering(remember) => bound_node.set_remember(remember),
-        }
-    }
-
-    /// The same, beside a clock that showed that moment at this time of day, both in milliseconds.
-    pub(crate) fn beginning_at(&self, start: u64, time: Option<u64>) -> Serving
-        ensures { result ≡ record self.now { epoch = result.epoch } }
-    {
-        let epoch = match time {
-            Some(time) => Some(time.saturating_sub(start)),
-            None => None,
-        };
-        Serving { epoch, ..*self }
-    }
-
-    /// How its log is written, where it begins at that moment.
-    fn manner(&self, start: u64) -> LogManner {
-        let form = if self.json {
-            LogForm::Objects { epoch: self.epoch }
-        } else {
-            LogForm::Lines
-        };
-        LogManner {
-            form,
-            serves_from: self.serves_from(start),
         }
     }
 
@@ -244,7 +215,7 @@ pub(crate) fn serve_from<L: Link, C: Clock, O: Write, E: Write>(
     }
     let command = ServeCommand {
         limit,
-        manner: serving.manner(start),
+        serves_from: serving.serves_from(start),
     };
     let logged = bac_commands::serve_logged(
         station.alloc,
@@ -295,7 +266,7 @@ pub(crate) fn serve_kept_from<L: Link, C: Clock, K: Keeper, O: Write, E: Write>(
     }
     let command = ServeCommand {
         limit,
-        manner: serving.manner(start),
+        serves_from: serving.serves_from(start),
     };
     let logged = serve_kept_logged(alloc, server, &command, out, err);
     if !logged.whole {
@@ -404,8 +375,6 @@ pub(crate) fn serving_of(given: &ArgMatches<'_>) -> Option<Serving> {
         reuse: reuse_of(is_reusing, given.get_one("remember")),
         memory: memory_of(given)?,
         log: given.get_flag("log"),
-        json: given.get_flag("json"),
-        epoch: None,
         level: level_of(given.get_str("log-level").unwrap_or("")),
         follow: given.get_flag("follow"),
         until_eof: given.get_flag("until-eof"),

@@ -313,13 +313,6 @@ const SIMULATE: &[Word] = &[
         against: &["chart", "mermaid", "pcap"],
         help: "Prints each event with its moment and what it did, or why it did nothing",
     },
-    Word {
-        name: "json",
-        form: WordForm::Flag,
-        need: Need::Never,
-        against: &["chart", "mermaid", "pcap", "text"],
-        help: "Prints what came of each event as objects of JSON, one a line",
-    },
 ];
 
 /// Examples for `serve`.
@@ -425,13 +418,6 @@ const SERVE: &[Word] = &[
         help: "Logs each datagram that arrives, and what was done for it, on standard error",
     },
     Word {
-        name: "json",
-        form: WordForm::Flag,
-        need: Need::Beside("log"),
-        against: &[],
-        help: "The log has an object of JSON a line",
-    },
-    Word {
         name: "log-level",
         form: WordForm::Choice("LEVEL", &["changes", "requests", "all"]),
         need: Need::Never,
@@ -442,14 +428,14 @@ const SERVE: &[Word] = &[
         name: "follow",
         form: WordForm::Flag,
         need: Need::Beside("objects"),
-        against: &["keep", "turns", "json"],
+        against: &["keep", "turns"],
         help: "Reads the document of --objects again when it changes, at most once a second, and gives the objects the values that it changed; what clients wrote elsewhere stays",
     },
     Word {
         name: "until-eof",
         form: WordForm::Flag,
         need: Need::Never,
-        against: &["keep", "turns", "json"],
+        against: &["keep", "turns"],
         help: "Ends when standard input ends, within a second",
     },
 ];
