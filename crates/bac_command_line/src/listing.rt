@@ -7,7 +7,7 @@ use crate::keeping::{open_kept, print_not_kept};
 use crate::online::Machine;
 use crate::part_words::part_words;
 use bac_keep::{Cell, Part, kept_cells};
-use bac_log_json::{KeptPart, print_cell_object};
+use bac_keep_json::{KeptPart, print_cell_object};
 use bac_text::{Status, output_failed};
 use bac_value::{NoMemory, ObjectIdentifier, read_data};
 use bac_value_text::data_text;

@@ -1,8 +1,9 @@
-use Rattle.std.proofs.Common.{rules, ◌≡◌, IfOk, string_bytes, ℕ, ◌+◌, ◌-◌, ◌*◌, ◌<◌, ◌≤◌, length, ◌/◌, ◌%◌, Bool, true, false, nat_eq, nat_lt, List, [], ◌∷◌, ◌++◌, slice_index_or, slice_set, bit_and, bit_or, Fits, w8, w32, w64, Bor, MutBor}
-use Rattle.bac_explain.specs.KeyViews.{key_view}
-use Rattle.bac_explain_html.specs.Pictures.{IsAskedText, acknowledgement_words, arrow, arrow_front, arrows, heading, is_by_client, mark, numbered, role_words, IsPicture}
+-- The line of a frame, with its moment and what it was.
+use Rattle.std.proofs.Common.{string_bytes}
+use Rattle.bac_explain_html.proofs.Told.{arrow_told, if_ok}
 use Rattle.bac_explain_html.proofs.picture.arrow.Goals as goal
 
--- src/picture.rt:85:1
 pub returns : goal.returns
-returns c = ?
+returns c = if_ok c.format.result _ _
+    (λ t is. arrow_told c.args.asked c.args.step (string_bytes t) _ _ _ _ c.arrow_front-front.ensures c.in_ok-words.ensures c.in_ok-mark.ensures
+    c.saturating_sub-after.ensures is) c.format.ensures.ok

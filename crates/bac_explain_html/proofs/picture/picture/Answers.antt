@@ -1,8 +1,11 @@
-use Rattle.std.proofs.Common.{rules, ◌≡◌, IfOk, string_bytes, ℕ, ◌+◌, ◌-◌, ◌*◌, ◌<◌, ◌≤◌, length, ◌/◌, ◌%◌, Bool, true, false, nat_eq, nat_lt, List, [], ◌∷◌, ◌++◌, slice_index_or, slice_set, bit_and, bit_or, Fits, w8, w32, w64, Bor, MutBor}
+-- When it was asked, the names, and all arrows.
+use Rattle.std.proofs.Common.{◌≡◌, ◌++◌, codes, rules, string_bytes}
 use Rattle.bac_explain.specs.KeyViews.{key_view}
-use Rattle.bac_explain_html.specs.Pictures.{IsAskedText, acknowledgement_words, arrow, arrow_front, arrows, heading, is_by_client, mark, numbered, role_words, IsPicture}
+use Rattle.bac_explain_html.proofs.Told.{picture_told}
 use Rattle.bac_explain_html.proofs.picture.picture.Goals as goal
 
--- src/picture.rt:131:1
 pub returns : goal.returns
-returns c = ?
+returns c =
+    let is : c.extend_from_slice-2.new.self.items ≡ (string_bytes c.in_ok-front.front ++ c.in_ok-arrows.arrows.items) ++ codes "</details>" = search rules in
+    picture_told (key_view c.args.key) c.args.asked c.args.steps.now c.extend_from_slice-2.new.self.items (string_bytes c.in_ok-front.front) _ _ _ c.in_ok-when.ensures
+    c.in_ok-heading.ensures c.in_ok-arrows.ensures c.in_ok-front.ensures.ok is

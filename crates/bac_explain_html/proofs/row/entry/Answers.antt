@@ -1,12 +1,12 @@
-use Rattle.std.proofs.Common.{rules, ◌≡◌, IfOk, string_bytes, ℕ, ◌+◌, ◌-◌, ◌*◌, ◌<◌, ◌≤◌, length, ◌/◌, ◌%◌, Bool, true, false, nat_eq, nat_lt, List, [], ◌∷◌, ◌++◌, slice_index_or, slice_set, bit_and, bit_or, Fits, w8, w32, w64, Bor, MutBor}
-use Rattle.std.specs.Option.{option_map}
+-- A row, and one with its picture.
+use Rattle.std.proofs.Common.{◌≡◌, ◌++◌, codes, rules, string_bytes}
 use Rattle.bac_explain.specs.Closings.{closed_view}
-use Rattle.bac_explain.specs.KeyViews.{key_view}
-use Rattle.bac_explain.specs.SentViews.{sent_view}
-use Rattle.bac_explain.specs.Views.{transaction_view}
-use Rattle.bac_explain_html.specs.Rows.{AreWordCells, IsAnswerCell, IsAskedCell, IsEntry, after_text, end_cells, entry_front, findings_cell, key_cells, listed, row_end}
+use Rattle.bac_explain_html.proofs.Told.{entry_told}
 use Rattle.bac_explain_html.proofs.row.entry.Goals as goal
 
--- src/row.rt:125:1
 pub returns : goal.returns
-returns c = ?
+returns c =
+    let is : c.extend_from_slice-6.new.self.items ≡ (((((c.entry_front.result.now ++ string_bytes c.in_ok-key.key) ++ c.in_ok-words.words.items)
+        ++ c.in_ok-end.end.items) ++ codes "</tr><tr class=\"p\"><td colspan=\"9\">") ++ c.in_ok-picture.picture.items) ++ codes "</td></tr></tbody>\n" = search rules in
+    entry_told (closed_view c.args.closed.now) c.extend_from_slice-6.new.self.items c.entry_front.result.now (string_bytes c.in_ok-key.key) c.in_ok-words.words.items
+    c.in_ok-end.end.items c.in_ok-picture.picture.items c.entry_front.ensures c.in_ok-key.ensures c.in_ok-words.ensures c.in_ok-end.ensures c.in_ok-picture.ensures is

@@ -2,7 +2,7 @@
 ghost use Rattle.std.specs.Prelude.{◌≡◌, IfOk, OnOk};
 ghost use Rattle.bac_json.specs.Forms.{object_form};
 ghost use Rattle.bac_json_report.specs.Lines.{IsLineOf};
-ghost use Rattle.bac_log_json.specs.Cells.{AreKeptValues, File, IsCellForm, Values, cell_form, part_view};
+ghost use Rattle.bac_keep_json.specs.Cells.{AreKeptValues, File, IsCellForm, Values, cell_form, part_view};
 ghost use Rattle.bac_text.specs.Texts.{AppendsText};
 ghost use Rattle.bac_value.specs.Views.{object_identifier_view};
 ghost use Rattle.serde_json.specs.View.{view};

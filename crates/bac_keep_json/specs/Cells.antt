@@ -6,8 +6,8 @@ use Rattle.bac_value.specs.Data.{IsDataFront}
 use Rattle.bac_value.specs.Value.{ObjectId}
 use Rattle.bac_value.specs.Views.{object_identifier_view}
 use Rattle.serde_json.specs.Data.{Data, Items, array, member, no_members, null, number, object, unsigned}
-use Rattle.bac_log_json.specs.declared.cell.KeptPart as code
-use Rattle.bac_log_json.specs.declared.cell.KeptPart.TheVariants as part
+use Rattle.bac_keep_json.specs.declared.cell.KeptPart as code
+use Rattle.bac_keep_json.specs.declared.cell.KeptPart.TheVariants as part
 
 pub data KeptPart : Type 0 where
   Values : ObjectId → (property : ℕ) → (octets : List ℕ) → KeptPart

@@ -1,5 +1,0 @@
-pub mod Cells
-pub mod Logs
-pub mod LogMembers
-pub mod Events
-pub mod EventMembers
