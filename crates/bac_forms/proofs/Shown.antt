@@ -1,6 +1,7 @@
 -- Datagrams that were printed, one after the other.
 use Rattle.std.proofs.Common.{◌≡◌, ◌+◌, ℕ, length, Bool, true, false, ◌&&◌, List, [], ◌∷◌, ◌++◌, Option, Result, Ok, Err, IfOk, refl, sym, subst, arith}
 use Rattle.std.proofs.Common.{append_assoc, append-nil}
+use Rattle.std.specs.Global.{Vec}
 use Rattle.std.specs.Io.KnownBytes.{Appends, Keeps}
 use Rattle.std.proofs.KnownBytes.{Appends-nil, Appends-trans, Appends-kept}
 use Rattle.bac_service_text.proofs.Appending.{both, line_is}
@@ -8,7 +9,6 @@ use Rattle.bac_text.specs.DecodedLines.{IsDatagramText}
 use Rattle.bac_text.specs.Outcome.{IsPrinted, shown_status}
 use Rattle.bac_text.specs.Texts.{AppendsText, Is}
 use Rattle.bac_forms.specs.Decoded.{AreAllShown, AreDatagramTexts, IsNumberedText, number_line}
-use Rattle.std.specs.Global.{Vec}
 use Rattle.bac_forms.specs.Reading.{octets_of}
 use Rattle.bac_forms.specs.declared.decode.Printing.{Printing}
 
