@@ -1,6 +1,7 @@
 -- Datagrams that were printed, one after the other.
-use Rattle.std.proofs.Common.{◌≡◌, ◌+◌, ℕ, Bool, true, false, ◌&&◌, List, [], ◌∷◌, ◌++◌, Option, refl, sym, subst}
+use Rattle.std.proofs.Common.{◌≡◌, ◌+◌, ℕ, length, Bool, true, false, ◌&&◌, List, [], ◌∷◌, ◌++◌, Option, Result, Ok, Err, IfOk, refl, sym, subst, arith}
 use Rattle.std.proofs.Common.{append_assoc, append-nil}
+use Rattle.std.specs.Global.{Vec}
 use Rattle.std.specs.Io.KnownBytes.{Appends, Keeps}
 use Rattle.std.proofs.KnownBytes.{Appends-nil, Appends-trans, Appends-kept}
 use Rattle.bac_service_text.proofs.Appending.{both, line_is}
@@ -8,6 +9,7 @@ use Rattle.bac_text.specs.DecodedLines.{IsDatagramText}
 use Rattle.bac_text.specs.Outcome.{IsPrinted, shown_status}
 use Rattle.bac_text.specs.Texts.{AppendsText, Is}
 use Rattle.bac_forms.specs.Decoded.{AreAllShown, AreDatagramTexts, IsNumberedText, number_line}
+use Rattle.bac_forms.specs.Reading.{octets_of}
 use Rattle.bac_forms.specs.declared.decode.Printing.{Printing}
 
 and_assoc : (a b c : Bool) → (a && b) && c ≡ a && (b && c)
@@ -30,6 +32,13 @@ pub numbered_text : (p : Printing) (number : ℕ) (fine : Bool) (datagram : List
 numbered_text p number fine datagram a b c line told =
     both a b c (Is (number_line p.numbered number)) (IsDatagramText p.in_words fine datagram) (line_is a b (number_line p.numbered number) line)
     (datagram_text p.in_words fine datagram b c told)
+
+-- the same as what the call returned says it
+pub numbered_at : {E : Type 0} (p : Printing) (number : ℕ) (datagram : List ℕ) (r : Result Bool E) (a b c : Option (List ℕ))
+    → Appends a b (number_line p.numbered number) → IfOk r (λ fine. IsPrinted p.in_words fine datagram b c)
+    → IfOk r (λ fine. AppendsText a c (IsNumberedText p number datagram fine))
+numbered_at p number datagram (Ok fine) a b c line told = numbered_text p number fine datagram a b c line told
+numbered_at p number datagram (Err error) a b c line told = told
 
 -- some were printed, and the others stand before
 pub record IsFrontShown (p : Printing) (all rest : List (List ℕ)) (number : ℕ) (fine : Bool) (old new : Option (List ℕ)) : Type 0 where
@@ -68,6 +77,24 @@ all_shown p all number fine a b front =
     subst (λ (t : List ℕ). AreDatagramTexts p 1 all fine t) (append-nil front.text)
     (subst (λ (f : Bool). AreDatagramTexts p 1 all f (front.text ++ [])) (and_true fine) (front.told true [] (refl, refl))) in
     (front.text, (texts, front.printed))
+
+-- ---- the same of the octets of vectors
+
+pub vectors_step : (p : Printing) (datagrams rest : List (Vec ℕ)) (datagram : Vec ℕ) (others : List (Vec ℕ)) (octets : List ℕ) (number : ℕ)
+    (fine here both_fine : Bool) (a b c : Option (List ℕ)) → IsFrontShown p (octets_of datagrams) (octets_of rest) number fine a b
+    → rest ≡ datagram ∷ others → octets ≡ datagram.items → AppendsText b c (IsNumberedText p number octets here) → both_fine ≡ fine && here
+    → IsFrontShown p (octets_of datagrams) (octets_of others) (number + 1) both_fine a c
+vectors_step p datagrams rest datagram others octets number fine here both_fine a b c front is octets_are line all =
+    let started = subst (λ (l : List (Vec ℕ)). IsFrontShown p (octets_of datagrams) (octets_of l) number fine a b) is front in
+    let shown = subst (λ (o : List ℕ). AppendsText b c (IsNumberedText p number o here)) octets_are line in
+    subst (λ (f : Bool). IsFrontShown p (octets_of datagrams) (octets_of others) (number + 1) f a c) (sym all)
+    (one_more p (octets_of datagrams) datagram.items (octets_of others) number fine here a b c started shown)
+
+pub vectors_shown : (p : Printing) (datagrams rest : List (Vec ℕ)) (number : ℕ) (fine : Bool) (a b : Option (List ℕ))
+    → IsFrontShown p (octets_of datagrams) (octets_of rest) number fine a b → length rest ≡ 0
+    → AppendsText a b (AreDatagramTexts p 1 (octets_of datagrams) fine)
+vectors_shown p datagrams [] number fine a b front none = all_shown p (octets_of datagrams) number fine a b front
+vectors_shown p datagrams (datagram ∷ rest) number fine a b front none = search (arith, none)
 
 -- and then flushed
 pub flushed : (p : Printing) (datagrams : List (List ℕ)) (fine : Bool) (a b c : Option (List ℕ)) → AppendsText a b (AreDatagramTexts p 1 datagrams fine)

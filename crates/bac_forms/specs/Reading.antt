@@ -1,5 +1,5 @@
 -- What reading a text gives.
-use Rattle.std.specs.Prelude.{◌≡◌, ℕ, ◌≤◌, List, map, take, ⊤, Result, Err}
+use Rattle.std.specs.Prelude.{◌≡◌, ℕ, ◌≤◌, List, map, take, ⊤, Option, Result, Err}
 use Rattle.std.specs.Global.{Vec}
 use Rattle.std.specs.List.{slice_get}
 use Rattle.bac_forms.specs.declared.fault.FormFault.{FormFault}
