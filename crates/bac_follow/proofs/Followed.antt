@@ -1,5 +1,5 @@
 -- Changes that are the news of a document, and make of its old store its new one, make of any store what follows the document.
-use Rattle.std.proofs.Common.{◌≡◌, ◌⊎◌, inl, inr, ℕ, suc, zero, ◌<◌, ◌≤◌, ◌==◌, ◌&&◌, Bool, true, false, List, [], ◌∷◌, map, length, Option, Some, None, refl, sym, ap, ◌∙◌}
+use Rattle.std.proofs.Common.{◌≡◌, ◌⊎◌, inl, inr, ℕ, ◌==◌, ◌&&◌, Bool, true, false, List, [], ◌∷◌, map, Option, Some, None, refl, sym, ap, ◌∙◌}
 use Rattle.std.proofs.Common.{subst, arith, if◌then◌else◌}
 use Rattle.std.specs.Prelude.{nat_eq}
 use Rattle.std.specs.List.{All}
@@ -10,10 +10,10 @@ use Rattle.std.proofs.lemmas.List.Elements.{All-head, All-tail}
 use mathlib.Core.List.{map-map}
 use Rattle.bac_value.specs.Value.{ObjectId}
 use Rattle.bac_store.specs.AtNode.{Change, changed}
-use Rattle.bac_store.specs.Changes.{with_contents, with_object, with_octets, with_own_values, with_values}
+use Rattle.bac_store.specs.Changes.{with_contents, with_octets, with_own_values, with_values}
 use Rattle.bac_store.specs.Replies.{file_of}
 use Rattle.bac_store.specs.Stores.{File, Object, Property, Store, first_that, is_number, is_object, is_same, listed_in, object_in}
-use Rattle.bac_store.specs.Writes.{file_at, listed_at, listed_of}
+use Rattle.bac_store.specs.Writes.{listed_of}
 use Rattle.bac_store.proofs.OrderLaws.{first_that-map}
 use Rattle.bac_follow.specs.Following.{IsNews, contents_in_place, file_followed, followed, in_place, made, news, object_followed, octets_at, property_followed, values_at}
 
