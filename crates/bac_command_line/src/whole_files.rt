@@ -11,7 +11,7 @@ use crate::objects::octets_of;
 use crate::online::Machine;
 use crate::peer_file::{Asked, PeerFile};
 use crate::reasons::print_unwritten;
-use crate::recording::{print_ask, print_header};
+use crate::recording::{NO_LINE, print_ask, print_header};
 use crate::whole_reading::{Got, read_whole, whole_end};
 use crate::whole_writing::{Put, size_of, write_whole, written_end};
 use bac_commands::Style;
@@ -41,9 +41,9 @@ fn print_asked<M: Machine, O: Write, E: Write>(
     ensures told { IfErr result IsStop }
 {
     let alloc = client.station.alloc;
-    print_header(alloc, asking.records, out, err)?;
+    print_header(alloc, asking, out, err)?;
     let printer = client.printer(asking);
-    print_ask(&printer, None, &asked.question, &asked.end, out, err)
+    print_ask(&printer, NO_LINE, &asked.question, &asked.end, out, err)
 }
 
 /// Writes octets to a file, and says how many. Where they cannot be written, `err` and the status say so.

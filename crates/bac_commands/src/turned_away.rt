@@ -20,7 +20,7 @@ const PAUSE: u64 = 1_000;
 
 /// Whether an APDU is an Abort of reason 0.
 fn is_refusal(apdu: Option<Apdu<'_>>) -> bool
-    ensures { result ≡ is_refusal (option_map apdu_view apdu) }
+    ensures { result ≡ is_refusal (option_map apdu_view apdu.entry) }
 {
     match apdu {
         Some(Apdu::Abort { reason, .. }) => reason == 0,
