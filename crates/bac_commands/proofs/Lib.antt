@@ -8,3 +8,4 @@ pub mod Reported
 pub mod Logging
 pub mod Unwatched
 pub mod FreshClients
+mod FullTables

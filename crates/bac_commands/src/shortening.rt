@@ -1,4 +1,6 @@
 //! Lines in which long octets are shown by their first ones.
+ghost use Rattle.std.specs.Prelude.{◌≤◌, length};
+
 use std::alloc::{AllocError, Global};
 
 /// How many digits of octets are shown at most: those of 32 octets.
@@ -10,7 +12,9 @@ fn is_digit(octet: u8) -> bool {
 }
 
 /// How many digits stand first.
-fn digits_in(text: &[u8]) -> usize {
+fn digits_in(text: &[u8]) -> usize
+    ensures { result ≤ length text.now }
+{
     match text.iter().position(|octet| !is_digit(*octet)) {
         Some(count) => count,
         None => text.len(),
@@ -24,7 +28,8 @@ fn add_digits(alloc: Global, digits: &[u8], short: &mut Vec<u8>) -> Result<(), A
     }
     let octets = digits.len() / 2;
     let more = format!(in alloc; ".. ({octets} octets)")?;
-    short.extend_from_slice(&digits[..MOST_DIGITS])?;
+    let first = &digits[..MOST_DIGITS.min(digits.len())];
+    short.extend_from_slice(first)?;
     short.extend_from_slice(more.as_bytes())
 }
 
