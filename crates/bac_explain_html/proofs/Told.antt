@@ -1,5 +1,5 @@
 -- Texts from their parts.
-use Rattle.std.proofs.Common.{◌≡◌, ◌∙◌, ◌++◌, ◌-◌, ℕ, List, codes, decimal, IfOk, Result, Ok, Err}
+use Rattle.std.proofs.Common.{◌≡◌, subst, ◌∙◌, ◌++◌, ◌-◌, ℕ, List, codes, decimal, IfOk, Result, Ok, Err}
 use Rattle.bac_explain.specs.declared.step.Step.{Step}
 use Rattle.bac_explain.specs.Keys.{Key}
 use Rattle.bac_explain.specs.Tables.{ClosedView}
@@ -35,14 +35,19 @@ picture_told k asked steps text front when head all is_when ph pa pf is = record
       ∙ (λ i. ((codes "<details><summary>asked " ++ (when ++ (codes "</summary>\n" ++ ph i))) ++ arrows asked steps) ++ codes "</details>");
 }
 
-pub entry_told : (c : ClosedView) (text front key words end picture : List ℕ) → front ≡ entry_front c.transaction → key ≡ key_cells c.key
-    → AreWordCells c.transaction words → end ≡ row_end c.transaction → IsPicture c.key c.transaction.request.moment c.transaction.steps picture
+-- a text with a part added to it, each by another that equals it
+pub added : (longer text part text' part' : List ℕ) → longer ≡ text ++ part → text ≡ text' → part ≡ part' → longer ≡ text' ++ part'
+added longer text part text' part' is pt pp = is ∙ (λ i. pt i ++ pp i)
+
+pub entry_told : (c : ClosedView) (text front key words end picture : List ℕ) (steps : List Step) → front ≡ entry_front c.transaction → key ≡ key_cells c.key
+    → AreWordCells c.transaction words → end ≡ row_end c.transaction → steps ≡ c.transaction.steps
+    → IsPicture c.key c.transaction.request.moment steps picture
     → text ≡ (((((front ++ key) ++ words) ++ end) ++ codes "</tr><tr class=\"p\"><td colspan=\"9\">") ++ picture) ++ codes "</td></tr></tbody>\n"
     → IsEntry c text
-entry_told c text front key words end picture pf pk are pe is_picture is = record {
+entry_told c text front key words end picture steps pf pk are pe ps is_picture is = record {
   words = words;
   are = are;
   picture = picture;
-  is_picture = is_picture;
+  is_picture = subst (λ (s : List Step). IsPicture c.key c.transaction.request.moment s picture) ps is_picture;
   is = is ∙ (λ i. (((((pf i ++ pk i) ++ words) ++ pe i) ++ codes "</tr><tr class=\"p\"><td colspan=\"9\">") ++ picture) ++ codes "</td></tr></tbody>\n");
 }

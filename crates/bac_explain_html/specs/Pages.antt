@@ -1,5 +1,5 @@
 -- What `bac explain --html` prints of a capture file: a page with a row and a picture for each printed transaction.
-use Rattle.std.specs.Prelude.{◌≡◌, ℕ, List, [], ◌++◌, codes, decimal, Option, Some, None}
+use Rattle.std.specs.Prelude.{◌≡◌, ℕ, List, [], ◌++◌, codes, decimal, Option}
 use Rattle.bac_explain_report.specs.Accounts.{FrameReportView, HearingView}
 use Rattle.bac_explain_report.specs.Accounts.FrameReportView.{NothingReported, UnreadReported, HeardReported}
 use Rattle.bac_explain_report.specs.Explained.{slowest_text}

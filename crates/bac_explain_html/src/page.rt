@@ -123,7 +123,6 @@ fn count(alloc: Global, name: &str, value: u64) -> Result<String, AllocError>
 }
 
 /// How many transactions there are, and how they ended.
-#[tactic(auto, using(crate::proofs::Told::five_told))]
 fn endings(alloc: Global, tally: Tally) -> Result<String, AllocError>
     ensures { IfOk result (λ t. string_bytes t ≡ endings tally) }
 {
@@ -146,7 +145,6 @@ fn slowest(alloc: Global, slowest: Option<u64>) -> Result<String, AllocError>
 }
 
 /// The slowest answer, and the numbers of findings, frames, unread frames and printed transactions.
-#[tactic(auto, using(crate::proofs::Told::five_told))]
 fn others(alloc: Global, tally: Tally) -> Result<String, AllocError>
     ensures { IfOk result (λ t. string_bytes t ≡ others tally) }
 {

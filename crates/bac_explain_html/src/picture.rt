@@ -82,7 +82,6 @@ fn mark(alloc: Global, finding: Option<Finding>) -> Result<String, AllocError>
 }
 
 /// The arrow of a frame, with its moment after the request.
-#[tactic(auto, using(crate::proofs::Told::arrow_told))]
 fn arrow(alloc: Global, asked: u64, step: Step) -> Result<String, AllocError>
     ensures { IfOk result (λ t. string_bytes t ≡ arrow asked step) }
 {
@@ -128,7 +127,6 @@ fn asked_text(alloc: Global, asked: u64) -> Result<String, AllocError>
 }
 
 /// The picture of a transaction whose request was first seen at this moment.
-#[tactic(auto, using(crate::proofs::Told::picture_told))]
 pub(crate) fn picture(
     alloc: Global,
     key: TransactionKey,

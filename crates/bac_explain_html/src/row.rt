@@ -122,7 +122,6 @@ fn entry_front(transaction: &Transaction) -> &'static str
 }
 
 /// The row of a transaction, and one with its picture.
-#[tactic(auto, using(crate::proofs::Told::entry_told))]
 pub(crate) fn entry(alloc: Global, closed: &Closed) -> Result<Vec<u8>, NoMemory>
     ensures { IfOk result (λ t. IsEntry (closed_view closed.now) t.items) }
 {
