@@ -294,14 +294,17 @@ fn backup_in<'e, F: OpenFiles, M: Machine, E: Write>(
 pub(crate) fn back_up<F: OpenFiles, M: Machine, O: Write, E: Write>(
     environment: &Environment<'_, F, M>,
     task: &FileTask,
-    words: &[&str],
+    words: Option<&[&str]>,
     path: &str,
     out: &mut O,
     err: &mut E,
 ) -> Result<bool, Status>
     ensures told { IfErr result IsStop }
 {
-    let named = objects_in(environment.alloc, words, err)?;
+    let named = match words {
+        Some(words) => objects_in(environment.alloc, words, err)?,
+        None => Vec::new(environment.alloc),
+    };
     let mut backup = backup_in(environment, task, path, err)?;
     if !named.is_empty() {
         return backup.save_all(&named, out, err);

@@ -29,7 +29,7 @@ pub(crate) enum FileWork<'m, 'a> {
     },
     /// Those, or without any all that the peer lists, are saved in a folder.
     BackUp {
-        objects: &'m [&'a str],
+        objects: Option<&'m [&'a str]>,
         folder: &'a str,
     },
     /// Those of a folder are written back.
@@ -93,10 +93,9 @@ pub(crate) fn file_task_of(given: &ArgMatches<'_>, shows_progress: bool) -> Opti
 
 /// What is saved, behind `backup`.
 pub(crate) fn backup_of<'m, 'a>(given: &'m ArgMatches<'a>) -> Option<FileWork<'m, 'a>> {
-    Some(FileWork::BackUp {
-        objects: given.get_strs("OBJECTS").unwrap_or(&[]),
-        folder: given.get_str("folder")?,
-    })
+    let folder = given.get_str("folder")?;
+    let objects = given.get_strs("OBJECTS");
+    Some(FileWork::BackUp { objects, folder })
 }
 
 /// The status of what was done, with a fault or without, or of what stopped it.

@@ -86,10 +86,13 @@ const ONE_HOST: &str =
 /// The text behind `--at` that is no address, or all of them, and the form that is wanted.
 fn bad_host<'a>(given: &ArgMatches<'a>) -> Option<(&'a str, &'static str)> {
     let at = given.get_str("at")?;
-    match read_host(at) {
-        Some(EVERY_HOST) => Some((at, ONE_HOST)),
-        Some(_) => None,
-        None => Some((at, "A.B.C.D")),
+    let Some(host) = read_host(at) else {
+        return Some((at, "A.B.C.D"));
+    };
+    if host == EVERY_HOST {
+        Some((at, ONE_HOST))
+    } else {
+        None
     }
 }
 

@@ -77,8 +77,9 @@ fn print_whole<M: Machine, O: Write, E: Write>(
 ) -> Result<bool, Status>
     ensures told { IfErr result IsStop }
 {
-    let question = got.last.question;
-    match whole_end(got.octets) {
+    let Got { octets, last, .. } = got;
+    let Asked { question, .. } = last;
+    match whole_end(octets) {
         Some(end) => print_asked(asking, client, &Asked { question, end }, out, err),
         None => Err(no_memory(err)),
     }
