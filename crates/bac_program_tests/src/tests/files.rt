@@ -411,31 +411,6 @@ line 7: fault 2
         ),
     ),
     (
-        "nodes 2\nask 0 1 append 10:1 AABBCC\ndeliver 0\nlose 1\nadvance 5\nask 0 0 read 0:5 85\ndeliver 9\n",
-        "simulate --json capture",
-        (
-            "{\"ask\":0,\"fault\":null,\"from\":null,\"id\":0,\"line\":null,\"moment\":0,\"node\":null,\"number\":null,\"octets\":null,\"pace\":null,\"peer\":null,\"text\":null,\"to\":null,\"type\":\"asked\"}\n\
-             {\"ask\":null,\"fault\":null,\"from\":0,\"id\":null,\"line\":null,\"moment\":0,\"node\":null,\"number\":0,\"octets\":\"810A0017010402750007C4028000010E31FF63AABBCC0F\",\"pace\":null,\"peer\":null,\"text\":null,\"to\":1,\"type\":\"sent\"}\n\
-             {\"ask\":0,\"fault\":null,\"from\":null,\"id\":null,\"line\":null,\"moment\":0,\"node\":null,\"number\":null,\"octets\":null,\"pace\":null,\"peer\":null,\"text\":\"answered position 2\",\"to\":null,\"type\":\"performed\"}\n\
-             {\"ask\":null,\"fault\":null,\"from\":1,\"id\":null,\"line\":null,\"moment\":0,\"node\":null,\"number\":1,\"octets\":\"810A000B01003000070902\",\"pace\":null,\"peer\":null,\"text\":null,\"to\":0,\"type\":\"sent\"}\n\
-             {\"ask\":null,\"fault\":null,\"from\":null,\"id\":null,\"line\":null,\"moment\":0,\"node\":null,\"number\":1,\"octets\":null,\"pace\":null,\"peer\":null,\"text\":null,\"to\":null,\"type\":\"lost\"}\n\
-             {\"ask\":null,\"fault\":null,\"from\":null,\"id\":null,\"line\":null,\"moment\":5,\"node\":null,\"number\":null,\"octets\":null,\"pace\":null,\"peer\":null,\"text\":null,\"to\":null,\"type\":\"nothing\"}\n\
-             {\"ask\":null,\"fault\":5,\"from\":null,\"id\":null,\"line\":null,\"moment\":5,\"node\":null,\"number\":null,\"octets\":null,\"pace\":null,\"peer\":null,\"text\":null,\"to\":null,\"type\":\"refused\"}\n\
-             {\"ask\":null,\"fault\":2,\"from\":null,\"id\":null,\"line\":7,\"moment\":null,\"node\":null,\"number\":null,\"octets\":null,\"pace\":null,\"peer\":null,\"text\":null,\"to\":null,\"type\":\"fault\"}\n",
-            "",
-            1,
-        ),
-    ),
-    (
-        "nodes 2\nask 0 0 read 0:5 85\ndeliver 9\n",
-        "simulate --text capture",
-        (
-            "0 ask 0 0 read analog-input:5 present-value\n  refused 5 (the peer is at the node's own link)\nline 3: fault 2 (no such datagram)\n",
-            "",
-            1,
-        ),
-    ),
-    (
         "nodes 1\nadvance 18446744073709551615\nadvance 1\n",
         "simulate capture",
         ("nothing\nline 3: fault 3\n", "", 1),

@@ -98,8 +98,6 @@ const WORDS: &[(&str, &str)] = &[
         "ask --port 47899 --every 1. read 0:5 85",
         "0.001 to 1000000000",
     ),
-    ("simulate --json --text x", "--json"),
-    ("serve --json --turns 1", "--log"),
     ("keep x --json --forget file:1", "--json"),
     (
         "ask --port 47899 --every 1 --times 0 read 0:5 85",

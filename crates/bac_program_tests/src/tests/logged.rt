@@ -202,36 +202,6 @@ const ROWS: &[(Behind, &str, Ending)] = &[
         "serve --port 47808 --turns 8 --log",
         ("served 3\n", SEGMENT_LINES, 0),
     ),
-    // objects of JSON
-    (
-        Behind::Datagrams(TWO),
-        "serve --port 47808 --turns 2 --slots 1 --log --json",
-        (
-            "served 1\n",
-            "{\"count\":null,\"id\":1,\"moment\":1500,\"peer\":\"127.0.0.1:47809\",\"reply\":{\"index\":null,\"object\":\"analog-input:5\",\"property\":\"present-value\",\"service\":\"read-property-ack\",\"values\":[{\"kind\":\"real\",\"value\":72.3}]},\"request\":{\"index\":null,\"object\":\"analog-input:5\",\"property\":\"present-value\",\"service\":\"read-property\"},\"text\":\"answered real 72.3\",\"time\":\"2026-11-27T07:10:01.000Z\",\"type\":\"heard\",\"what\":\"read analog-input:5 present-value\"}\n\
-             {\"count\":null,\"id\":1,\"moment\":2500,\"peer\":\"127.0.0.1:47810\",\"reply\":null,\"request\":null,\"text\":\"aborted other (0), table full\",\"time\":\"2026-11-27T07:10:02.000Z\",\"type\":\"heard\",\"what\":\"read analog-input:5 present-value\"}\n",
-            0,
-        ),
-    ),
-    (
-        Behind::Unsent(TWO),
-        "serve --port 47808 --turns 1 --log --json",
-        (
-            "served 1\n",
-            "{\"count\":null,\"id\":1,\"moment\":1500,\"peer\":\"127.0.0.1:47809\",\"reply\":{\"index\":null,\"object\":\"analog-input:5\",\"property\":\"present-value\",\"service\":\"read-property-ack\",\"values\":[{\"kind\":\"real\",\"value\":72.3}]},\"request\":{\"index\":null,\"object\":\"analog-input:5\",\"property\":\"present-value\",\"service\":\"read-property\"},\"text\":\"answered real 72.3\",\"time\":\"2026-11-27T07:10:01.000Z\",\"type\":\"heard\",\"what\":\"read analog-input:5 present-value\"}\n\
-             {\"count\":1,\"id\":null,\"moment\":1500,\"peer\":null,\"reply\":null,\"request\":null,\"text\":null,\"time\":\"2026-11-27T07:10:01.000Z\",\"type\":\"link\",\"what\":null}\n",
-            0,
-        ),
-    ),
-    (
-        Behind::Datagrams(&[(0xC0, READ)]),
-        "serve --port 47808 --turns 1 --log --json",
-        (
-            "served 0\n",
-            "{\"count\":null,\"id\":null,\"moment\":1500,\"peer\":\"127.0.0.1:47808\",\"reply\":null,\"request\":null,\"text\":\"from its own link\",\"time\":\"2026-11-27T07:10:01.000Z\",\"type\":\"dropped\",\"what\":null}\n",
-            0,
-        ),
-    ),
     // nothing came of itself, and nothing is told of it
     (
         Behind::Nobody,

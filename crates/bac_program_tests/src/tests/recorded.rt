@@ -184,13 +184,6 @@ const NAMED_RECORDS: &[RecordRow] = &[
             2,
         ),
     ),
-    // why an ask was refused, in words
-    (
-        "",
-        HOUSES,
-        "ask --port 50001 --text read 0:5 85",
-        ("refused 5 (the peer is at the node's own link)\n", "", 1),
-    ),
 ];
 
 const ROWS: &[RecordRow] = &[

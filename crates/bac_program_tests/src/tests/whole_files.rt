@@ -370,9 +370,12 @@ fn saves_and_restores_files(rt: HostRuntime) -> Result<(), Fail> {
     for (line, ending) in KEPT {
         holds(run_beside(alloc, &disk, line)?.is(ending), line)?;
     }
-    holds(disk.octets_at("copy")?.as_slice() == b"OK", "copy")?;
     holds(
-        disk.octets_at("saved/file-1.bin")?.as_slice() == b"OK",
+        disk.octets_at("copy")?.as_slice() == b"OK".as_slice(),
+        "copy",
+    )?;
+    holds(
+        disk.octets_at("saved/file-1.bin")?.as_slice() == b"OK".as_slice(),
         "file-1.bin",
     )?;
     let manifest = disk.octets_at("saved/manifest")?;
