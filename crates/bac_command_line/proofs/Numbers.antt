@@ -4,7 +4,7 @@ use Rattle.std.specs.Str.Parse.{ParsesUnsigned}
 use Rattle.std.proofs.lemmas.Fmt.{parse-decimal}
 use Rattle.clap.specs.Words.{ReadsOne}
 
-abbrev ok_of : {A E : Type 0} → Result A E → Option A
+abbrev pub ok_of : {A E : Type 0} → Result A E → Option A
 ok_of (Ok x) = Some x
 ok_of (Err e) = None
 

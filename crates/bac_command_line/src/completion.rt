@@ -1,6 +1,6 @@
 //! The script that completes words in bash.
 use crate::backup_words::backups;
-use crate::help_words::{about, offline, online};
+use crate::help_words::{about, of_clients, of_servers, offline};
 use crate::words::{Grammar, WordForm};
 use std::io;
 use std::io::Write;
@@ -38,7 +38,8 @@ fn write_names<O: Write>(out: &mut O, grammars: &[Grammar]) -> io::Result<()> {
 /// Writes the names of all commands.
 fn write_all_names<O: Write>(out: &mut O) -> io::Result<()> {
     write_names(out, offline())?;
-    write_names(out, online())?;
+    write_names(out, of_servers())?;
+    write_names(out, of_clients())?;
     write_names(out, backups())?;
     write_names(out, about())
 }
@@ -70,7 +71,8 @@ pub(crate) fn write_completion<O: Write>(out: &mut O) -> io::Result<()> {
     write_all_names(out)?;
     out.write_all(MIDDLE.as_bytes())?;
     write_cases(out, offline())?;
-    write_cases(out, online())?;
+    write_cases(out, of_servers())?;
+    write_cases(out, of_clients())?;
     write_cases(out, backups())?;
     out.write_all(b"            help) words=\"--man")?;
     write_all_names(out)?;

@@ -1,7 +1,7 @@
 //! Command lines, read by the table of commands.
 use crate::backup_words::backups;
 use crate::help_words::about;
-use crate::words::{Grammar, Need, OFFLINE, ONLINE, Word, WordForm};
+use crate::words::{ASKING, Grammar, Need, OFFLINE, SERVING, Word, WordForm};
 use clap::builder::ValueParser;
 use clap::{Arg, ArgAction, ArgMatches, Command};
 use std::alloc::Global;
@@ -86,14 +86,19 @@ fn offline<'a>(alloc: Global) -> Result<Command<'a>, clap::Error> {
     with_commands(alloc, bac, OFFLINE)
 }
 
-/// The program with those and the commands that need a link.
-fn online<'a>(alloc: Global) -> Result<Command<'a>, clap::Error> {
-    with_commands(alloc, offline(alloc)?, ONLINE)
+/// The program with those and the commands of servers.
+fn with_servers<'a>(alloc: Global) -> Result<Command<'a>, clap::Error> {
+    with_commands(alloc, offline(alloc)?, SERVING)
+}
+
+/// The program with those and the commands that ask.
+fn with_clients<'a>(alloc: Global) -> Result<Command<'a>, clap::Error> {
+    with_commands(alloc, with_servers(alloc)?, ASKING)
 }
 
 /// The program with those, and the commands that keep whole files.
 fn with_backups<'a>(alloc: Global) -> Result<Command<'a>, clap::Error> {
-    with_commands(alloc, online(alloc)?, backups())
+    with_commands(alloc, with_clients(alloc)?, backups())
 }
 
 /// The program with all of its commands: a table a function, since the prover writes out what a function names.

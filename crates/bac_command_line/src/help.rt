@@ -3,7 +3,7 @@ ghost use Rattle.bac_command_line.specs.Tasks.{IsTold};
 
 use crate::backup_words::backups;
 use crate::completion::write_completion;
-use crate::help_words::{about, command_named, more_example, offline, online};
+use crate::help_words::{about, command_named, more_example, of_clients, of_servers, offline};
 use crate::manual::write_manual;
 use crate::words::{Grammar, Need, Word, WordForm};
 use crate::wrapping::{write_lines, write_wrapped};
@@ -90,7 +90,8 @@ fn write_all_commands<O: Write>(out: &mut O) -> io::Result<()> {
     out.writeln("BACnet confirmed services, proved: bac COMMAND WORDS..")?;
     out.write_all(b"\n")?;
     write_names(out, offline())?;
-    write_names(out, online())?;
+    write_names(out, of_servers())?;
+    write_names(out, of_clients())?;
     write_names(out, backups())?;
     write_names(out, about())?;
     out.write_all(b"\n")?;

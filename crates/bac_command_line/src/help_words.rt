@@ -1,6 +1,6 @@
 //! The commands that tell of the program itself, and more examples for help.
 use crate::backup_words::backups;
-use crate::words::{Grammar, Need, OFFLINE, ONLINE, Word, WordForm};
+use crate::words::{ASKING, Grammar, Need, OFFLINE, SERVING, Word, WordForm};
 
 /// What `help` takes.
 const HELP: &[Word] = &[
@@ -60,9 +60,14 @@ pub(crate) fn offline() -> &'static [Grammar] {
     OFFLINE
 }
 
-/// The commands that need one.
-pub(crate) fn online() -> &'static [Grammar] {
-    ONLINE
+/// The commands of servers.
+pub(crate) fn of_servers() -> &'static [Grammar] {
+    SERVING
+}
+
+/// The commands that ask.
+pub(crate) fn of_clients() -> &'static [Grammar] {
+    ASKING
 }
 
 /// The commands that tell of the program.
@@ -80,7 +85,10 @@ pub(crate) fn command_named(name: &str) -> Option<&'static Grammar> {
     if let Some(found) = among(name, offline()) {
         return Some(found);
     }
-    if let Some(found) = among(name, online()) {
+    if let Some(found) = among(name, of_servers()) {
+        return Some(found);
+    }
+    if let Some(found) = among(name, of_clients()) {
         return Some(found);
     }
     if let Some(found) = among(name, backups()) {

@@ -1,5 +1,5 @@
 //! Seconds as decimal numbers: `2`, or `0.5`.
-ghost use Rattle.std.specs.Prelude.{◌≡◌, None};
+ghost use Rattle.std.specs.Prelude.{◌≡◌, ◌<◌, ◌≤◌, ◌*◌, ℕ, Some, decimal};
 
 use clap::ArgMatches;
 use std::io::Write;
@@ -36,13 +36,33 @@ fn within(milliseconds: u64) -> Option<u64> {
     }
 }
 
+/// The milliseconds of a number with a point, and one to three digits behind it.
+fn decimal_seconds(text: &str) -> Option<u64> {
+    let (whole, fraction) = text.split_once('.')?;
+    let seconds = digits_in(whole)?;
+    let milliseconds = milliseconds_in(fraction)?;
+    within(seconds.checked_mul(1_000)?.checked_add(milliseconds)?)
+}
+
+/// The milliseconds of whole seconds.
+fn whole_seconds(seconds: u64) -> Option<u64>
+    ensures { 0 < seconds → seconds ≤ 1_000_000_000 → result ≡ Some (seconds * 1000) }
+{
+    if seconds == 0 || seconds > MOST {
+        None
+    } else {
+        Some(seconds * 1_000)
+    }
+}
+
 /// The milliseconds of a number of seconds, 0.001 to 1,000,000,000, with at most three digits behind the point. None of any other text.
-pub(crate) fn read_seconds(text: &str) -> Option<u64> {
-    let (whole, milliseconds) = match text.split_once('.') {
-        Some((whole, fraction)) => (digits_in(whole)?, milliseconds_in(fraction)?),
-        None => (text.parse().ok()?, 0),
+pub(crate) fn read_seconds(text: &str) -> Option<u64>
+    ensures { (n : ℕ) → 0 < n → n ≤ 1_000_000_000 → text.now ≡ decimal n → result ≡ Some (n * 1000) }
+{
+    let Ok(seconds) = text.parse::<u64>() else {
+        return decimal_seconds(text);
     };
-    within(whole.checked_mul(1_000)?.checked_add(milliseconds)?)
+    whole_seconds(seconds)
 }
 
 /// The text behind `--every` that is no such number.

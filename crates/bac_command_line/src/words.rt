@@ -648,8 +648,8 @@ pub(crate) const OFFLINE: &[Grammar] = &[
     },
 ];
 
-/// The other commands, which help lists after those.
-pub(crate) const ONLINE: &[Grammar] = &[
+/// The commands of servers, which help lists after those.
+pub(crate) const SERVING: &[Grammar] = &[
     Grammar {
         name: "serve",
         about: "Serves a house over UDP, and prints how many requests it performed",
@@ -662,6 +662,10 @@ pub(crate) const ONLINE: &[Grammar] = &[
         after: KEEP_EXAMPLES,
         words: KEEP,
     },
+];
+
+/// The commands that ask, which help lists then.
+pub(crate) const ASKING: &[Grammar] = &[
     Grammar {
         name: "ask",
         about: "Asks a node, and prints how the ask ended",

@@ -20,3 +20,7 @@ pub returns-else-not-logged-clause-printed : goal.returns-else-not-logged-clause
 returns-else-not-logged-clause-printed g c =
     printed_so _ c.serve_kept_logged-logged.result.status _ _ _ _ _ _ _ _ c.wait_limit.ensures c.most_turns.ensures
     c.serve_kept_logged-logged.ensures.logged.served.printed
+
+pub returns-then-is_some-clause-printed : goal.returns-then-is_some-clause-printed
+returns-then-is_some-clause-printed g c =
+    printed_so _ c.serve_kept-status.result _ _ _ _ _ _ _ _ c.wait_limit.ensures c.most_turns.ensures c.serve_kept-status.ensures.printed
