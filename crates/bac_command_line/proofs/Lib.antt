@@ -20,3 +20,4 @@ pub mod InFlight
 pub mod Once
 pub mod LineWords
 pub mod Numbers
+mod LineNames

@@ -12,8 +12,7 @@ is_name_octet octet =
     (is_between 48 57 octet || (is_between 65 90 octet || is_between 97 122 octet)) || ((octet == 95) || ((octet == 45) || (octet == 46)))
 
 abbrev pub is_name : List ℕ → Bool
-is_name [] = false
-is_name (octet ∷ text) = list_all is_name_octet (octet ∷ text)
+is_name text = not (length text == 0) && list_all is_name_octet text
 
 abbrev pub ends_with_colon : List ℕ → Bool
 ends_with_colon [] = false

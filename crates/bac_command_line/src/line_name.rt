@@ -1,10 +1,10 @@
 //! The name of a line of a list, which stands before all else: `flow: read analog-input:5 present-value`.
-ghost use Rattle.std.specs.Prelude.{◌≡◌, map, true, IfErr, IfOk};
+ghost use Rattle.std.specs.Prelude.{◌≡◌, false, map, true, IfErr, IfOk, MatchOption};
+ghost use Rattle.std.specs.List.{list_all};
 ghost use Rattle.std.specs.Option.{option_map};
-ghost use Rattle.bac_command_line.specs.LineNames.{has_bad_name, is_name, is_name_octet, is_naming, name_of, words_behind};
+ghost use Rattle.bac_command_line.specs.LineNames.{has_bad_name, is_name, is_name_octet, is_naming, name_in, name_of, words_behind};
 
 use crate::question_lines::is_address;
-use std::str;
 
 /// Whether an octet may stand in a name: a letter, a digit, `_`, `-` or `.`.
 fn is_name_octet(octet: u8) -> bool
@@ -13,10 +13,16 @@ fn is_name_octet(octet: u8) -> bool
     octet.is_ascii_alphanumeric() || octet == b'_' || octet == b'-' || octet == b'.'
 }
 
+fn are_name_octets(text: &[u8]) -> bool
+    ensures { result ≡ list_all is_name_octet text.now }
+{
+    text.iter().all(|octet| is_name_octet(*octet))
+}
+
 fn is_name(text: &[u8]) -> bool
     ensures { result ≡ is_name text.now }
 {
-    !text.is_empty() && text.iter().all(|octet| is_name_octet(*octet))
+    !text.is_empty() && are_name_octets(text)
 }
 
 /// Whether a word stands where a name does: it ends with a colon, and names no peer.
@@ -33,19 +39,17 @@ fn is_naming(word: &[u8]) -> bool
 #[derive(Clone, Copy)]
 pub(crate) struct NamedWords<'w, 'a> {
     /// The line's name, if it has one.
-    pub name: Option<&'a str>,
+    pub name: Option<&'a [u8]>,
     /// The words behind it.
     pub words: &'w [&'a [u8]],
 }
 
 /// The name in a word that ends with a colon. None where it is none.
-fn name_in(word: &[u8]) -> Option<&str> {
+fn name_in(word: &[u8]) -> Option<&[u8]>
+    ensures { MatchOption result (is_name (name_in word.now) ≡ false) (λ t. t.now ≡ name_in word.now) }
+{
     let (_, text) = word.split_last()?;
-    if is_name(text) {
-        str::from_utf8(text).ok()
-    } else {
-        None
-    }
+    if is_name(text) { Some(text) } else { None }
 }
 
 /// The name of a line with these words, and the words behind it. An Err has the word that stands where a name does, and is none.

@@ -160,7 +160,7 @@ fn question_of<E: Write>(
 /// The name of a line, which its question keeps.
 fn kept_name<E: Write>(
     alloc: Global,
-    name: Option<&str>,
+    name: Option<&[u8]>,
     err: &mut E,
 ) -> Result<Option<String>, Status>
     ensures kept { IfOk result (λ n. option_map string_bytes n ≡ option_map (λ t. t.now) name.entry) }
@@ -170,7 +170,11 @@ fn kept_name<E: Write>(
     let Some(name) = name else {
         return Ok(None);
     };
-    match String::from_str(alloc, name) {
+    // a name has letters, digits and signs of ASCII alone
+    let Ok(text) = std::str::from_utf8(name) else {
+        return Err(no_memory(err));
+    };
+    match String::from_str(alloc, text) {
         Ok(name) => Ok(Some(name)),
         Err(_) => Err(no_memory(err)),
     }
