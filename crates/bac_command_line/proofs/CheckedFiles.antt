@@ -1,5 +1,7 @@
 -- What was printed of a buffered reader over a file that has read nothing yet was printed of the file.
-use Rattle.std.proofs.Common.{◌≡◌, ℕ, List, [], Option, None, Some, refl}
+use Rattle.std.proofs.Common.{◌≡◌, ◌∙◌, ℕ, List, [], Option, None, Some, refl, subst}
+use Rattle.std.specs.Prelude.{IfSome}
+use Rattle.bac_command_line.specs.Copied.{IfKnown}
 use Rattle.std.specs.Io.KnownBytes.{prepend_known}
 use Rattle.bac_text.specs.declared.status.Status.{Status}
 use Rattle.bac_text.specs.declared.status.Status.TheVariants as status
@@ -17,3 +19,9 @@ printed_file IsAt path read Says status.Faulty at told = record { content = read
 printed_file IsAt path read Says status.CommandLine at told = tt
 printed_file IsAt path read Says status.Output at told = tt
 printed_file IsAt path read Says status.Memory at told = tt
+
+-- what is known of a file's octets is said of what was read
+pub copied_told : (read : Option (List ℕ)) (items text : List ℕ) (Says : List ℕ → Type 0) → IfSome read (λ octets. items ≡ octets) → text ≡ items → Says text
+    → IfKnown read Says
+copied_told None items text Says is same told = tt
+copied_told (Some octets) items text Says is same told = subst Says (same ∙ is) told

@@ -191,7 +191,7 @@ end_taken place told how old new is taken = subst (λ (o : Option AskEnd). Takes
 -- how it ended was printed
 pub told_so : (IsOn : Links) (plan : Plan) (place : ℕ) (line : LineQuestion) (how : AskEnd) (before after : Aloft) (old new : Option (List ℕ))
     (r : Result Bool Status) → slice_get plan.lines place ≡ Some line → EndsLine IsOn plan place how before after
-    → IfOk r (λ succeeded. PrintsLine plan.asking.records plan.asking.output_format line how succeeded old new)
+    → IfOk r (λ succeeded. PrintsLine plan.asking line how succeeded old new)
     → IfOk r (λ succeeded. TellsLine IsOn plan place succeeded before after old new)
 told_so IsOn plan place line how before after old new (Ok succeeded) line_is ends tells =
     record { line = line; line_is = line_is; how = how; ends = ends; tells = tells }

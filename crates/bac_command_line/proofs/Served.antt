@@ -8,6 +8,7 @@ use Rattle.bac_driver.specs.declared.wait_limit.WaitLimit.{WaitLimit}
 use Rattle.bac_commands.specs.Houses.{server_node}
 use Rattle.bac_commands.specs.Reports.{ReportsServing, ServedText}
 use Rattle.bac_command_line.specs.Online.{Clocks, HasTold, IsServedBy, Links, Serves}
+use Rattle.bac_command_line.specs.Looking.{IsServer}
 use Rattle.bac_command_line.specs.Serving.{patience_of, restart_of, turns_of}
 use Rattle.bac_command_line.specs.declared.serving.Serving.{Serving}
 use Rattle.bac_command_line.proofs.Statuses.{lifted}
@@ -34,3 +35,20 @@ served_so IsOn IsClock store serving start restart address p turns before after 
                 subst (λ (n : ℕ). ServedText (patience_of serving start) n before after old new) most
                 (subst (λ (q : WaitLimit). ServedText q turns before after old new) waits text);
           }
+
+-- a node with a store on its link, beside a clock that told when it began
+pub station_so : (IsOn : Links) (IsClock : Clocks) (store : Store) (serving : Serving) (start : ℕ) (restart : Option ℕ) (address : Octets) (server : Timed)
+    → restart ≡ restart_of serving.restarted start → server.bound_node.node ≡ server_node serving.slots restart address store
+    → IsOn serving.host serving.port address server.bound_node.failures server.bound_node.calls → HasTold IsClock start server.told
+    → server.bound_node.reuse ≡ serving.reuse → IsServer IsOn IsClock serving store start server
+station_so IsOn IsClock store serving start restart address server restarts node on clock reuse =
+    record {
+      node =
+          record {
+            address = address;
+            node = subst (λ (r : Option ℕ). server.bound_node.node ≡ server_node serving.slots r address store) restarts node;
+            reuse_is = reuse;
+            on = on;
+          };
+      clock = clock;
+    }
