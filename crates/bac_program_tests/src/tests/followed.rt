@@ -103,11 +103,12 @@ const FOLLOWED: &[Row] = &[
     // told once, and left
     (
         &[COOL, WRONG],
-        "capture: object 1 (analog-input 5): present-value: real wanted, text given\ncapture: line 5: object 1 (analog-input 5): present-value: real wanted, text given\n",
+        "capture: object 1 (analog-input 5): present-value: real wanted, text given\ncapture: line 5: object 1 (analog-input 5): present-value: real wanted, \"warm\" given\n",
     ),
+    // and the next one that is right is followed
     (
         &[COOL, "", WARM],
-        "capture: objects wanted, nothing given\n",
+        "capture: object: tables [[object]] alone wanted, nothing given\ncapture: object: tables [[object]] alone wanted, nothing given\n5000 document analog-input:5 present-value real 21.5\n",
     ),
 ];
 

@@ -48,9 +48,11 @@ const PARTS: &[(&str, &[&str])] = &[
     (
         "completion",
         &[
-            " answer decode check explain simulate serve keep ask pair help version completion\"\n",
+            " answer decode check explain simulate serve keep ask pair backup restore help version completion\"\n",
             "\n            pair) words=\"--help\" ;;\n",
             "\n            decode) words=\"--help --text",
+            "\n            backup) words=\"--help --port --to --route --timeout --folder\" ;;\n",
+            "\n            restore) words=\"--help --port --to --route --timeout --folder\" ;;\n",
             "\ncomplete -o default -F _bac bac\n",
         ],
     ),
@@ -84,6 +86,8 @@ const COMMANDS: &[&str] = &[
     "help serve",
     "help ask",
     "help pair",
+    "help backup",
+    "help restore",
     "help help",
     "help version",
     "help completion",

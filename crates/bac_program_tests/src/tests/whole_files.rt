@@ -257,9 +257,9 @@ fn joins_parts(rt: HostRuntime) -> Result<(), Fail> {
 }
 
 /// What comes of a command line beside the files of a disk.
-fn run_beside(alloc: Global, disk: &Disk, line: &str) -> Result<Printed, Fail> {
+fn run_beside(alloc: Global, disk: &Disk, bench: Bench, line: &str) -> Result<Printed, Fail> {
     let words = words_of(alloc, line)?;
-    let machine = BenchMachine::new(alloc, HOUSES);
+    let machine = BenchMachine::new(alloc, bench);
     Ok(run_words(alloc, &words, disk, &machine))
 }
 
@@ -277,8 +277,21 @@ const KEPT: &[(&str, Ending)] = &[
         "ask --port 47808 --out full get file:1",
         ("", "cannot write\nfull: no storage space\n", 3),
     ),
+    // a node is not the device 4,194,303 that is asked for its list: nothing is saved, and no manifest is there
     (
         "backup --port 47808 --folder saved",
+        (
+            "",
+            "object-list: answered error object unknown-object (1:31)\n",
+            1,
+        ),
+    ),
+    (
+        "restore --port 47808 --folder saved",
+        ("", "cannot read\nsaved/manifest: entity not found\n", 2),
+    ),
+    (
+        "backup --port 47808 --folder saved file:1",
         ("file:1 2 octets saved\n", "", 0),
     ),
     (
@@ -294,7 +307,7 @@ const KEPT: &[(&str, Ending)] = &[
         ),
     ),
     (
-        "backup --port 47808 --folder full",
+        "backup --port 47808 --folder full file:1",
         ("", "cannot write\nfull/file-1.bin: no storage space\n", 3),
     ),
     (
@@ -368,7 +381,7 @@ fn saves_and_restores_files(rt: HostRuntime) -> Result<(), Fail> {
         disk.write(path, text.as_bytes())?;
     }
     for (line, ending) in KEPT {
-        holds(run_beside(alloc, &disk, line)?.is(ending), line)?;
+        holds(run_beside(alloc, &disk, HOUSES, line)?.is(ending), line)?;
     }
     holds(
         disk.octets_at("copy")?.as_slice() == b"OK".as_slice(),
@@ -380,4 +393,47 @@ fn saves_and_restores_files(rt: HostRuntime) -> Result<(), Fail> {
     )?;
     let manifest = disk.octets_at("saved/manifest")?;
     holds(manifest.as_slice() == OK_MANIFEST.as_bytes(), "manifest")
+}
+
+/// The object-list of a device: itself, analog-input 5, file 1 and file 2.
+const OBJECT_LIST: &[u8] =
+    b"\x30\0\x0C\x0C\x02\0\0\x01\x19\x4C\x3E\xC4\x02\0\0\x01\xC4\0\0\0\x05\xC4\x02\x80\0\x01\xC4\x02\x80\0\x02\x3F";
+
+/// Error, object unknown-object, of a read of a file.
+const NO_FILE: &[u8] = b"\x50\0\x06\x91\x01\x91\x1F";
+
+const LISTED: Bench = Bench {
+    behind: Behind::Replies(&[OBJECT_LIST, ABC, DE, NO_FILE]),
+    clock: Some(STEADY),
+};
+
+/// What is printed of the files of that list, of which one cannot be read.
+const LISTED_ENDING: Ending = (
+    "file:1 5 octets saved\nfile:2 not read to its end, after 0 octets: answered error object unknown-object (1:31)\n",
+    "",
+    1,
+);
+
+/// The digest of `ABCDE`.
+const LISTED_MANIFEST: &str =
+    "f0393febe8baaa55e32f7be2a7cc180bf34e52137d99e056c817a9c07b8f239a 5 file-1.bin\n";
+
+#[test]
+fn saves_listed_files(rt: HostRuntime) -> Result<(), Fail> {
+    let alloc = rt.alloc();
+    let disk = Disk::new(alloc);
+    let line = "backup --port 47808 --folder saved";
+    holds(
+        run_beside(alloc, &disk, LISTED, line)?.is(&LISTED_ENDING),
+        line,
+    )?;
+    holds(
+        disk.octets_at("saved/file-1.bin")?.as_slice() == b"ABCDE".as_slice(),
+        "file-1.bin",
+    )?;
+    let manifest = disk.octets_at("saved/manifest")?;
+    holds(
+        manifest.as_slice() == LISTED_MANIFEST.as_bytes(),
+        "manifest",
+    )
 }
