@@ -21,3 +21,4 @@ pub mod Once
 pub mod LineWords
 pub mod Numbers
 mod LineNames
+mod Changed
