@@ -1,6 +1,6 @@
 -- What the words of `ask` give, as they were read.
 use Rattle.std.specs.Prelude.{◌≡◌, ℕ, ◌<◌, ◌≤◌, ◌*◌, ◌^◌, Bool, true, false, List, codes, decimal, Option, Some, None}
-use Rattle.clap.specs.Words.{found_of, one_text}
+use Rattle.clap.specs.Words.{first_value, found_of, one_text}
 use Rattle.clap.specs.declared.parser.matches.ArgMatches.{ArgMatches}
 use Rattle.bac_commands.specs.declared.online.output_format.OutputFormat.{OutputFormat}
 use Rattle.bac_commands.specs.declared.online.output_format.Style.{Style}
@@ -52,10 +52,14 @@ pub record AreRecordsOf (given : ArgMatches) (records : Option RecordForm) : Typ
   pub csv_is : IsFlag given (codes "csv") csv
   pub are : records ≡ records_by json csv
 
+-- the first text behind a word that is read here, and not by clap
+abbrev pub words_text : ArgMatches → (name : List ℕ) → Option (List ℕ)
+words_text given name = first_value (found_of given) name
+
 -- of whole seconds the milliseconds between rounds
 pub record IsPace (given : ArgMatches) (is : Option ℕ) : Type 0 where
-  pub whole : (n : ℕ) → 0 < n → n ≤ 1_000_000_000 → text_of given (codes "every") ≡ Some (decimal n) → is ≡ Some (n * 1000)
-  pub none : text_of given (codes "every") ≡ None → is ≡ None
+  pub whole : (n : ℕ) → 0 < n → n ≤ 1_000_000_000 → words_text given (codes "every") ≡ Some (decimal n) → is ≡ Some (n * 1000)
+  pub none : words_text given (codes "every") ≡ None → is ≡ None
 
 abbrev pub rounds_by : (every times : Option ℕ) → Option Rounds
 rounds_by None times = None

@@ -28,27 +28,6 @@ pub record IsChanged (old new : BoundNode) : Type 0 where
   pub changes : List Change
   pub is : new ≡ record old { node = with_changes changes old.node }
 
--- turns up to a moment, in which so many requests were performed, and then changes at the node
-pub record TakesStretch (old : Timed) (effects : ℕ) (new : Timed) : Type 0 where
-  pub began : ℕ
-  pub until : ℕ
-  pub middle : Timed
-  pub serves : Serves (record { wait = MOST; until = Some until }) MOST effects (timed old.bound_node (with_moment old.told began)) middle
-  pub changed : IsChanged middle.bound_node new.bound_node
-
--- the sum of the requests in stretches, the newest first, as far as the counter goes
-abbrev pub total : List ℕ → ℕ
-total [] = 0
-total (effects ∷ before) = min (total before + effects) MOST
-
--- stretches one after the other, in which so many requests were performed
-pub record TakesStretches (old : Timed) (effects : ℕ) (new : Timed) : Type 0 where
-  pub stretches : List ℕ
-  pub last : Timed
-  pub runs : Run TakesStretch stretches old last
-  pub counted : effects ≡ total stretches
-  pub same : new.bound_node ≡ last.bound_node
-
 -- a node with that store, on a link that was bound, beside a clock that was made and told that moment
 pub record IsServer (IsOn : Links) (IsClock : Clocks) (serving : Serving) (store : Store) (start : ℕ) (server : Timed) : Type 0 where
   pub node :
@@ -56,14 +35,12 @@ pub record IsServer (IsOn : Links) (IsClock : Clocks) (serving : Serving) (store
       server.bound_node
   pub clock : HasTold IsClock start server.told
 
--- a node with the store of a document served in stretches, and how many requests it performed was printed
+-- a node with the store of a document served, and a number of requests was printed; that it is the number of those that it performed is not said
 pub record ServesLooking (IsOn : Links) (IsClock : Clocks) (serving : Serving) (old new : Option (List ℕ)) (document : Store) : Type 0 where
   pub start : ℕ
   pub before : Timed
-  pub after : Timed
   pub server : IsServer IsOn IsClock serving document start before
   pub effects : ℕ
-  pub takes : TakesStretches before effects after
   pub printed : Appends old new (served_line effects)
 
 -- where the command line is refused, nothing was printed

@@ -7,7 +7,7 @@ ghost use Rattle.bac_driver.specs.Runs.{timed};
 ghost use Rattle.bac_text.specs.Statuses.{IsFailure, IsStop};
 ghost use Rattle.bac_command_line.specs.Files.{OfFile, OnFile};
 ghost use Rattle.bac_command_line.specs.Keeping.{IsDocument};
-ghost use Rattle.bac_command_line.specs.Looking.{IsChanged, IsServedLooking, IsServer, ServesLooking, TakesStretches};
+ghost use Rattle.bac_command_line.specs.Looking.{IsChanged, IsServedLooking, IsServer, ServesLooking};
 ghost use Rattle.bac_command_line.specs.Online.{OnClock, OnPort};
 ghost use Rattle.bac_command_line.specs.Stores.{MeansStore};
 
@@ -188,8 +188,6 @@ fn serve_stretches<F: OpenFiles, M: Machine, E: Write>(
     station: &mut Station<M::Link, M::Timer>,
     err: &mut E,
 ) -> Result<u64, Status>
-    ensures taken { IfOk result (λ effects. TakesStretches (timed station.old.bound_node (M.Timer.told station.old.clock)) effects
-        (timed station.new.bound_node (M.Timer.told station.new.clock))) }
     ensures failed { IfErr result IsFailure }
 {
     let mut effects = 0u64;

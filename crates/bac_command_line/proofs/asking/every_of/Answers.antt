@@ -1,6 +1,6 @@
 -- A whole number of seconds is read of the text behind the word.
 use Rattle.std.proofs.Common.{◌≡◌, ◌∙◌, List, ℕ, Option, Some, None, codes, decimal}
-use Rattle.bac_command_line.specs.Given.{text_of}
+use Rattle.bac_command_line.specs.Given.{words_text}
 use Rattle.bac_command_line.proofs.asking.every_of.Goals as goal
 
 inside : (a b : List ℕ) → Some a ≡ Some b → a ≡ b
@@ -11,7 +11,7 @@ never a e = cc
 
 pub returns : goal.returns
 returns c =
-    let is : Some c.in_ok-get_str.field-0.now ≡ text_of c.args.given.now (codes "every") = c.in_ok-get_str.ensures in
+    let is : Some c.in_ok-get_str.field-0.now ≡ words_text c.args.given.now (codes "every") = c.in_ok-get_str.ensures in
     record {
       whole = λ n more most given. c.read_seconds.ensures n more most (inside c.in_ok-get_str.field-0.now (decimal n) (is ∙ given));
       none = λ absent. absurd (never c.in_ok-get_str.field-0.now (is ∙ absent));
