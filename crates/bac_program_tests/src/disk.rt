@@ -24,11 +24,10 @@ pub(crate) struct OpenedFile {
 
 impl Read for OpenedFile {
     fn read(&mut self, buffer: &mut [u8]) -> io::Result<usize> {
-        let rest = match self.octets.get(self.read..) {
-            Some(rest) => rest,
-            None => &[],
+        let len = match self.octets.get(self.read..) {
+            Some(rest) => copy_front(rest, buffer),
+            None => 0,
         };
-        let len = copy_front(rest, buffer);
         self.read = self.read.saturating_add(len);
         Ok(len)
     }
