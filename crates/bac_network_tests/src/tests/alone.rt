@@ -1,11 +1,11 @@
 //! One end, one ticket and one entry by itself, where a node can't say it: moments that go back, and when a tick finds something to do.
-use super::scene::request_of;
 use super::*;
 use bac_apdu::{Limits, Window, read};
 use bac_npdu::Peer;
 use bac_requester::{AskFault, Client, Ending, Requester};
 use bac_responder::{Responder, ServerTransaction, idle_on_apdu};
 use bac_service::OwnedRequest;
+use bac_service_text::read_request_words;
 use bac_slots::{IndexSlots, Same};
 use bac_store::{Store, house};
 use bac_transaction::{Context, PeerKey, Settings};
@@ -101,7 +101,7 @@ const AFTER: &[Asking] = &[
 type Indexed = Requester<IndexSlots<PeerKey, Client>>;
 
 /// Whether an ask is accepted or refused as its row says.
-fn is_accepted(alloc: Global, end: &mut Indexed, request: &OwnedRequest, row: &Asking) -> bool {
+fn is_accepted(end: &mut Indexed, request: &OwnedRequest, row: &Asking) -> bool {
     let to = peer(row.1);
     match end.ask(&SETTINGS, row.0, &to, &SMALL_APDUS, request) {
         Ok(asked) => row.2 == Ok((asked.ticket, asked.invoke_id)),
@@ -111,9 +111,10 @@ fn is_accepted(alloc: Global, end: &mut Indexed, request: &OwnedRequest, row: &A
 
 /// Whether that is so of each ask.
 fn are_accepted(alloc: Global, end: &mut Indexed, rows: &[Asking]) -> Option<bool> {
-    let request = request_of(alloc, "read 0:5 85")?;
+    let words: [&[u8]; 3] = [b"read", b"0:5", b"85"];
+    let request = read_request_words(alloc, &words).ok()?;
     for row in rows {
-        if !is_accepted(alloc, end, &request, row) {
+        if !is_accepted(end, &request, row) {
             return Some(false);
         }
     }
