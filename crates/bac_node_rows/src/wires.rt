@@ -175,7 +175,11 @@ impl Wire<'_> {
         let (server, peer) = peer_of(alloc, word)?;
         let limits = self.nodes.get(server)?.settings().limits;
         let request = request_of(alloc, words)?;
-        Some(self.nodes.get_mut(client)?.ask(now, &peer, &limits, &request))
+        Some(
+            self.nodes
+                .get_mut(client)?
+                .ask(now, &peer, &limits, &request),
+        )
     }
 
     fn asks(&mut self, alloc: Global, moment: u64, words: &str, out: &mut Vec<u8>) -> Option<()> {
@@ -190,7 +194,13 @@ impl Wire<'_> {
         }
     }
 
-    fn delivers(&mut self, alloc: Global, moment: u64, words: &str, out: &mut Vec<u8>) -> Option<()> {
+    fn delivers(
+        &mut self,
+        alloc: Global,
+        moment: u64,
+        words: &str,
+        out: &mut Vec<u8>,
+    ) -> Option<()> {
         let sent = self.sent.get(number(words)? as usize)?;
         let to = sent.datagram.to();
         let now = self.now(place_of(to), moment)?;
@@ -258,7 +268,13 @@ impl Wire<'_> {
     }
 
     /// An event of a node itself, of which nothing is printed.
-    fn changes_silently(&mut self, alloc: Global, moment: u64, verb: &str, words: &str) -> Option<()> {
+    fn changes_silently(
+        &mut self,
+        alloc: Global,
+        moment: u64,
+        verb: &str,
+        words: &str,
+    ) -> Option<()> {
         match verb.as_bytes() {
             b"set" => self.changes(alloc, words),
             b"new" => self.begins_anew(alloc, words),

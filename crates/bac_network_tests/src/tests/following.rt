@@ -189,7 +189,8 @@ impl Followed {
     /// The stores that a world began with.
     pub(super) fn opens(&mut self, alloc: Global, world: &World) -> bool {
         let nodes = world.opening().len();
-        put_copies(alloc, world.opening(), &mut self.stores) && self.lives.resize(nodes, 0usize).is_ok()
+        put_copies(alloc, world.opening(), &mut self.stores)
+            && self.lives.resize(nodes, 0usize).is_ok()
     }
 
     pub(super) fn counts(&self) -> Counts {
@@ -218,7 +219,9 @@ impl Followed {
                     ..
                 },
             ) => self.asks(place, *number, *client, Some(*server)),
-            Some(Fact::AskedAway { number, client, .. }) => self.asks(place, *number, *client, None),
+            Some(Fact::AskedAway { number, client, .. }) => self.asks(
+                place, *number, *client, None,
+            ),
             Some(Fact::Performed { number, .. }) => self.performs(alloc, log, place, *number),
             Some(Fact::Ended { number, how }) => self.ends(log, *number, how),
             Some(Fact::Changed { node, change }) => self.changes(alloc, *node, change),

@@ -78,7 +78,11 @@ pub(super) fn change(line: &mut String, chance: &mut Chance) -> bool {
 /// A node restarts, seldom with the house store in place of its own.
 pub(super) fn restart(line: &mut String, chance: &mut Chance) -> bool {
     let node = chance.below(3);
-    let verb = if chance.below(3) > 0 { "restart" } else { "anew" };
+    let verb = if chance.below(3) > 0 {
+        "restart"
+    } else {
+        "anew"
+    };
     write!(line, "{verb} {node}").is_ok()
 }
 
@@ -118,7 +122,10 @@ fn put_octets(line: &mut String, chance: &mut Chance, octets: &[u8]) -> bool {
 fn stray(line: &mut String, chance: &mut Chance, world: &World) -> bool {
     let (node, number) = (chance.below(3), chance.below(2).saturating_add(8));
     let back = chance.below(12).saturating_add(1);
-    let octets = match world.copies().get(world.copies().len().saturating_sub(back)) {
+    let octets = match world
+        .copies()
+        .get(world.copies().len().saturating_sub(back))
+    {
         Some(copy) => copy.octets.as_slice(),
         None => &[],
     };
@@ -150,7 +157,11 @@ fn answer(line: &mut String, world: &World) -> bool {
     match last_away(world) {
         Some((client, number, id)) => {
             let octets = "810A000901002";
-            write!(line, "stranger {client} 10.0.0.{number}:47808 {octets}0{id:02X}0F").is_ok()
+            write!(
+                line,
+                "stranger {client} 10.0.0.{number}:47808 {octets}0{id:02X}0F"
+            )
+            .is_ok()
         }
         None => line.push_str("advance 0").is_ok(),
     }
@@ -159,7 +170,11 @@ fn answer(line: &mut String, world: &World) -> bool {
 /// A clock is faster or slower from now on.
 fn pace(line: &mut String, chance: &mut Chance) -> bool {
     let (node, parts) = (chance.below(3), chance.below(1_001));
-    let sign = if parts > 0 && chance.below(2) == 0 { "-" } else { "" };
+    let sign = if parts > 0 && chance.below(2) == 0 {
+        "-"
+    } else {
+        ""
+    };
     write!(line, "pace {node} {sign}{parts}").is_ok()
 }
 

@@ -89,7 +89,11 @@ fn plays(alloc: Global, world: &mut World, line: &str) -> Went {
     let mut out = Vec::new(alloc);
     let mut err = Vec::new(alloc);
     let _status = simulate_in(alloc, world, line.as_bytes(), &mut out, &mut err);
-    if err.is_empty() { went(&out) } else { Went::Wrong }
+    if err.is_empty() {
+        went(&out)
+    } else {
+        Went::Wrong
+    }
 }
 
 /// An event happens.
