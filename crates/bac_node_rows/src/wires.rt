@@ -119,13 +119,16 @@ fn peer_of(alloc: Global, word: &str) -> Option<(usize, Peer)> {
     Some((server, Peer { link, route }))
 }
 
-/// The node of that place in a scene.
+/// A new node as that of a place in a scene.
 fn made(alloc: Global, scene: &str, place: usize) -> Option<Node> {
-    let (config, store) = nodes_of(alloc, scene, 0)?.into_iter().nth(place)?;
-    match Node::new(alloc, config, store) {
-        Ok(node) => Some(node),
-        Err(_) => None,
+    let mut passed = 0usize;
+    for (config, store) in nodes_of(alloc, scene, 0)? {
+        if passed == place {
+            return Node::new(alloc, config, store).ok();
+        }
+        passed = passed.saturating_add(1);
     }
+    None
 }
 
 impl Wire<'_> {

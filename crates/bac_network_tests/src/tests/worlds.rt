@@ -74,7 +74,7 @@ pub(super) enum Went {
     Wrong,
 }
 
-fn went(out: &[u8]) -> Went {
+fn how_went(out: &[u8]) -> Went {
     if out.starts_with(b"refused ") {
         return Went::Refused;
     }
@@ -90,7 +90,7 @@ fn plays(alloc: Global, world: &mut World, line: &str) -> Went {
     let mut err = Vec::new(alloc);
     let _status = simulate_in(alloc, world, line.as_bytes(), &mut out, &mut err);
     if err.is_empty() {
-        went(&out)
+        how_went(&out)
     } else {
         Went::Wrong
     }
