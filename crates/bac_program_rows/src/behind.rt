@@ -85,13 +85,13 @@ fn read_answer(alloc: Global, request: &[u8], digits: &str) -> Option<Vec<u8>> {
 }
 
 /// The datagram of a reply, for the invoke ID of a request.
-pub(crate) fn reply_datagram(alloc: Global, request: &[u8], digits: &str) -> Option<Vec<u8>> {
+fn reply_datagram(alloc: Global, request: &[u8], digits: &str) -> Option<Vec<u8>> {
     let reply = hex::decode(alloc, digits).ok()?;
     framed(alloc, request, *reply.first()?, reply.get(2..)?)
 }
 
 /// The datagram of a line of a block, and who sent it.
-pub(crate) fn datagram_of(alloc: Global, line: &str) -> Option<([u8; 6], Vec<u8>)> {
+fn datagram_of(alloc: Global, line: &str) -> Option<([u8; 6], Vec<u8>)> {
     let (port, digits) = first(line);
     let [high, low] = port.parse::<u16>().ok()?.to_be_bytes();
     let octets = hex::decode(alloc, digits).ok()?;

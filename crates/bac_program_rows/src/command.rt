@@ -66,7 +66,11 @@ impl<'a> Command<'a> {
     pub(crate) fn errors(&self) -> Sink {
         let mut err = Sink::new(self.alloc);
         if let Some(heading) = self.setup.line("errors") {
-            err.failures = if heading.words == "fail once" { 1 } else { u32::MAX };
+            err.failures = if heading.words == "fail once" {
+                1
+            } else {
+                u32::MAX
+            };
         }
         err
     }

@@ -124,26 +124,26 @@ impl<'a> Files<'a> {
         }
     }
 
+    /// The line of a file of the scene, opened the time of that number; its octets are appended.
+    fn read(&self, path: &str, number: usize, octets: &mut Vec<u8>) -> Option<Heading<'a>> {
+        if let Some(heading) = self.setup.named("file", path, number) {
+            put_block(self.alloc, heading.below, octets)?;
+            return Some(heading);
+        }
+        let heading = self.setup.named("hex", path, 0)?;
+        put_hex_block(self.alloc, heading.below, octets)?;
+        Some(heading)
+    }
+
     /// A file of the scene, opened the next time.
     fn described(&self, path: &str) -> io::Result<OpenedFile> {
         let number = self.opened.get();
         self.opened.set(number.saturating_add(1));
         let mut octets = Vec::new(self.alloc);
-        let heading = match self.setup.named("file", path, number) {
-            Some(heading) => put_block(self.alloc, heading.below, &mut octets).map(|()| heading),
-            None => self.of_octets(path, &mut octets),
-        };
-        match heading {
+        match self.read(path, number, &mut octets) {
             Some(heading) => opened(octets, heading.words),
             None => Err(io::Error::from(ErrorKind::NotFound)),
         }
-    }
-
-    /// The octets of a file of the scene that is described in hexadecimal.
-    fn of_octets(&self, path: &str, octets: &mut Vec<u8>) -> Option<Heading<'a>> {
-        let heading = self.setup.named("hex", path, 0)?;
-        put_hex_block(self.alloc, heading.below, octets)?;
-        Some(heading)
     }
 }
 

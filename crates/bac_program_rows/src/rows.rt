@@ -18,7 +18,12 @@ struct Counts {
 }
 
 /// Plays a command line whose output fails; whether it holds.
-fn play_failing(failing: Failing<'_>, writes: &str, lines: &str, out: &mut Vec<u8>) -> Option<bool> {
+fn play_failing(
+    failing: Failing<'_>,
+    writes: &str,
+    lines: &str,
+    out: &mut Vec<u8>,
+) -> Option<bool> {
     let holds = failing.holds(writes, wanted_status(lines)?)?;
     if !holds {
         writeln!(out, "! writes {writes}").ok()?;
@@ -75,7 +80,13 @@ struct Group<'a> {
 
 impl<'a> Group<'a> {
     /// Plays a row; the count goes on.
-    fn count(&mut self, setup: Setup<'_>, files: &Files<'_>, row: &str, out: &mut Vec<u8>) -> io::Result<()> {
+    fn count(
+        &mut self,
+        setup: Setup<'_>,
+        files: &Files<'_>,
+        row: &str,
+        out: &mut Vec<u8>,
+    ) -> io::Result<()> {
         self.counts.all = self.counts.all.saturating_add(1);
         match play(self.alloc, setup, files, row, out) {
             Some(true) => self.counts.held = self.counts.held.saturating_add(1),

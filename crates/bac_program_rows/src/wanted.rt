@@ -119,7 +119,10 @@ fn begins(alloc: Global, octets: &[u8], front: &str) -> Option<bool> {
 /// Whether no line is longer than 80 octets, and two at least begin with `Example: `.
 fn is_wrapped(octets: &[u8]) -> Option<bool> {
     let text = std::str::from_utf8(octets).ok()?;
-    let examples = text.lines().filter(|line| line.starts_with("Example: ")).count();
+    let examples = text
+        .lines()
+        .filter(|line| line.starts_with("Example: "))
+        .count();
     Some(examples >= 2 && text.lines().all(|line| line.len() <= 80))
 }
 
