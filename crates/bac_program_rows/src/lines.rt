@@ -23,12 +23,20 @@ pub(crate) struct Heading<'a> {
     pub below: &'a str,
 }
 
-/// What follows the first line of a text.
-fn below_first(text: &str) -> &str {
-    match text.split_once('\n') {
-        Some((_, below)) => below,
-        None => "",
+/// What follows a word and a name at the beginning of a line.
+fn after_name<'a>(line: &'a str, word: &str, name: &str) -> Option<&'a str> {
+    after(after(line, word)?, name)
+}
+
+/// How many lines begin with a word and a name.
+fn count_of(text: &str, word: &str, name: &str) -> usize {
+    let mut count = 0usize;
+    for line in text.lines() {
+        if after_name(line, word, name).is_some() {
+            count = count.saturating_add(1);
+        }
     }
+    count
 }
 
 /// The line of that number, from 0 on, of those that begin with a word and a name; the last one where there are not so many.
@@ -38,30 +46,34 @@ pub(crate) fn named<'a>(
     name: &str,
     number: usize,
 ) -> Option<Heading<'a>> {
-    let mut found = None;
-    let mut place = 0usize;
-    let mut below = text;
-    for line in text.lines() {
-        below = below_first(below);
-        let Some(words) = after(line, word).and_then(|words| after(words, name)) else {
-            continue;
-        };
-        found = Some(Heading { words, below });
-        if place == number {
-            return found;
+    let last = count_of(text, word, name).checked_sub(1)?;
+    let mut left = number.min(last);
+    let mut end = 0usize;
+    for line in text.split_inclusive('\n') {
+        end = end.saturating_add(line.len());
+        if let Some(words) = after_name(line.trim_end_matches('\n'), word, name) {
+            if left == 0 {
+                return headed_by(words, text, end);
+            }
+            left -= 1;
         }
-        place = place.saturating_add(1);
     }
-    found
+    None
+}
+
+/// The heading of these words, which ends there in a text.
+fn headed_by<'a>(words: &'a str, text: &'a str, end: usize) -> Option<Heading<'a>> {
+    let below = text.get(end..)?;
+    Some(Heading { words, below })
 }
 
 /// The first line that begins with a word.
 pub(crate) fn headed<'a>(text: &'a str, word: &str) -> Option<Heading<'a>> {
-    let mut below = text;
-    for line in text.lines() {
-        below = below_first(below);
-        if let Some(words) = after(line, word) {
-            return Some(Heading { words, below });
+    let mut end = 0usize;
+    for line in text.split_inclusive('\n') {
+        end = end.saturating_add(line.len());
+        if let Some(words) = after(line.trim_end_matches('\n'), word) {
+            return headed_by(words, text, end);
         }
     }
     None

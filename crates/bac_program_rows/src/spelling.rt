@@ -60,16 +60,21 @@ fn put_repeat(alloc: Global, repeat: &str, out: &mut Vec<u8>) -> Option<()> {
     Some(())
 }
 
+/// Appends the octets of a text that begins with a repeat, behind its `\{`.
+fn put_repeated(alloc: Global, text: &str, out: &mut Vec<u8>) -> Option<()> {
+    let (repeat, rest) = text.split_once('}')?;
+    put_repeat(alloc, repeat, out)?;
+    put_once(alloc, rest, 0, out)
+}
+
 /// Appends the octets of a text.
 pub(crate) fn put_text(alloc: Global, text: &str, out: &mut Vec<u8>) -> Option<()> {
     for (place, part) in text.split("\\{").enumerate() {
-        let mut rest = part;
-        if place > 0 {
-            let (repeat, behind) = part.split_once('}')?;
-            put_repeat(alloc, repeat, out)?;
-            rest = behind;
+        if place == 0 {
+            put_once(alloc, part, 0, out)?;
+        } else {
+            put_repeated(alloc, part, out)?;
         }
-        put_once(alloc, rest, 0, out)?;
     }
     Some(())
 }
