@@ -118,7 +118,7 @@ fn taken_in(setup: Setup<'_>) -> Option<Option<u16>> {
 }
 
 /// An IPv4 address, `A.B.C.D`.
-fn host_of(text: &str) -> Option<[u8; 4]> {
+pub(crate) fn host_of(text: &str) -> Option<[u8; 4]> {
     let mut host = [0u8; 4];
     let mut parts = text.split('.');
     for octet in &mut host {

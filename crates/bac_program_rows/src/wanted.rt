@@ -3,6 +3,7 @@ use crate::bench::Bound;
 use crate::command::Ended;
 use crate::files::{Files, put_block};
 use crate::lines::{first, headed, named};
+use crate::scene::host_of;
 use crate::spelling::{put_line, text_of};
 use std::alloc::Global;
 use std::io::Write;
@@ -126,13 +127,15 @@ fn is_wrapped(octets: &[u8]) -> Option<bool> {
     Some(examples >= 2 && text.lines().all(|line| line.len() <= 80))
 }
 
-/// Where a link is bound, as a row says it.
-fn spelled(alloc: Global, bound: Option<Bound>) -> Option<String> {
-    let Some((host, port)) = bound else {
-        return String::from_str(alloc, "nowhere").ok();
-    };
-    let [a, b, c, d] = host;
-    format!(in alloc; "{a}.{b}.{c}.{d}:{port}").ok()
+/// Where a link is bound, `A.B.C.D:P` or `nowhere`.
+fn bound_of(text: &str) -> Option<Option<Bound>> {
+    if text == "nowhere" {
+        return Some(None);
+    }
+    let (host, port) = text.split_once(':')?;
+    let host = host_of(host)?;
+    let port = port.parse::<u16>().ok()?;
+    Some(Some((host, port)))
 }
 
 /// Whether a file was written, with the octets of a block.
@@ -163,7 +166,7 @@ impl Row<'_> {
             Said::ErrFront(front) => begins(self.alloc, &printed.err, front),
             Said::Wrapped => is_wrapped(&printed.out),
             Said::Wrote(name) => is_written(self.alloc, self.files, name, self.lines),
-            Said::Bound(place) => Some(spelled(self.alloc, printed.ended.bound)?.as_str() == place),
+            Said::Bound(place) => Some(bound_of(place)? == printed.ended.bound),
             _ => Some(true),
         }
     }
