@@ -2,10 +2,12 @@
 use std::alloc::Global;
 use std::io::Write;
 
-/// An octet of two hexadecimal digits.
-fn put_octet(alloc: Global, digits: &str, out: &mut Vec<u8>) -> Option<()> {
+/// The octet of two hexadecimal digits, and the text behind them.
+fn put_octet(alloc: Global, text: &str, out: &mut Vec<u8>) -> Option<()> {
+    let (digits, rest) = (text.get(..2)?, text.get(2..)?);
     let octets = hex::decode(alloc, digits).ok()?;
-    out.extend_from_slice(&octets).ok()
+    out.extend_from_slice(&octets).ok()?;
+    out.extend_from_slice(rest.as_bytes()).ok()
 }
 
 /// What a letter behind a backslash stands for.
@@ -19,17 +21,22 @@ fn letter(text: &str) -> Option<u8> {
     }
 }
 
+/// What that letter stands for, and the text behind it.
+fn put_letter(text: &str, out: &mut Vec<u8>) -> Option<()> {
+    let rest = text.get(1..)?;
+    out.push(letter(text)?).ok()?;
+    out.extend_from_slice(rest.as_bytes()).ok()
+}
+
 /// The text behind a backslash, at the number of a repetition.
 fn put_escape(alloc: Global, text: &str, number: u64, out: &mut Vec<u8>) -> Option<()> {
     if let Some(rest) = text.strip_prefix('x') {
-        put_octet(alloc, rest.get(..2)?, out)?;
-        return out.extend_from_slice(rest.get(2..)?.as_bytes()).ok();
+        return put_octet(alloc, rest, out);
     }
     if let Some(rest) = text.strip_prefix('#') {
         return write!(out, "{number}{rest}").ok();
     }
-    out.extend_from_slice(&[letter(text)?]).ok()?;
-    out.extend_from_slice(text.get(1..)?.as_bytes()).ok()
+    put_letter(text, out)
 }
 
 /// A text without repeats, at the number of a repetition.
