@@ -4,7 +4,6 @@ use crate::copied::{Copied, copied_of, is_copied};
 use crate::file_task::{FileTask, FileWork, backup_of, file_task_of, work_of};
 use crate::files::{CaptureFile, ScriptFile};
 use crate::forgetting::Forgetting;
-use crate::help::Telling;
 use crate::online::Machine;
 use crate::seconds::bad_pace;
 use crate::selecting::options_of;
@@ -12,6 +11,7 @@ use crate::serving::{Serving, serving_of};
 use bac_explain_report::{ChartFormat, ReportOptions};
 use bac_npdu::Peer;
 use bac_simulate::View;
+use bac_words::Telling;
 use clap::ArgMatches;
 
 /// What a command line asks for.

@@ -1,5 +1,6 @@
 //! What `bac help`, `bac version` and `bac completion` print, by the table of commands.
-ghost use Rattle.bac_command_line.specs.Tasks.{IsTold};
+ghost use Rattle.std.specs.Prelude.{◌≡◌, false, IfOk};
+ghost use Rattle.std.specs.Io.KnownBytes.{Keeps};
 
 use crate::backup_words::backups;
 use crate::completion::write_completion;
@@ -7,7 +8,6 @@ use crate::help_words::{about, command_named, more_example, of_clients, of_serve
 use crate::manual::write_manual;
 use crate::words::{Grammar, Need, Word, WordForm};
 use crate::wrapping::{write_lines, write_wrapped};
-use bac_text::{Status, output_failed};
 use std::io;
 use std::io::Write;
 
@@ -16,12 +16,12 @@ const VERSION: &str = "bac 1.0.0";
 
 /// What is told of the program.
 #[derive(Clone, Copy, Debug)]
-pub(crate) enum Telling<'a> {
-    /// All commands, or the one of that name.
+pub enum Telling<'a> {
+    /// All commands, or what the one of that name does, its words and examples.
     Help(Option<&'a str>),
-    /// The page of the manual.
+    /// The page of the manual, in roff.
     Manual,
-    /// The version.
+    /// The name of the program and its version, on one line.
     Version,
     /// The script that completes words in bash.
     Completion,
@@ -99,41 +99,23 @@ fn write_all_commands<O: Write>(out: &mut O) -> io::Result<()> {
     out.writeln("Example: bac ask --help")
 }
 
-/// Writes what is told. False where there is no command of that name.
-fn write_telling<O: Write>(out: &mut O, telling: Telling<'_>) -> io::Result<bool> {
-    match telling {
-        Telling::Help(None) => write_all_commands(out)?,
-        Telling::Help(Some(name)) => {
-            let Some(grammar) = command_named(name) else {
-                return Ok(false);
-            };
-            write_command(out, grammar)?;
-        }
-        Telling::Manual => write_manual(out)?,
-        Telling::Version => out.writeln(VERSION)?,
-        Telling::Completion => write_completion(out)?,
-    }
-    Ok(true)
-}
-
-/// Tells of the program. A name of no command: `no command`, and that name, on `err`.
-#[tactic(auto, using(crate::proofs::Told::failed_told))]
-pub(crate) fn tell<O: Write, E: Write>(telling: Telling<'_>, out: &mut O, err: &mut E) -> Status
-    ensures { IsTold result }
-{
-    match write_telling(out, telling) {
-        Ok(true) => match out.flush() {
-            Ok(()) => Status::Done,
-            Err(error) => output_failed(err, &error),
-        },
-        Ok(false) => {
-            // if that fails too, only the status is left
-            let _ = err.writeln("no command");
-            if let Telling::Help(Some(name)) = telling {
-                let _ = writeln!(err, "{name}: `bac help` lists the commands");
+impl Telling<'_> {
+    /// Writes what is told, without a flush. False, with nothing written, where it is help for a command and there is none of that name. An Err is the writer's.
+    pub fn write<O: Write>(self, out: &mut O) -> io::Result<bool>
+        ensures missing { IfOk result (λ told. told ≡ false → Keeps (O.contents out.old) (O.contents out.new)) }
+    {
+        match self {
+            Telling::Help(None) => write_all_commands(out)?,
+            Telling::Help(Some(name)) => {
+                let Some(grammar) = command_named(name) else {
+                    return Ok(false);
+                };
+                write_command(out, grammar)?;
             }
-            Status::CommandLine
+            Telling::Manual => write_manual(out)?,
+            Telling::Version => out.writeln(VERSION)?,
+            Telling::Completion => write_completion(out)?,
         }
-        Err(error) => output_failed(err, &error),
+        Ok(true)
     }
 }

@@ -106,10 +106,11 @@ fn commands<'a>(alloc: Global) -> Result<Command<'a>, clap::Error> {
     with_commands(alloc, with_backups(alloc)?, about())
 }
 
-/// What the words of a command line give. An Err is out of memory, or has the text for who wrote them.
-pub(crate) fn matches<'a>(
-    alloc: Global,
-    words: &'a [String],
-) -> Result<ArgMatches<'a>, clap::Error> {
+/// What the words of a command line give: the first is the program's name, the next a command's, and behind it stand words of that command, each as its table
+/// says. The words that it gives are borrowed of the line.
+///
+/// An Err whose kind is `OutOfMemory` says that memory was refused. Any other has the text for who wrote the line: its words have no such form, or one is
+/// `--help`.
+pub fn matches<'a>(alloc: Global, words: &'a [String]) -> Result<ArgMatches<'a>, clap::Error> {
     commands(alloc)?.try_get_matches_from(words)
 }
