@@ -12,13 +12,9 @@ pub mod Asked
 pub mod Recorded
 pub mod LastWords
 pub mod AskedOf
-pub mod Separated
-pub mod ReadLines
 pub mod Clients
 pub mod AskedLines
 pub mod InFlight
 pub mod Once
-pub mod LineWords
 pub mod Numbers
-mod LineNames
 mod Changed

@@ -1,7 +1,5 @@
 pub mod Files
 pub mod Explaining
-pub mod LineWords
-pub mod LineNames
 pub mod Lines
 pub mod Json
 pub mod Serving

@@ -1,11 +1,9 @@
 //! The command line of `bac`: what its words ask for, and doing it over any files, links, clocks and writers.
 #![tactic(auto)]
 
-mod address;
 mod asking;
 mod asking_lines;
 mod backup;
-mod bad_words;
 mod client;
 mod client_pair;
 mod command;
@@ -23,8 +21,6 @@ mod followed;
 mod forgetting;
 mod json;
 mod keeping;
-mod line_name;
-mod line_words;
 mod lines;
 mod listed_files;
 mod listing;
@@ -33,11 +29,9 @@ mod objects;
 mod online;
 mod pace;
 mod part_words;
-mod parts;
 mod past_ports;
 mod peer_file;
 mod peers;
-mod question_lines;
 mod reasons;
 mod recording;
 mod rounds;

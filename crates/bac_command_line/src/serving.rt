@@ -10,13 +10,13 @@ ghost use Rattle.bac_commands.specs.Statuses.{ByStatus};
 ghost use Rattle.bac_command_line.specs.Keeping.{restarted_by};
 ghost use Rattle.bac_command_line.specs.Serving.{is_reusing, patience_of, restart_of, reuse_of, turns_of};
 
-use crate::address::{BACNET_PORT, EVERY_HOST, LOCAL_HOST, read_host};
 use crate::station::Station;
 use bac_commands::{
     KeptServer, LevelLog, LogLevel, OctetStyle, ServeCommand, link_fault, serve_kept_logged,
 };
 use bac_driver::{BoundNode, Clock, Link, NoObserver, RunLimit, WaitLimit};
 use bac_keep::Keeper;
+use bac_lists::{BACNET_PORT, EVERY_HOST, LOCAL_HOST, read_host};
 use bac_node::{MEMORY, Reuse};
 use bac_npdu::LinkAddress;
 use bac_text::Status;
