@@ -4,7 +4,8 @@ ghost use Rattle.std.specs.List.{list_all};
 ghost use Rattle.std.specs.Option.{option_map};
 ghost use Rattle.bac_lists.specs.LineNames.{has_bad_name, is_name, is_name_octet, is_naming, name_in, name_of, words_behind};
 
-use crate::question_lines::is_address;
+use crate::line_words::is_address;
+use std::str;
 
 /// Whether an octet may stand in a name: a letter, a digit, `_`, `-` or `.`.
 fn is_name_octet(octet: u8) -> bool
@@ -39,17 +40,32 @@ fn is_naming(word: &[u8]) -> bool
 #[derive(Clone, Copy)]
 pub(crate) struct NamedWords<'w, 'a> {
     /// The line's name, if it has one.
-    pub name: Option<&'a [u8]>,
+    pub name: Option<&'a str>,
     /// The words behind it.
     pub words: &'w [&'a [u8]],
 }
 
+/// The name that these octets are. None where they are none.
+#[tactic(auto, using(crate::proofs::LineNames::name_is_text))]
+fn name_text(octets: &[u8]) -> Option<&str>
+    ensures { MatchOption result (is_name octets.now ≡ false) (λ t. t.now ≡ octets.now) }
+{
+    if !is_name(octets) {
+        return None;
+    }
+    match str::from_utf8(octets) {
+        Ok(text) => Some(text),
+        Err(_) => None,
+    }
+}
+
 /// The name in a word that ends with a colon. None where it is none.
-fn name_in(word: &[u8]) -> Option<&[u8]>
+#[tactic(auto, using(crate::proofs::LineNames::name_front))]
+fn name_in(word: &[u8]) -> Option<&str>
     ensures { MatchOption result (is_name (name_in word.now) ≡ false) (λ t. t.now ≡ name_in word.now) }
 {
-    let (_, text) = word.split_last()?;
-    if is_name(text) { Some(text) } else { None }
+    let (_, octets) = word.split_last()?;
+    name_text(octets)
 }
 
 /// The name of a line with these words, and the words behind it. An Err has the word that stands where a name does, and is none.

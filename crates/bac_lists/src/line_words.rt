@@ -1,7 +1,7 @@
 //! The words of a line of a list: blanks and tabs separate them, one may be a text in quotes, and a note may stand at the end.
 ghost use Rattle.std.specs.Prelude.{◌≡◌, ◌<◌, ◌≤◌, [], ◌∷◌, length, ◌+◌, take, drop, map, Some, None, MatchOption, IfOk, IfSome, IsErrOf, ℕ, List};
 ghost use Rattle.std.specs.List.{position};
-ghost use Rattle.bac_lists.specs.LineWords.{Begins, BeginsNoBlank, is_blank, is_quote, with_word, words_from, words_of};
+ghost use Rattle.bac_lists.specs.LineWords.{Begins, BeginsNoBlank, is_address, is_blank, is_quote, with_word, words_from, words_of};
 ghost use Rattle.bac_lists.specs.LineWords.Place.{Closed, Quoted, Within};
 
 use std::alloc::Global;
@@ -13,6 +13,16 @@ pub(crate) enum WordsFault {
     OpenQuote,
     /// An allocation failed.
     NoMemory,
+}
+
+/// Whether a word names whom a line is asked of.
+pub(crate) fn is_address(word: &[u8]) -> bool
+    ensures { result ≡ is_address word.now }
+{
+    match word.split_first() {
+        Some((octet, _)) => *octet == b'@',
+        None => false,
+    }
 }
 
 fn is_blank(octet: u8) -> bool

@@ -14,7 +14,7 @@ use crate::address::read_peer;
 use crate::asker::Asker;
 use crate::bad_words::{print_bad_line, print_bad_name, print_no_peer, print_open_quote};
 use crate::line_name::named_words;
-use crate::line_words::{WordsFault, words_of};
+use crate::line_words::{WordsFault, is_address, words_of};
 use crate::parts::parts_of;
 use bac_ask_report::LineName;
 use bac_commands::read_question;
@@ -65,16 +65,6 @@ pub fn have_names(lines: &[LineQuestion]) -> bool
     ensures { result ≡ have_names lines.now }
 {
     lines.iter().any(|line| line.name.is_some())
-}
-
-/// Whether a word names whom a line is asked of.
-pub(crate) fn is_address(word: &[u8]) -> bool
-    ensures { result ≡ is_address word.now }
-{
-    match word.split_first() {
-        Some((octet, _)) => *octet == b'@',
-        None => false,
-    }
 }
 
 /// Whether the first word names whom a line is asked of.
@@ -161,7 +151,7 @@ fn question_of<E: Write>(
 /// The name of a line, which its question keeps.
 fn kept_name<E: Write>(
     alloc: Global,
-    name: Option<&[u8]>,
+    name: Option<&str>,
     err: &mut E,
 ) -> Result<Option<String>, Status>
     ensures kept { IfOk result (λ n. option_map string_bytes n ≡ option_map (λ t. t.now) name.entry) }
@@ -171,11 +161,7 @@ fn kept_name<E: Write>(
     let Some(name) = name else {
         return Ok(None);
     };
-    // a name has letters, digits and signs of ASCII alone
-    let Ok(text) = std::str::from_utf8(name) else {
-        return Err(no_memory(err));
-    };
-    match String::from_str(alloc, text) {
+    match String::from_str(alloc, name) {
         Ok(name) => Ok(Some(name)),
         Err(_) => Err(no_memory(err)),
     }

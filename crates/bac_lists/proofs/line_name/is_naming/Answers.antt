@@ -1,6 +1,6 @@
 -- By its last octet.
 use Rattle.std.proofs.Common.{◌≡◌, ◌∙◌, ◌&&◌, ℕ, Bool, true, false, not, ap, sym, nat_eq, rules}
-use Rattle.bac_lists.specs.LineNames.{ends_with_colon, is_naming}
+use Rattle.bac_lists.specs.LineNames.{ends_with_colon}
 use Rattle.bac_lists.specs.LineWords.{is_address}
 use Rattle.bac_lists.proofs.LineNames.{colon_last}
 use Rattle.bac_lists.proofs.line_name.is_naming.Goals as goal

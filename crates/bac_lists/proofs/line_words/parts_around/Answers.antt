@@ -1,5 +1,5 @@
-use Rattle.std.proofs.Common.{◌+◌, arith}
-use Rattle.std.proofs.lemmas.List.{take_rest, length-drop}
+use Rattle.std.proofs.Common.{◌+◌}
+use Rattle.std.proofs.lemmas.List.{take_rest}
 use Rattle.bac_lists.proofs.line_words.parts_around.Goals as goal
 
 pub returns-clause-rest : goal.returns-clause-rest

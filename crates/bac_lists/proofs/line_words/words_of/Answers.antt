@@ -1,4 +1,4 @@
-use Rattle.std.proofs.Common.{◌≡◌, ◌∷◌, [], ◌++◌, Bool, true, false, List, map, refl, sym, ap, subst, ◌∙◌, if◌then◌else◌, not}
+use Rattle.std.proofs.Common.{◌∷◌, [], ◌++◌, Bool, map, sym, ap, ◌∙◌, if◌then◌else◌}
 use Rattle.std.proofs.lemmas.List.{map-append}
 use Rattle.bac_lists.specs.LineWords.{after_words, words_of}
 use Rattle.bac_lists.proofs.LineWords.{one_more_word}
