@@ -1,6 +1,5 @@
 -- The list of the files of a backup: a line for each, with its digest, its length and its name in the folder.
 use Rattle.std.specs.Prelude.{ℕ, ◌+◌, ◌-◌, ◌==◌, List, [], ◌∷◌, ◌++◌, codes, decimal, drop, length, map, take, if◌then◌else◌, Option, None, Some}
-use Rattle.std.specs.Option.{option_map}
 use Rattle.std.specs.Str.{bytes_eq}
 use Rattle.hex.specs.Hex.{encode_lower}
 use Rattle.bac_value.specs.Value.{ObjectId}
