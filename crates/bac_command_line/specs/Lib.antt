@@ -5,6 +5,7 @@ pub mod Json
 pub mod Serving
 pub mod Asking
 pub mod Given
+pub mod GivenServing
 pub mod Selecting
 pub mod FileWords
 pub mod Rounds

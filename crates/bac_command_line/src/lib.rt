@@ -38,6 +38,7 @@ mod rounds;
 mod seconds;
 mod selecting;
 mod serving;
+mod serving_words;
 mod station;
 mod system;
 mod task;

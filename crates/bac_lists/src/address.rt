@@ -1,4 +1,9 @@
 //! IPv4 addresses, UDP ports and the ways behind routers as words.
+ghost use Rattle.std.specs.Prelude.{◌≡◌, MatchOption};
+ghost use Rattle.std.specs.Net.Addr.{ipv4_octets};
+ghost use Rattle.std.specs.Net.Grammar.{IsIpv4Text};
+ghost use Rattle.std.specs.declared.net.Ipv4Addr.{Ipv4Addr};
+
 use bac_npdu::{LinkAddress, Peer, Route};
 use std::net::Ipv4Addr;
 
@@ -12,9 +17,13 @@ pub const EVERY_HOST: [u8; 4] = [0, 0, 0, 0];
 pub const BACNET_PORT: u16 = 47_808;
 
 /// The address that a text as `192.168.1.20` is. None of any other text.
-pub fn read_host(text: &str) -> Option<[u8; 4]> {
-    let host: Ipv4Addr = text.parse().ok()?;
-    Some(host.octets())
+pub fn read_host(text: &str) -> Option<[u8; 4]>
+    ensures { MatchOption result ((a : Ipv4Addr) → IsIpv4Text text.now a → ⊥) (λ host. (a : Ipv4Addr) × IsIpv4Text text.now a × (ipv4_octets a ≡ host)) }
+{
+    match text.parse::<Ipv4Addr>() {
+        Ok(host) => Some(host.octets()),
+        Err(_) => None,
+    }
 }
 
 /// The address of a link: a host and a UDP port (clause J.1.2).
