@@ -4,6 +4,7 @@ pub mod CheckedFiles
 pub mod Statuses
 pub mod StoresOfFiles
 pub mod Served
+pub mod Stretches
 pub mod Forgot
 pub mod KeptServed
 pub mod Opened
