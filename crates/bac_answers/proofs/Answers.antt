@@ -16,21 +16,21 @@ use Rattle.bac_answers.specs.Answers.{AnswersAreReplies, WasReply}
 use Rattle.bac_answers.proofs.Logs.{replayed, right_before, same_ask}
 
 -- a fact of the log stands somewhere in it
-place_of : (f : Fact) (log : List Fact) → Has f log → (newer : List Fact) × (older : List Fact) × (log ≡ newer ++ f ∷ older)
+pub place_of : (f : Fact) (log : List Fact) → Has f log → (newer : List Fact) × (older : List Fact) × (log ≡ newer ++ f ∷ older)
 place_of f [] h = absurd h
 place_of f (g ∷ log) (inl same) = ([], log, ap (λ (x : Fact). x ∷ log) same)
 place_of f (g ∷ log) (inr h) = let k = place_of f log h in (g ∷ k.0, k.1, ap (λ (l : List Fact). g ∷ l) k.2)
 
 -- what was there before a fact is there after it
-has_more : (f : Fact) (newer older : List Fact) → Has f older → Has f (newer ++ older)
+pub has_more : (f : Fact) (newer older : List Fact) → Has f older → Has f (newer ++ older)
 has_more f [] older h = h
 has_more f (g ∷ newer) older h = inr (has_more f newer older h)
 
-whole_ask : (n c s d t : ℕ) (r q : Request) → Asked n c s r ≡ Asked n d t q → (c ≡ d) × (s ≡ t) × (r ≡ q)
+pub whole_ask : (n c s d t : ℕ) (r q : Request) → Asked n c s r ≡ Asked n d t q → (c ≡ d) × (s ≡ t) × (r ≡ q)
 whole_ask n c s d t r q is = (cc, cc, cc)
 
 module _ (u : Reuses) (opening : Stores) where
-  right_at : (log newer older : List Fact) (f : Fact) (stores : Stores) → log ≡ newer ++ f ∷ older → IsOnceSo u opening log stores
+  pub right_at : (log newer older : List Fact) (f : Fact) (stores : Stores) → log ≡ newer ++ f ∷ older → IsOnceSo u opening log stores
       → (new : Stores) × IsOnceSo u opening (f ∷ older) new
   right_at log newer older f stores is h = right_before u opening newer older f stores (subst (λ (l : List Fact). IsOnceSo u opening l stores) is h)
 

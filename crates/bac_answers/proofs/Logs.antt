@@ -78,9 +78,11 @@ module _ (u : Reuses) (opening : Stores) where
   same_ask n c s d t r q [] stores h a b = absurd a
   same_ask n c s d t r q (f ∷ log) stores h (inl a) (inl b) = sym a ∙ b
   same_ask n c s d t r q (f ∷ log) stores h (inl a) (inr b) =
-      absurd (let next : n ≡ asks_in log = numbered n c s r f log h.0 stores a h.1 in let less : n < asks_in log = below n d t q log h.0 h.2 b in omega (arith, next, less))
+      absurd (let next : n ≡ asks_in log = numbered n c s r f log h.0 stores a h.1 in
+      let less : n < asks_in log = below n d t q log h.0 h.2 b in omega (arith, next, less))
   same_ask n c s d t r q (f ∷ log) stores h (inr a) (inl b) =
-      absurd (let next : n ≡ asks_in log = numbered n d t q f log h.0 stores b h.1 in let less : n < asks_in log = below n c s r log h.0 h.2 a in omega (arith, next, less))
+      absurd (let next : n ≡ asks_in log = numbered n d t q f log h.0 stores b h.1 in
+      let less : n < asks_in log = below n c s r log h.0 h.2 a in omega (arith, next, less))
   same_ask n c s d t r q (f ∷ log) stores h (inr a) (inr b) = same_ask n c s d t r q log h.0 h.2 a b
 
   -- the stores are those by the log

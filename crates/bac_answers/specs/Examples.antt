@@ -17,7 +17,7 @@ REUSES node = nat_eq node 2
 abbrev pub READ : Request
 READ = Request.ReadFile (record { kind = 10; instance = 1 }) (ReadStream (pos 0) 10)
 
--- what it has of a file of these octets
+-- the reply where the file has these octets
 abbrev pub READS : List ℕ → Reply
 READS octets = reply_to (FILES octets) READ
 
@@ -36,6 +36,7 @@ ANSWERED answer = Ended 0 (Answered answer) ∷ Performed 0 READ SECOND ∷ Chan
 abbrev pub CHANGED_BEFORE : Reply → List Fact
 CHANGED_BEFORE answer = Ended 0 (Answered answer) ∷ Performed 0 READ SECOND ∷ Asked 0 0 2 READ ∷ Changed 2 CHANGE ∷ []
 
+-- the second reply may be the answer, and is not the first; one that the store gave before the ask alone may not
 pub record AnsweredBySecond : Type 0 where
   pub second : IsOnceSo REUSES (FILE_OF []) (ANSWERED SECOND) (FILE_OF (1 ∷ 2 ∷ []))
   pub other : FIRST ≡ SECOND → ⊥

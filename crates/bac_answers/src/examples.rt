@@ -2,8 +2,8 @@
 
 ghost use Rattle.bac_answers.specs.Examples.{AnsweredBySecond};
 
-/// A file is read twice, and changes in between: the second reply may be the answer, and is another one than the first; a reply that the store had before the ask alone may
-/// not.
+/// A read is performed twice, and the file changes in between: the second reply may be the answer, and is another one than the first. A reply that the store gave
+/// before the ask alone may not.
 #[tactic(auto, using(crate::proofs::Computed::answered_by_second))]
 pub fn answered_by_second()
     ensures { AnsweredBySecond }
