@@ -12,7 +12,7 @@ use crate::folder::{Folder, MANIFEST};
 use crate::listed_files::{listed_files, objects_in};
 use crate::online::Machine;
 use crate::peer_file::{PeerFile, end_words};
-use crate::reasons::print_bad_manifest;
+use crate::reasons::{print_bad_manifest, print_empty_manifest};
 use crate::whole_files::client_of;
 use crate::whole_reading::{Got, read_whole};
 use crate::whole_writing::write_whole;
@@ -73,6 +73,29 @@ fn add_line(alloc: Global, file: &SavedFile, manifest: &mut Vec<u8>) -> Result<(
     Ok(())
 }
 
+/// Whether one of some files is that of an object.
+fn has_object(files: &[SavedFile], object: ObjectIdentifier) -> bool {
+    files.iter().any(|file| file.object == object)
+}
+
+/// The manifest of files that were saved, and of those of an earlier one that were not.
+fn manifest_of(
+    alloc: Global,
+    saved: &[SavedFile],
+    earlier: &[SavedFile],
+) -> Result<Vec<u8>, AllocError> {
+    let mut manifest = Vec::new(alloc);
+    for file in saved {
+        add_line(alloc, file, &mut manifest)?;
+    }
+    for file in earlier {
+        if !has_object(saved, file.object) {
+            add_line(alloc, file, &mut manifest)?;
+        }
+    }
+    Ok(manifest)
+}
+
 /// Whether octets are those of a saved file.
 fn are_saved(file: &SavedFile, octets: &[u8]) -> bool {
     octets.len() as u64 == file.length && digest_of(octets) == file.digest
@@ -126,35 +149,56 @@ impl<F: OpenFiles, M: Machine> Backup<'_, F, M> {
         print_news(alloc, object, &FileNews::Damaged(&name), out, err)
     }
 
-    /// Saves a file of the peer, and adds its line to a manifest. Answers whether it was saved.
+    /// Saves a file of the peer. Answers what the manifest says of it, or None where it was not saved.
     fn save<O: Write, E: Write>(
         &mut self,
         object: ObjectIdentifier,
-        manifest: &mut Vec<u8>,
         out: &mut O,
         err: &mut E,
-    ) -> Result<bool, Status>
+    ) -> Result<Option<SavedFile>, Status>
         ensures told { IfErr result IsStop }
     {
         let alloc = self.folder.alloc;
         let got = self.read(object, err)?;
         if !got.is_whole {
             print_not_read(alloc, object, &got, out, err)?;
-            return Ok(false);
+            return Ok(None);
         }
         let (file, is_there) = self.keep(object, &got.octets, err)?;
         if !is_there {
             self.print_damaged(object, out, err)?;
-            return Ok(false);
-        }
-        if add_line(alloc, &file, manifest).is_err() {
-            return Err(no_memory(err));
+            return Ok(None);
         }
         print_news(alloc, object, &FileNews::Saved(got.octets.len()), out, err)?;
-        Ok(true)
+        Ok(Some(file))
     }
 
-    /// Saves files of the peer, and then their manifest. Answers whether all were saved.
+    /// The files of the manifest that an earlier backup left in the folder; none where there is no manifest.
+    fn earlier<E: Write>(&self, err: &mut E) -> Result<Vec<SavedFile>, Status>
+        ensures told { IfErr result IsStop }
+    {
+        match self.folder.read_if_there(MANIFEST, err)? {
+            Some(text) => self.folder.files_in(&text, err),
+            None => Ok(Vec::new(self.folder.alloc)),
+        }
+    }
+
+    /// Writes the manifest of the files that were saved. Those of an earlier one that were not saved now keep their lines.
+    fn write_manifest<E: Write>(
+        &self,
+        saved: &[SavedFile],
+        earlier: &[SavedFile],
+        err: &mut E,
+    ) -> Result<(), Status>
+        ensures told { IfErr result IsStop }
+    {
+        let Ok(manifest) = manifest_of(self.folder.alloc, saved, earlier) else {
+            return Err(no_memory(err));
+        };
+        self.folder.write(MANIFEST, &manifest, err)
+    }
+
+    /// Saves files of the peer, and then their manifest; where none is saved, the manifest stays as it is. Answers whether all were saved.
     fn save_all<O: Write, E: Write>(
         &mut self,
         objects: &[ObjectIdentifier],
@@ -164,14 +208,19 @@ impl<F: OpenFiles, M: Machine> Backup<'_, F, M> {
         ensures told { IfErr result IsStop }
     {
         self.folder.make(err)?;
-        let mut manifest = Vec::new(self.folder.alloc);
-        let mut all = true;
+        let earlier = self.earlier(err)?;
+        let mut saved = Vec::new(self.folder.alloc);
         for object in objects {
-            let saved = self.save(*object, &mut manifest, out, err)?;
-            all = all && saved;
+            if let Some(file) = self.save(*object, out, err)? {
+                if saved.push(file).is_err() {
+                    return Err(no_memory(err));
+                }
+            }
         }
-        self.folder.write(MANIFEST, &manifest, err)?;
-        Ok(all)
+        if !saved.is_empty() {
+            self.write_manifest(&saved, &earlier, err)?;
+        }
+        Ok(saved.len() == objects.len())
     }
 
     /// Writes the octets of a file of the folder into that of the peer. Answers whether all were written; prints why not.
@@ -315,26 +364,29 @@ pub(crate) fn back_up<F: OpenFiles, M: Machine, O: Write, E: Write>(
     }
 }
 
-/// The files of a manifest. A line of no such form: its number on `err`.
-fn files_in<E: Write>(alloc: Global, text: &[u8], err: &mut E) -> Result<Vec<SavedFile>, Status>
-    ensures told { IfErr result IsStop }
-{
-    let Ok(text) = std::str::from_utf8(text) else {
-        return Err(print_bad_manifest(1, err));
-    };
-    let mut files = Vec::new(alloc);
-    for (place, line) in text.lines().enumerate() {
-        let Ok(read) = read_manifest_line(alloc, line) else {
-            return Err(no_memory(err));
+impl<F: OpenFiles> Folder<'_, F> {
+    /// The files of a manifest in it. A line of no such form: its number on `err`.
+    fn files_in<E: Write>(&self, text: &[u8], err: &mut E) -> Result<Vec<SavedFile>, Status>
+        ensures told { IfErr result IsStop }
+    {
+        let Ok(text) = std::str::from_utf8(text) else {
+            return Err(print_bad_manifest(self.path, 1, err));
         };
-        let Some(file) = read else {
-            return Err(print_bad_manifest(place.saturating_add(1), err));
-        };
-        if files.push(file).is_err() {
-            return Err(no_memory(err));
+        let mut files = Vec::new(self.alloc);
+        for (place, line) in text.lines().enumerate() {
+            let Ok(read) = read_manifest_line(self.alloc, line) else {
+                return Err(no_memory(err));
+            };
+            let Some(file) = read else {
+                let number = place.saturating_add(1);
+                return Err(print_bad_manifest(self.path, number, err));
+            };
+            if files.push(file).is_err() {
+                return Err(no_memory(err));
+            }
         }
+        Ok(files)
     }
-    Ok(files)
 }
 
 /// Writes the files of a folder back, and compares what the peer then has. Answers whether it has all of them.
@@ -353,7 +405,11 @@ pub(crate) fn restore<F: OpenFiles, M: Machine, O: Write, E: Write>(
         path,
     };
     let text = folder.read(MANIFEST, err)?;
-    let files = files_in(environment.alloc, &text, err)?;
+    let files = folder.files_in(&text, err)?;
+    if files.is_empty() {
+        print_empty_manifest(path, err);
+        return Ok(false);
+    }
     let mut backup = backup_in(environment, task, path, err)?;
     backup.restore_all(&files, out, err)
 }

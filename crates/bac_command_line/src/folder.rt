@@ -7,7 +7,7 @@ use crate::objects::octets_of;
 use crate::reasons::print_unwritten;
 use bac_text::{Status, no_memory};
 use std::alloc::Global;
-use std::io::Write;
+use std::io::{ErrorKind, Write};
 
 /// The name of the list of the files of a backup.
 pub(crate) const MANIFEST: &str = "manifest";
@@ -55,6 +55,21 @@ impl<F: OpenFiles> Folder<'_, F> {
         match self.files.write(&path, octets) {
             Ok(()) => Ok(()),
             Err(error) => Err(print_unwritten(&path, &error, err)),
+        }
+    }
+
+    /// The octets of a file in it, or None where there is no such file. Where it cannot be read, `err` and the status say so.
+    pub(crate) fn read_if_there<E: Write>(
+        &self,
+        name: &str,
+        err: &mut E,
+    ) -> Result<Option<Vec<u8>>, Status>
+        ensures told { IfErr result IsStop }
+    {
+        let path = self.path_of(name, err)?;
+        match self.files.open(&path) {
+            Err(error) if error.kind() == ErrorKind::NotFound => Ok(None),
+            _ => Ok(Some(self.read(name, err)?)),
         }
     }
 

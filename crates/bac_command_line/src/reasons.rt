@@ -48,15 +48,21 @@ pub(crate) fn print_no_whole_file<E: Write>(err: &mut E) -> Status
 }
 
 /// Complains of a line of a manifest that is none.
-pub(crate) fn print_bad_manifest<E: Write>(number: usize, err: &mut E) -> Status
+pub(crate) fn print_bad_manifest<E: Write>(folder: &str, number: usize, err: &mut E) -> Status
     ensures told { IsStop result }
 {
     // if that fails too, only the status is left
     let _ = writeln!(
         err,
-        "manifest: line {number}: a digest, a length and the name of a file, as file-1.bin, wanted"
+        "{folder}/manifest: line {number}: a digest, a length and the name of a file, as file-1.bin, wanted"
     );
     Status::CommandLine
+}
+
+/// Tells that the manifest of a folder has no files.
+pub(crate) fn print_empty_manifest<E: Write>(folder: &str, err: &mut E) {
+    // if that fails too, only the status is left
+    let _ = writeln!(err, "{folder}/manifest: no files");
 }
 
 /// Tells the first fault of a document, and then all of them, each with its line; the first alone where memory is refused.
