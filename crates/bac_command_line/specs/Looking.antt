@@ -1,5 +1,5 @@
 -- What `serve --follow` and `serve --until-eof` print, and their statuses: a node served in stretches, between which it may change its own store.
-use Rattle.std.specs.Prelude.{◌≡◌, ◌⊎◌, ℕ, ◌+◌, min, Bool, true, List, [], ◌∷◌, length, Option, Some, None}
+use Rattle.std.specs.Prelude.{◌≡◌, ◌⊎◌, ℕ, ◌+◌, min, true, List, [], ◌∷◌, length, Option, Some, None}
 use Rattle.std.specs.Io.KnownBytes.{Appends, Keeps}
 use Rattle.bac_store.specs.AtNode.{Change}
 use Rattle.bac_store.specs.Stores.{Store}

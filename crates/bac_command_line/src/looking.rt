@@ -219,7 +219,6 @@ fn look<F: OpenFiles, M: Machine, E: Write>(
 }
 
 /// A node serves a stretch, and looks. None where it is over.
-#[tactic(auto, using(crate::proofs::Stretches::one_taken))]
 fn take_stretch<F: OpenFiles, M: Machine, E: Write>(
     environment: &Environment<'_, F, M>,
     stop: Stop,
