@@ -162,10 +162,23 @@ const CHECK: &[Word] = &[
 const EXPLAIN_EXAMPLES: &str = "\
 Example: bac explain capture.pcapng
 Example: bac explain --chart capture.pcapng
+Example: bac explain --chart --pairs --values capture.pcapng
 Example: bac explain --peer 192.168.1.20 --slower 1000 capture.pcapng
 Example: bac explain --unanswered --fail capture.pcapng
 Example: bac explain --json capture.pcapng | jq 'select(.unanswered)'
 Example: bac explain --html capture.pcapng > capture.html";
+
+/// The words of `explain` that go with no chart.
+const TRANSACTIONS: &[&str] = &[
+    "unanswered",
+    "findings",
+    "slower",
+    "peer",
+    "fail",
+    "json",
+    "html",
+    "frames",
+];
 
 /// What `explain` takes.
 const EXPLAIN: &[Word] = &[
@@ -245,6 +258,27 @@ const EXPLAIN: &[Word] = &[
         need: Need::Never,
         against: &["chart", "mermaid", "json"],
         help: "Prints a page of HTML: the transactions as a table that sorts and filters, with a picture of each",
+    },
+    Word {
+        name: "values",
+        form: WordForm::Flag,
+        need: Need::Never,
+        against: TRANSACTIONS,
+        help: "Draws a chart, with --mermaid that of Mermaid, in which an answer that is whole in one APDU has its values",
+    },
+    Word {
+        name: "pairs",
+        form: WordForm::Flag,
+        need: Need::Never,
+        against: TRANSACTIONS,
+        help: "Draws a chart for each client and server, one after the other, of any number; with --mermaid as sections of Markdown",
+    },
+    Word {
+        name: "frames",
+        form: WordForm::Flag,
+        need: Need::Never,
+        against: &["chart", "mermaid", "json", "html"],
+        help: "Prints a line for each transaction with the time of its request, and the numbers of its frames as Wireshark counts them",
     },
 ];
 

@@ -17,6 +17,7 @@ mod explained;
 mod files;
 mod followed;
 mod forgotten;
+mod frames;
 mod help;
 mod json;
 mod kept;
