@@ -73,7 +73,8 @@ Example: bac decode 810A000801001013
 Example: bac decode --text '81 0a 00 11 01 04 00 05 01 0c 0c 00 00 00 05 19 55'
 Example: bac decode --text - < datagrams.txt
 Example: bac decode --text --number --form hexdump - < dump.txt
-Example: bac decode --form base64 gQoACAEAEBM=";
+Example: bac decode --form base64 gQoACAEAEBM=
+Example: bac decode --text --frame --form hexdump - < packet.txt";
 
 /// What `decode` takes.
 const DECODE: &[Word] = &[
@@ -96,7 +97,7 @@ const DECODE: &[Word] = &[
         form: WordForm::Text("FORM"),
         need: Need::Never,
         against: &["json"],
-        help: "The form of the datagrams, as Wireshark copies them: `hex`, `hexdump`, `escaped`, `c` (arrays of C), `base64`, or `auto` to find it. Only the part from BACnet/IP on (0x81) is wanted, without the headers before it",
+        help: "The form of the datagrams, as Wireshark copies them: `hex`, `hexdump`, `escaped`, `c` (arrays of C), `base64`, or `auto` to find it. Only the part from BACnet/IP on (0x81) is wanted, without the headers before it, unless --frame is given",
     },
     Word {
         name: "number",
@@ -104,6 +105,13 @@ const DECODE: &[Word] = &[
         need: Need::Never,
         against: &["json"],
         help: "Prints a line `datagram N` before each datagram, from 1 on",
+    },
+    Word {
+        name: "frame",
+        form: WordForm::Flag,
+        need: Need::Never,
+        against: &["json"],
+        help: "Takes whole frames of Ethernet, as Wireshark copies packets, and prints the datagram that each carries from or to UDP port 47808 to 47823",
     },
     Word {
         name: "json",

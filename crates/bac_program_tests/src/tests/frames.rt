@@ -1,4 +1,4 @@
-//! What `explain` draws and prints of frames.
+//! What `explain` draws and prints of frames, and what `decode` prints of one.
 use super::*;
 
 /// A file of pcapng: 10.0.0.5 reads analog-input 5 of 10.0.0.9, which answers 5 after 4 ms; both at port 4660.
@@ -68,6 +68,34 @@ sequenceDiagram
             "",
             0,
         ),
+    ),
+    (
+        "decode --frame 0200000000090200000000050800450000241234000040110000C0A80105C0A80109BAC0BAC000100000810A000801001013",
+        (
+            "bvll len=8\nnpdu expecting=0 priority=0\nunconfirmed-request choice=19 data=\n",
+            "",
+            0,
+        ),
+    ),
+    (
+        "decode --text --number --frame --form base64 AgAAAAAJAgAAAAAFCABFAAAkEjQAAEARAADAqAEFwKgBCbrAusAAEAAAgQoACAEAEBM=",
+        (
+            "datagram 1\nbvll len=8\nnpdu expecting=0 priority=0\nunconfirmed-request choice=19 (i-have) data=\n",
+            "",
+            0,
+        ),
+    ),
+    (
+        "decode --frame 0200000000090200000000050800450000241234200040110000C0A80105C0A80109BAC0BAC000100000810A000801001013",
+        ("frame: fragment\n", "", 1),
+    ),
+    (
+        "decode --frame 0200000000090200000000050806000000000000000000000000000000000000000000000000000000000000",
+        ("frame: no datagram of BACnet/IP\n", "", 1),
+    ),
+    (
+        "decode --frame 0200000000090200000000050800450000201234000040110000C0A80105C0A80109BAC0BAC0000C0000810B0004",
+        ("fault bvll 6\n", "", 1),
     ),
 ];
 
