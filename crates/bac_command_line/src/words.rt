@@ -13,6 +13,8 @@ pub(crate) enum WordForm {
     Text(&'static str),
     /// By its name, with a number after it, from 1 to the one given here.
     Number(&'static str, u64),
+    /// The same, from 0.
+    Index(&'static str, u64),
     /// By its name, with one of these words after it.
     Choice(&'static str, &'static [&'static str]),
 }

@@ -1,5 +1,6 @@
-//! What `explain` draws and prints of frames, and what `decode` prints of one.
+//! What `explain` draws and prints of frames, what `decode` prints of one, and a backup of the files that a device lists.
 use super::*;
+use crate::disk::Disk;
 
 /// A file of pcapng: 10.0.0.5 reads analog-input 5 of 10.0.0.9, which answers 5 after 4 ms; both at port 4660.
 const READ: &str = "\
@@ -103,6 +104,38 @@ sequenceDiagram
 fn prints_frames(rt: HostRuntime) -> Result<(), Fail> {
     for (line, ending) in ROWS {
         holds(run_on(rt.alloc(), READ, NO_LINKS, line)?.is(ending), line)?;
+    }
+    Ok(())
+}
+
+/// Backups of the house, one after the other, and their endings.
+const BACKUPS: &[(&str, Ending)] = &[
+    (
+        "backup --port 47808 --device 0 --folder none",
+        (
+            "",
+            "object-list: answered error object unknown-object (1:31)\n",
+            1,
+        ),
+    ),
+    (
+        "backup --port 47808 --device 1 --folder saved",
+        ("file:1 2 octets saved\n", "", 0),
+    ),
+    (
+        "restore --port 47808 --folder saved",
+        ("file:1 2 octets restored\n", "", 0),
+    ),
+];
+
+#[test]
+fn saves_the_files_of_a_device(rt: HostRuntime) -> Result<(), Fail> {
+    let alloc = rt.alloc();
+    let disk = Disk::new(alloc);
+    let machine = BenchMachine::new(alloc, HOUSES);
+    for (line, ending) in BACKUPS {
+        let words = words_of(alloc, line)?;
+        holds(run_words(alloc, &words, &disk, &machine).is(ending), line)?;
     }
     Ok(())
 }

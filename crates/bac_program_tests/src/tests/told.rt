@@ -51,7 +51,7 @@ const PARTS: &[(&str, &[&str])] = &[
             " answer decode check explain simulate serve keep ask pair backup restore help version completion\"\n",
             "\n            pair) words=\"--help\" ;;\n",
             "\n            decode) words=\"--help --text",
-            "\n            backup) words=\"--help --port --to --route --timeout --folder\" ;;\n",
+            "\n            backup) words=\"--help --port --to --route --timeout --folder --device\" ;;\n",
             "\n            restore) words=\"--help --port --to --route --timeout --folder\" ;;\n",
             "\ncomplete -o default -F _bac bac\n",
         ],
