@@ -4,11 +4,48 @@ use crate::words::octets_of;
 use bac_capture::{Ports, check_capture_over};
 use bac_explain_html::explain_html_over;
 use bac_explain_json::explain_json_over;
-use bac_explain_report::{ChartFormat, ReportOptions, chart_over, explain_over};
+use bac_explain_report::{ChartFormat, ChartOptions, ReportOptions, chart_over, explain_over};
 use std::alloc::Global;
 use std::io::{BufRead, BufReader, Write};
 
 const PORTS: Ports = Ports { also: None };
+
+/// One chart without values.
+pub(crate) const CHART: ChartOptions = ChartOptions {
+    form: ChartFormat::Chart,
+    values: false,
+    pairs: false,
+};
+
+/// The same, as a diagram of Mermaid.
+pub(crate) const MERMAID: ChartOptions = ChartOptions {
+    form: ChartFormat::Mermaid,
+    ..CHART
+};
+
+/// One with values.
+pub(crate) const VALUES: ChartOptions = ChartOptions {
+    values: true,
+    ..CHART
+};
+
+/// The same, as a diagram of Mermaid.
+pub(crate) const MERMAID_VALUES: ChartOptions = ChartOptions {
+    values: true,
+    ..MERMAID
+};
+
+/// A chart for each pair.
+pub(crate) const PAIRS: ChartOptions = ChartOptions {
+    pairs: true,
+    ..CHART
+};
+
+/// The same, with values, as diagrams of Mermaid.
+pub(crate) const MERMAID_PAIRS: ChartOptions = ChartOptions {
+    pairs: true,
+    ..MERMAID_VALUES
+};
 
 /// What is printed of a file.
 #[derive(Clone, Copy)]
@@ -22,8 +59,8 @@ pub(crate) enum Print {
     ExplainJson(ReportOptions),
     /// The same as a page of HTML.
     ExplainHtml(ReportOptions),
-    /// A chart of them.
-    Chart(ChartFormat),
+    /// A chart of them, or charts.
+    Chart(ChartOptions),
 }
 
 /// Prints that; the exit status.
@@ -40,7 +77,7 @@ pub(crate) fn status_of<R: BufRead, O: Write>(
         Print::Explain(options) => explain_over(alloc, options, input, PORTS, out, err),
         Print::ExplainHtml(options) => { explain_html_over(alloc, options, input, PORTS, out, err) }
         Print::ExplainJson(options) => { explain_json_over(alloc, options, input, PORTS, out, err) }
-        Print::Chart(form) => chart_over(alloc, form, input, PORTS, out, err),
+        Print::Chart(options) => chart_over(alloc, options, input, PORTS, out, err),
     };
     status.code()
 }
@@ -115,12 +152,6 @@ pub(crate) fn print_end_of_chart(alloc: Global, lines: &str, out: &mut Vec<u8>) 
     let mut input = file.as_slice();
     let mut drawn = Vec::new(alloc);
     let mut err = Vec::new(alloc);
-    let code = status_of(
-        alloc,
-        Print::Chart(ChartFormat::Chart),
-        &mut input,
-        &mut drawn,
-        &mut err,
-    );
+    let code = status_of(alloc, Print::Chart(CHART), &mut input, &mut drawn, &mut err);
     print_end(code, &err, out)
 }

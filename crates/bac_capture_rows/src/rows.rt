@@ -1,9 +1,11 @@
 //! Rows one after the other.
-use crate::printing::{Print, print_end_of_chart, print_octets, print_seen};
+use crate::printing::{
+    CHART, MERMAID, MERMAID_PAIRS, MERMAID_VALUES, PAIRS, Print, VALUES, print_end_of_chart,
+    print_octets, print_seen,
+};
 use crate::selected::{ALL, options_of};
 use crate::words::first;
 use crate::{failing, frames, transactions, worlds};
-use bac_explain_report::ChartFormat;
 use std::alloc::Global;
 use std::io;
 use std::io::Write;
@@ -40,17 +42,19 @@ const KINDS: &[(&str, Kind)] = &[
     ("explain-with", Kind::Selected),
     ("explain-json", Kind::SelectedJson),
     ("explain-html", Kind::SelectedHtml),
-    ("chart", Kind::Seen(Print::Chart(ChartFormat::Chart))),
-    ("mermaid", Kind::Seen(Print::Chart(ChartFormat::Mermaid))),
+    ("chart", Kind::Seen(Print::Chart(CHART))),
+    ("mermaid", Kind::Seen(Print::Chart(MERMAID))),
+    ("chart-values", Kind::Seen(Print::Chart(VALUES))),
+    ("mermaid-values", Kind::Seen(Print::Chart(MERMAID_VALUES))),
+    ("chart-pairs", Kind::Seen(Print::Chart(PAIRS))),
+    ("mermaid-pairs", Kind::Seen(Print::Chart(MERMAID_PAIRS))),
     ("end", Kind::End),
     ("check", Kind::File(Print::Check)),
     ("named", Kind::File(Print::Named)),
     ("explain-file", Kind::File(Print::Explain(ALL))),
-    ("chart-file", Kind::File(Print::Chart(ChartFormat::Chart))),
-    (
-        "mermaid-file",
-        Kind::File(Print::Chart(ChartFormat::Mermaid)),
-    ),
+    ("chart-file", Kind::File(Print::Chart(CHART))),
+    ("mermaid-file", Kind::File(Print::Chart(MERMAID))),
+    ("pairs-file", Kind::File(Print::Chart(PAIRS))),
     ("input", Kind::Input),
     ("output", Kind::Output(Print::Check)),
     ("named-output", Kind::Output(Print::Named)),

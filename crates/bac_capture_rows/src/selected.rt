@@ -1,4 +1,4 @@
-//! The line of options of a row: `unanswered`, `findings`, `slower MS`, `peer HOST` or `peer HOST:PORT`, where HOST is the number of a host, and `fail`.
+//! The line of options of a row: `unanswered`, `findings`, `slower MS`, `peer HOST` or `peer HOST:PORT`, where HOST is the number of a host, `fail` and `frames`.
 use crate::words::{first, number};
 use bac_explain_report::{PeerFilter, ReportOptions, Selection};
 
@@ -6,6 +6,7 @@ use bac_explain_report::{PeerFilter, ReportOptions, Selection};
 pub(crate) const ALL: ReportOptions = ReportOptions {
     selection: Selection::ALL,
     strict: false,
+    frames: false,
 };
 
 /// The address of the host of a number, and a port or any.
@@ -59,16 +60,20 @@ fn with_filter<'a>(
     }
 }
 
-/// The options of a line: at most five.
+/// The options of a line: at most six.
 pub(crate) fn options_of(line: &str) -> Option<ReportOptions> {
     let mut options = ALL;
     let mut rest = line;
-    for _ in 0..5 {
+    for _ in 0..6 {
         let (name, more) = first(rest);
         match name {
             "" => return Some(options),
             "fail" => {
                 options.strict = true;
+                rest = more;
+            }
+            "frames" => {
+                options.frames = true;
                 rest = more;
             }
             _ => {

@@ -1,9 +1,9 @@
 -- What `check`, `explain` and `simulate` print of a file, and their statuses.
 use Rattle.std.specs.Prelude.{◌≡◌, ℕ, Bool, List, Option, ⊤}
 use Rattle.bac_capture.specs.Checked.{IsReportOf}
-use Rattle.bac_chart.specs.declared.drawing.ChartFormat.{ChartFormat}
 use Rattle.bac_explain_report.specs.Charted as charted
 use Rattle.bac_explain_report.specs.Explained as explained
+use Rattle.bac_explain_report.specs.declared.chart.ChartOptions.{ChartOptions}
 use Rattle.bac_explain_report.specs.declared.selection.ReportOptions.{ReportOptions}
 use Rattle.bac_text.specs.declared.status.Status.{Status}
 use Rattle.bac_simulate.specs.Drawn.{ShowsAs}
@@ -40,10 +40,10 @@ abbrev pub IsExplainedFile : (IsAt : (path : List ℕ) → (content : Option (Li
     → (old new : Option (List ℕ)) → Type 0
 IsExplainedFile IsAt o path also s old new = IsPrintedFile IsAt path s (λ content. explained.IsReportOf o also content old new s)
 
--- the datagrams of the capture in the file were drawn to its end
-abbrev pub IsChartedFile : (IsAt : (path : List ℕ) → (content : Option (List ℕ)) → Type 0) → ChartFormat → (path : List ℕ) → (also : Option ℕ) → Status
+-- the datagrams of the capture in the file were drawn to its end, as those options say
+abbrev pub IsChartedFile : (IsAt : (path : List ℕ) → (content : Option (List ℕ)) → Type 0) → ChartOptions → (path : List ℕ) → (also : Option ℕ) → Status
     → (old new : Option (List ℕ)) → Type 0
-IsChartedFile IsAt form path also s old new = IsPrintedFile IsAt path s (λ content. charted.IsReportOf form also content old new s)
+IsChartedFile IsAt o path also s old new = IsPrintedFile IsAt path s (λ content. charted.IsReportOf o also content old new s)
 
 -- the events of the script in the file happened, all of them or up to the first that could not
 abbrev pub IsSimulatedFile : (IsAt : (path : List ℕ) → (content : Option (List ℕ)) → Type 0) → (notes : Bool) → (path : List ℕ) → Status → (old new : Option (List ℕ)) → Type 0

@@ -6,7 +6,7 @@ use crate::asking::Asking;
 use crate::client::Client;
 use crate::environment::Environment;
 use crate::file_news::{FileNews, print_news, print_not_read};
-use crate::file_task::FileTask;
+use crate::file_task::{ChosenFiles, FileTask};
 use crate::files::OpenFiles;
 use crate::folder::{Folder, MANIFEST};
 use crate::listed_files::{listed_files, objects_in};
@@ -339,28 +339,30 @@ fn backup_in<'e, F: OpenFiles, M: Machine, E: Write>(
     })
 }
 
-/// Saves the files that words name, or without any all that the peer lists, in a folder. Answers whether all were saved.
+/// Saves files in a folder. Answers whether all were saved.
 pub(crate) fn back_up<F: OpenFiles, M: Machine, O: Write, E: Write>(
     environment: &Environment<'_, F, M>,
     task: &FileTask,
-    words: Option<&[&str]>,
+    chosen: ChosenFiles<'_, '_>,
     path: &str,
     out: &mut O,
     err: &mut E,
 ) -> Result<bool, Status>
     ensures told { IfErr result IsStop }
 {
-    let named = match words {
-        Some(words) => objects_in(environment.alloc, words, err)?,
-        None => Vec::new(environment.alloc),
-    };
-    let mut backup = backup_in(environment, task, path, err)?;
-    if !named.is_empty() {
-        return backup.save_all(&named, out, err);
-    }
-    match listed_files(&task.asking, &mut backup.client, task.peer, err)? {
-        Some(listed) => backup.save_all(&listed, out, err),
-        None => Ok(false),
+    match chosen {
+        ChosenFiles::Named(words) => {
+            let named = objects_in(environment.alloc, words, err)?;
+            let mut backup = backup_in(environment, task, path, err)?;
+            backup.save_all(&named, out, err)
+        }
+        ChosenFiles::Listed(device) => {
+            let mut backup = backup_in(environment, task, path, err)?;
+            match listed_files(&task.asking, &mut backup.client, task.peer, device, err)? {
+                Some(listed) => backup.save_all(&listed, out, err),
+                None => Ok(false),
+            }
+        }
     }
 }
 

@@ -62,7 +62,7 @@ fn perform<F: OpenFiles, M: Machine, O: Write, E: Write>(
         Task::ExplainHtml { options, capture } => {
             explain_html(alloc, files, options, &capture, out, err)
         }
-        Task::Chart { form, capture } => chart(alloc, files, form, &capture, out, err),
+        Task::Chart { options, capture } => { chart(alloc, files, options, &capture, out, err) }
         Task::Simulate(script) => simulate(alloc, files, &script, out, err),
         Task::Show { view, script } => show(alloc, files, view, &script, out, err),
         Task::Serve { serving, objects } => { serve(environment, &serving, objects, out, err) }

@@ -1,4 +1,4 @@
-//! `decode` of datagrams in another form than a datagram on each line, or with their numbers.
+//! `decode` of datagrams in another form than a datagram on each line, with their numbers, or in frames.
 ghost use Rattle.bac_command_line.specs.Copied.{AreDecodedCopied, AreDecodedIn, IsCopiedFile};
 ghost use Rattle.bac_command_line.specs.Files.{OnFile};
 
@@ -19,9 +19,9 @@ pub(crate) struct Copied {
     pub printing: Printing,
 }
 
-/// Whether the words of `decode` name a form, or want numbers.
+/// Whether the words of `decode` name a form, want numbers, or take frames.
 pub(crate) fn is_copied(given: &ArgMatches<'_>) -> bool {
-    given.get_flag("number") || given.get_str("form").is_some()
+    given.get_flag("number") || given.get_flag("frame") || given.get_str("form").is_some()
 }
 
 /// The form that is named; None where it is to be found. None of it where the text names none.
@@ -39,6 +39,7 @@ pub(crate) fn copied_of(given: &ArgMatches<'_>) -> Option<Copied> {
     let printing = Printing {
         in_words: given.get_flag("text"),
         numbered: given.get_flag("number"),
+        frames: given.get_flag("frame"),
     };
     Some(Copied { form, printing })
 }

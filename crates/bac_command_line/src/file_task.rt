@@ -14,6 +14,18 @@ use bac_value_text::object_in;
 use clap::ArgMatches;
 use std::io::Write;
 
+/// The instance that stands for a device of any instance (clause 15.5.2).
+const ANY_DEVICE: u64 = 4_194_303;
+
+/// Which files of a peer are saved.
+#[derive(Clone, Copy, Debug)]
+pub(crate) enum ChosenFiles<'m, 'a> {
+    /// Those that words name.
+    Named(&'m [&'a str]),
+    /// All of the object-list of the device with this instance.
+    Listed(u64),
+}
+
 /// What is done with whole files.
 #[derive(Clone, Copy, Debug)]
 pub(crate) enum FileWork<'m, 'a> {
@@ -27,9 +39,9 @@ pub(crate) enum FileWork<'m, 'a> {
         object: &'a str,
         path: &'a str,
     },
-    /// Those, or without any all that the peer lists, are saved in a folder.
+    /// Those are saved in a folder.
     BackUp {
-        objects: Option<&'m [&'a str]>,
+        chosen: ChosenFiles<'m, 'a>,
         folder: &'a str,
     },
     /// Those of a folder are written back.
@@ -94,8 +106,11 @@ pub(crate) fn file_task_of(given: &ArgMatches<'_>, shows_progress: bool) -> Opti
 /// What is saved, behind `backup`.
 pub(crate) fn backup_of<'m, 'a>(given: &'m ArgMatches<'a>) -> Option<FileWork<'m, 'a>> {
     let folder = given.get_str("folder")?;
-    let objects = given.get_strs("OBJECTS");
-    Some(FileWork::BackUp { objects, folder })
+    let chosen = match given.get_strs("OBJECTS") {
+        Some(objects) => ChosenFiles::Named(objects),
+        None => ChosenFiles::Listed(given.get_one("device").unwrap_or(ANY_DEVICE)),
+    };
+    Some(FileWork::BackUp { chosen, folder })
 }
 
 /// The status of what was done, with a fault or without, or of what stopped it.
@@ -124,8 +139,8 @@ pub(crate) fn do_with_files<F: OpenFiles, M: Machine, O: Write, E: Write>(
         FileWork::Put { object, path } => {
             status_of(put(environment, task, object, path, out, err))
         }
-        FileWork::BackUp { objects, folder } => {
-            status_of(back_up(environment, task, objects, folder, out, err))
+        FileWork::BackUp { chosen, folder } => {
+            status_of(back_up(environment, task, chosen, folder, out, err))
         }
         FileWork::Restore(folder) => status_of(restore(environment, task, folder, out, err)),
         FileWork::Nothing => print_no_whole_file(err),

@@ -6,7 +6,7 @@ ghost use Rattle.bac_command_line.specs.Files.{IsChartedFile, IsCheckedFile, IsE
 
 use crate::reasons::print_unread;
 use bac_capture::{Ports, check_capture_over};
-use bac_explain_report::{ChartFormat, ReportOptions, chart_over, explain_over};
+use bac_explain_report::{ChartOptions, ReportOptions, chart_over, explain_over};
 use bac_simulate::{View, show_over, simulate_lines_over};
 use bac_text::{Status, no_memory};
 use std::alloc::Global;
@@ -127,21 +127,21 @@ pub(crate) fn explain<F: OpenFiles, O: Write, E: Write>(
     }
 }
 
-/// Draws the datagrams of the capture in a file of pcap or pcapng. A file that cannot be opened: `cannot read` on `err`.
+/// Draws the datagrams of the capture in a file of pcap or pcapng, as those options say. A file that cannot be opened: `cannot read` on `err`.
 pub(crate) fn chart<F: OpenFiles, O: Write, E: Write>(
     alloc: Global,
     files: &F,
-    form: ChartFormat,
+    options: ChartOptions,
     capture: &CaptureFile<'_>,
     out: &mut O,
     err: &mut E,
 ) -> Status
-    ensures { IsChartedFile (OnFile F.is_file F.File.remaining) form capture.now.path.now capture.now.port result (O.contents out.old) (O.contents out.new) }
+    ensures { IsChartedFile (OnFile F.is_file F.File.remaining) options capture.now.path.now capture.now.port result (O.contents out.old) (O.contents out.new) }
 {
     match reader_of(alloc, files, capture.path, err) {
         Ok(mut input) => {
             let ports = Ports { also: capture.port };
-            chart_over(alloc, form, &mut input, ports, out, err)
+            chart_over(alloc, options, &mut input, ports, out, err)
         }
         Err(status) => status,
     }

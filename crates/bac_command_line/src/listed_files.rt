@@ -19,9 +19,6 @@ use std::io::Write;
 /// The number of the object type file (clause 21).
 const FILE: u16 = 10;
 
-/// The read of all objects of a device, whatever its instance is.
-const OBJECT_LIST: &[&str] = &["read", "device:4194303", "object-list"];
-
 /// The objects that words name. Words that name none: `bad words` on `err`, and which.
 pub(crate) fn objects_in<E: Write>(
     alloc: Global,
@@ -70,17 +67,22 @@ fn files_in(
     Ok(Some(files))
 }
 
-/// The files that a peer lists. None where it does not answer with its list: `err` says how the ask ended.
+/// The files that a peer lists, in the object-list of the device with this instance. None where it does not answer with that: `err` says how the ask ended.
 pub(crate) fn listed_files<M: Machine, E: Write>(
     asking: &Asking,
     client: &mut Client<'_, M>,
     peer: Peer,
+    device: u64,
     err: &mut E,
 ) -> Result<Option<Vec<ObjectIdentifier>>, Status>
     ensures told { IfErr result IsStop }
 {
     let alloc = client.station.alloc;
-    let asked = ask_words(asking, client, peer, OBJECT_LIST, err)?;
+    let Ok(object) = format!(in alloc; "device:{device}") else {
+        return Err(no_memory(err));
+    };
+    let words = ["read", object.as_str(), "object-list"];
+    let asked = ask_words(asking, client, peer, &words, err)?;
     let Ok(files) = files_in(alloc, reply_of(&asked.end)) else {
         return Err(no_memory(err));
     };

@@ -1,9 +1,9 @@
-//! Which transactions of a capture are printed, and what counts as a fault.
-ghost use Rattle.std.specs.Prelude.{IfSome};
-ghost use Rattle.bac_command_line.specs.Selecting.{AreGivenOptions};
+//! Which transactions of a capture are printed, what counts as a fault, and how datagrams are drawn.
+ghost use Rattle.std.specs.Prelude.{◌≡◌, IfSome};
+ghost use Rattle.bac_command_line.specs.Selecting.{AreChartOptions, AreGivenOptions, form_by};
 
 use crate::asking::{flag_of, number_of};
-use bac_explain_report::{PeerFilter, ReportOptions, Selection};
+use bac_explain_report::{ChartFormat, ChartOptions, PeerFilter, ReportOptions, Selection};
 use bac_lists::read_end;
 use clap::ArgMatches;
 
@@ -28,6 +28,38 @@ pub(crate) fn options_of(given: &ArgMatches<'_>) -> Option<ReportOptions>
         slower: number_of(given, "slower"),
         peer: peer_of(given)?,
     };
-    let strict = flag_of(given, "fail");
-    Some(ReportOptions { selection, strict })
+    Some(ReportOptions {
+        selection,
+        strict: flag_of(given, "fail"),
+        frames: flag_of(given, "frames"),
+    })
+}
+
+fn form_by(mermaid: bool) -> ChartFormat
+    ensures { result ≡ form_by mermaid }
+{
+    if mermaid {
+        ChartFormat::Mermaid
+    } else {
+        ChartFormat::Chart
+    }
+}
+
+/// How the datagrams of a capture are drawn; None where its transactions are printed.
+pub(crate) fn chart_of(given: &ArgMatches<'_>) -> Option<ChartOptions>
+    ensures { IfSome result (AreChartOptions given.now) }
+{
+    let mermaid = flag_of(given, "mermaid");
+    let values = flag_of(given, "values");
+    let pairs = flag_of(given, "pairs");
+    if mermaid || values || pairs || flag_of(given, "chart") {
+        let form = form_by(mermaid);
+        Some(ChartOptions {
+            form,
+            values,
+            pairs,
+        })
+    } else {
+        None
+    }
 }

@@ -6,10 +6,10 @@ use crate::files::{CaptureFile, ScriptFile};
 use crate::forgetting::Forgetting;
 use crate::online::Machine;
 use crate::seconds::bad_pace;
-use crate::selecting::options_of;
+use crate::selecting::{chart_of, options_of};
 use crate::serving::Serving;
 use crate::serving_words::serving_of;
-use bac_explain_report::{ChartFormat, ReportOptions};
+use bac_explain_report::{ChartOptions, ReportOptions};
 use bac_npdu::Peer;
 use bac_simulate::View;
 use bac_words::Telling;
@@ -62,7 +62,7 @@ pub(crate) enum Task<'m, 'a> {
     },
     /// The datagrams of this capture, drawn as that.
     Chart {
-        form: ChartFormat,
+        options: ChartOptions,
         capture: CaptureFile<'a>,
     },
     /// This script.
@@ -127,17 +127,6 @@ fn view_of(given: &ArgMatches<'_>) -> Option<View> {
         Some(View::Capture)
     } else if given.get_flag("text") {
         Some(View::Text)
-    } else {
-        None
-    }
-}
-
-/// What the datagrams of a capture are to be drawn as; None where its transactions are printed.
-fn form_of(given: &ArgMatches<'_>) -> Option<ChartFormat> {
-    if given.get_flag("chart") {
-        Some(ChartFormat::Chart)
-    } else if given.get_flag("mermaid") {
-        Some(ChartFormat::Mermaid)
     } else {
         None
     }
@@ -212,8 +201,8 @@ pub(crate) fn task_of<'m, 'a>(
         }
         ("explain", given) => {
             let capture = capture_of(given)?;
-            if let Some(form) = form_of(given) {
-                return Some(Task::Chart { form, capture });
+            if let Some(options) = chart_of(given) {
+                return Some(Task::Chart { options, capture });
             }
             let options = options_of(given)?;
             if given.get_flag("json") {

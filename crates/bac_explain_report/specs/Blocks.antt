@@ -6,6 +6,7 @@ use Rattle.bac_explain.specs.Tables.{ClosedView}
 use Rattle.bac_explain.specs.Transactions.{TransactionView}
 use Rattle.bac_explain_report.specs.AnswerWords as answer
 use Rattle.bac_explain_report.specs.Endings.{answer_ending, ending_name}
+use Rattle.bac_explain_report.specs.FramesLines.{IsFramesLine}
 use Rattle.bac_explain_report.specs.Keys.{key_text}
 use Rattle.bac_explain_report.specs.RequestWords as request
 
@@ -66,9 +67,23 @@ end_text t = if t.gave_up then codes "  given up by the client\n" else rest_text
 abbrev pub tail_text : TransactionView → List ℕ
 tail_text t = naks_text t.naks ++ end_text t
 
-pub record IsBlock (c : ClosedView) (text : List ℕ) : Type 0 where
+-- the lines up to the answer
+pub record IsBlockFront (c : ClosedView) (text : List ℕ) : Type 0 where
   pub asked : List ℕ
   pub answer : List ℕ
   pub is_asked : IsAskedLine c.transaction.request asked
   pub is_answer : IsAnswerLine c.transaction answer
-  pub is : text ≡ ((head_text c.key ++ asked) ++ answer) ++ tail_text c.transaction
+  pub is : text ≡ (head_text c.key ++ asked) ++ answer
+
+pub record IsBlock (c : ClosedView) (text : List ℕ) : Type 0 where
+  pub front : List ℕ
+  pub is_front : IsBlockFront c front
+  pub is : text ≡ front ++ tail_text c.transaction
+
+-- with the frames below the answer
+pub record IsFramedBlock (c : ClosedView) (text : List ℕ) : Type 0 where
+  pub front : List ℕ
+  pub frames : List ℕ
+  pub is_front : IsBlockFront c front
+  pub are_frames : IsFramesLine c.transaction frames
+  pub is : text ≡ (front ++ frames) ++ tail_text c.transaction

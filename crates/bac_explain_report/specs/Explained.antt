@@ -1,9 +1,10 @@
 -- What `bac explain` prints for a capture file, and its status.
-use Rattle.std.specs.Prelude.{◌≡◌, ℕ, ◌++◌, List, [], codes, decimal, Option, Some, None, if◌then◌else◌}
+use Rattle.std.specs.Prelude.{◌≡◌, ℕ, Bool, true, false, ◌++◌, List, [], codes, decimal, Option, Some, None, if◌then◌else◌}
 use Rattle.bac_text.specs.declared.status.Status.{Status}
-use Rattle.bac_explain_report.specs.Blocks.{IsBlock}
+use Rattle.bac_explain_report.specs.Blocks.{IsBlock, IsFramedBlock}
 use Rattle.bac_explain_report.specs.FrameReports.{IsFrameReport}
 use Rattle.bac_explain_report.specs.Reported as report
+use Rattle.bac_explain_report.specs.Rest.{Printing}
 use Rattle.bac_explain_report.specs.Selections.{is_narrow}
 use Rattle.bac_explain_report.specs.declared.selection.ReportOptions.{ReportOptions}
 use Rattle.bac_explain_report.specs.declared.selection.Selection.{Selection}
@@ -37,6 +38,14 @@ AreLastLines s t text = text ≡ last_lines s t
 
 -- ---- a file
 
--- a file is explained frame by frame, and no other input
+-- a file is explained frame by frame, with transactions in a form, and no other input
+abbrev pub IsReportWith : Printing → ReportOptions → Option ℕ → Option (List ℕ) → Option (List ℕ) → Option (List ℕ) → Status → Type 0
+IsReportWith IsOne o also input old new status = report.IsReportOf [] (IsFrameReport IsOne) IsOne AreLastLines o also input old new status
+
+-- a transaction with its frames or without
+abbrev pub block_form : (frames : Bool) → Printing
+block_form true = IsFramedBlock
+block_form false = IsBlock
+
 abbrev pub IsReportOf : ReportOptions → Option ℕ → Option (List ℕ) → Option (List ℕ) → Option (List ℕ) → Status → Type 0
-IsReportOf o also input old new status = report.IsReportOf [] IsFrameReport IsBlock AreLastLines o also input old new status
+IsReportOf o also input old new status = IsReportWith (block_form o.frames) o also input old new status

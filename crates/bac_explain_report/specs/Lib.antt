@@ -3,6 +3,7 @@ pub mod RequestWords
 pub mod AnswerWords
 pub mod Endings
 pub mod Selections
+pub mod FramesLines
 pub mod Blocks
 pub mod Tallies
 pub mod Unread
@@ -15,8 +16,11 @@ pub mod Reported
 pub mod Explained
 pub mod Columns
 pub mod EndViews
+pub mod ArrowWords
 pub mod Copies
 pub mod CopyViews
 pub mod Sketches
 pub mod SketchViews
+pub mod Pairs
+pub mod PairViews
 pub mod Charted

@@ -8,6 +8,7 @@ use Rattle.bac_explain_report.specs.declared.sketch.Sketch.{Sketch}
 abbrev pub sketch_view : Sketch → plain.Sketch
 sketch_view k = record {
   form = k.form;
+  values = k.values;
   start = k.start;
   peers = map peer_view k.peers.items;
   drawn = map drawn_view k.drawn.items;

@@ -1,10 +1,8 @@
 -- The state of a chart, and what is drawn for a frame.
 use Rattle.std.specs.Prelude.{◌≡◌, ◌≤◌, ℕ, ◌+◌, ◌-◌, ◌^◌, min, Bool, true, false, not, if◌then◌else◌, List, [], ◌++◌, length, codes, decimal, Option, Some, None, Result, Ok, Err}
-use Rattle.bac_apdu.specs.Reading.{apdu_at}
 use Rattle.bac_capture.specs.Blocks.{FrameView}
 use Rattle.bac_capture.specs.declared.fault.FileFault.{FileFault}
 use Rattle.bac_chart.specs.Drawings.{line_text}
-use Rattle.bac_chart.specs.Labels.{read_words}
 use Rattle.bac_chart.specs.Lines.{coming_line}
 use Rattle.bac_chart.specs.Marks.{Arrow}
 use Rattle.bac_chart.specs.declared.drawing.ChartFormat.{ChartFormat}
@@ -17,22 +15,24 @@ use Rattle.bac_explain_report.specs.Unread.{unread_text}
 use Rattle.bac_explain_report.specs.declared.unread.Unread.{Unread}
 use Rattle.bac_explain_report.specs.declared.unread.Unread.TheVariants.{File}
 use Rattle.bac_npdu.specs.Peers.{PeerView}
+use Rattle.bac_explain_report.specs.ArrowWords.{AreArrowWords}
 use Rattle.bac_explain_report.specs.Columns.{Ends, ends_of, with_columns}
 use Rattle.bac_explain_report.specs.Copies.{Drawn, is_again, with_drawn}
 use Rattle.bac_explain_report.specs.declared.sketch.TheConstants.{MOST_PEERS}
 
--- the state of a chart: its format, the moment of its first datagram, the peers that have columns, the last datagrams that were drawn, the number of
+-- the state of a chart: its format, whether answers have their values, the moment of its first datagram, the peers that have columns, the last datagrams that were drawn, the number of
 -- frames, and whether each of them could be read
 pub record Sketch : Type 0 where
   pub form : ChartFormat
+  pub values : Bool
   pub start : Option ℕ
   pub peers : List PeerView
   pub drawn : List Drawn
   pub frames : ℕ
   pub is_whole : Bool
 
-abbrev pub fresh : ChartFormat → Sketch
-fresh f = record { form = f; start = None; peers = []; drawn = []; frames = 0; is_whole = true }
+abbrev pub fresh : ChartFormat → (values : Bool) → Sketch
+fresh f values = record { form = f; values = values; start = None; peers = []; drawn = []; frames = 0; is_whole = true }
 
 -- the text above a chart
 abbrev pub front_text : ChartFormat → List ℕ
@@ -75,21 +75,29 @@ abbrev pub drawn_of : ℕ → SightingView → Ends → Drawn
 drawn_of now s c = drawn_at now c s.octets
 
 -- an arrow with the number of its frame, and what the APDU is
-abbrev pub arrow_of : (number moment : ℕ) → Ends → (octets : List ℕ) → Arrow
-arrow_of number moment e octets = record { number = number; sent = moment; from = e.from; to = e.to; words = read_words (apdu_at octets) }
+abbrev pub arrow_of : (number moment : ℕ) → Ends → (words : List ℕ) → Arrow
+arrow_of number moment e words = record { number = number; sent = moment; from = e.from; to = e.to; words = words }
 
 -- the row says whether the datagram repeats an earlier one
 abbrev pub row_text : ChartFormat → (nodes : ℕ) → (again : Bool) → (moment : ℕ) → Arrow → List ℕ
 row_text f nodes again moment a = line_text f nodes (coming_line again moment a)
 
-abbrev pub sighting_text : ℕ → SightingView → Sketch → List ℕ
-sighting_text now s k =
-    (ends_in now s k).text ++ row_text k.form (length (peers_after s k)) (is_again (drawn_of now s (ends_in now s k)) k.drawn) (moment_in now k)
-    (arrow_of k.frames (moment_in now k) (ends_in now s k) s.octets)
+-- the row of a datagram in a frame with that number, among so many columns
+pub record IsRow (k : Sketch) (nodes : ℕ) (again : Bool) (moment : ℕ) (e : Ends) (octets row : List ℕ) : Type 0 where
+  pub words : List ℕ
+  pub are : AreArrowWords k.form k.values octets words
+  pub is : row ≡ row_text k.form nodes again moment (arrow_of k.frames moment e words)
+
+-- the lines of the columns that begin, and the row
+pub record IsSightingText (now : ℕ) (s : SightingView) (k : Sketch) (text : List ℕ) : Type 0 where
+  pub row : List ℕ
+  pub is_row : IsRow k (length (peers_after s k)) (is_again (drawn_of now s (ends_in now s k)) k.drawn) (moment_in now k) (ends_in now s k) s.octets row
+  pub is : text ≡ (ends_in now s k).text ++ row
 
 abbrev pub sighting_kept : ℕ → SightingView → Sketch → Sketch
 sighting_kept now s k = record {
   form = k.form;
+  values = k.values;
   start = Some (start_of now k.start);
   peers = peers_after s k;
   drawn = with_drawn (drawn_of now s (ends_in now s k)) k.drawn;
@@ -118,7 +126,7 @@ pub record IsUnread (why : Unread) (k : Sketch) (text : List ℕ) (next : Sketch
 
 -- a datagram of a transaction is drawn; there are at most 16 columns
 pub record IsDrawn (now : ℕ) (s : SightingView) (k : Sketch) (text : List ℕ) (next : Sketch) : Type 0 where
-  pub is_text : text ≡ sighting_text now s k
+  pub is_text : IsSightingText now s k text
   pub is_next : next ≡ sighting_kept now s k
   pub room : length next.peers ≤ MOST_PEERS
 

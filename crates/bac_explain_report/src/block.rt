@@ -1,15 +1,17 @@
 //! The lines of a transaction.
-ghost use Rattle.std.specs.Prelude.{◌≡◌, IfOk, string_bytes};
+ghost use Rattle.std.specs.Prelude.{◌≡◌, ℕ, List, IfOk, string_bytes};
 ghost use Rattle.std.specs.Option.{option_map};
 ghost use Rattle.bac_explain.specs.Closings.{closed_view};
 ghost use Rattle.bac_explain.specs.KeyViews.{key_view};
+ghost use Rattle.bac_explain.specs.Tables.{ClosedView};
 ghost use Rattle.bac_explain.specs.SentViews.{sent_view};
 ghost use Rattle.bac_explain.specs.Views.{transaction_view};
 ghost use Rattle.bac_explain_report.specs.Blocks.{answer_name, asked_front, answered_front, counts_text, end_text, head_text, naks_text, part_text, rest_text, tail_text};
-ghost use Rattle.bac_explain_report.specs.Blocks.{IsAnsweredLine, IsAnswerLine, IsAskedLine, IsBlock};
+ghost use Rattle.bac_explain_report.specs.Blocks.{IsAnsweredLine, IsAnswerLine, IsAskedLine, IsBlock, IsBlockFront, IsFramedBlock};
 
 use crate::answer_words::told_words;
 use crate::ending::answer_ending;
+use crate::frames_line::frames_line;
 use crate::keys::key_text;
 use crate::request_words::asked_words;
 use bac_explain::{Closed, Sent, Transaction, TransactionKey};
@@ -151,16 +153,74 @@ fn head_text(alloc: Global, key: TransactionKey) -> Result<Vec<u8>, AllocError>
     Ok(text.into_bytes())
 }
 
-/// The lines of a transaction.
-pub(crate) fn block(alloc: Global, closed: &Closed) -> Result<Vec<u8>, NoMemory>
-    ensures { IfOk result (λ t. IsBlock (closed_view closed.now) t.items) }
+/// The lines of a transaction up to its answer.
+fn block_front(alloc: Global, closed: &Closed) -> Result<Vec<u8>, NoMemory>
+    ensures { IfOk result (λ t. IsBlockFront (closed_view closed.now) t.items) }
 {
     let asked = asked_line(alloc, &closed.transaction.request)?;
     let answer = answer_line(alloc, &closed.transaction)?;
-    let tail = tail_text(alloc, &closed.transaction)?;
     let mut text = head_text(alloc, closed.key)?;
     text.extend_from_slice(asked.as_slice())?;
     text.extend_from_slice(answer.as_slice())?;
+    Ok(text)
+}
+
+/// The lines of a transaction.
+fn block(alloc: Global, closed: &Closed) -> Result<Vec<u8>, NoMemory>
+    ensures { IfOk result (λ t. IsBlock (closed_view closed.now) t.items) }
+{
+    let tail = tail_text(alloc, &closed.transaction)?;
+    let mut text = block_front(alloc, closed)?;
     text.extend_from_slice(tail.as_slice())?;
     Ok(text)
+}
+
+/// The lines of a transaction, with the moment of its request as text and the numbers of its frames.
+fn framed_block(alloc: Global, closed: &Closed) -> Result<Vec<u8>, NoMemory>
+    ensures { IfOk result (λ t. IsFramedBlock (closed_view closed.now) t.items) }
+{
+    let frames = frames_line(alloc, &closed.transaction)?;
+    let tail = tail_text(alloc, &closed.transaction)?;
+    let mut text = block_front(alloc, closed)?;
+    text.extend_from_slice(frames.as_slice())?;
+    text.extend_from_slice(tail.as_slice())?;
+    Ok(text)
+}
+
+/// Which lines a transaction has.
+pub(crate) trait BlockForm {
+    // What they are.
+    ghost IsOne: { ClosedView → (text : List ℕ) → Type 0 };
+
+    /// The lines of a transaction. An Err is out of memory.
+    fn block(&self, alloc: Global, closed: &Closed) -> Result<Vec<u8>, NoMemory>
+        ensures { IfOk result (λ t. IsOne (closed_view closed.now) t.items) };
+}
+
+/// Without its frames.
+#[derive(Drop)]
+pub(crate) struct Plain;
+
+impl BlockForm for Plain {
+    ghost use Rattle.bac_explain_report.specs.Blocks.{IsBlock};
+
+    ghost IsOne = { IsBlock };
+
+    fn block(&self, alloc: Global, closed: &Closed) -> Result<Vec<u8>, NoMemory> {
+        block(alloc, closed)
+    }
+}
+
+/// With the moment of its request as text, and the numbers of its frames.
+#[derive(Drop)]
+pub(crate) struct Framed;
+
+impl BlockForm for Framed {
+    ghost use Rattle.bac_explain_report.specs.Blocks.{IsFramedBlock};
+
+    ghost IsOne = { IsFramedBlock };
+
+    fn block(&self, alloc: Global, closed: &Closed) -> Result<Vec<u8>, NoMemory> {
+        framed_block(alloc, closed)
+    }
 }

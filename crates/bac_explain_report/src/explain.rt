@@ -1,7 +1,8 @@
 //! `bac explain`: the transactions of a capture file, in words.
-ghost use Rattle.bac_explain_report.specs.Explained.{IsReportOf};
+ghost use Rattle.bac_explain_report.specs.Explained.{IsReportOf, IsReportWith};
+ghost use Rattle.bac_explain_report.specs.Blocks.{IsBlock, IsFramedBlock};
 
-use crate::block::block;
+use crate::block::{BlockForm, Framed, Plain};
 use crate::form::ReportForm;
 use crate::frame_report::{FrameReport, report_text};
 use crate::reporter::Reporter;
@@ -15,21 +16,22 @@ use bac_value::NoMemory;
 use std::alloc::Global;
 use std::io::{BufRead, Write};
 
-/// Lines of words.
+/// Lines of words, with those of a transaction in a form.
 #[derive(Drop)]
-struct Lines;
+struct Lines<B> {
+    block: B,
+}
 
-impl ReportForm for Lines {
-    ghost use Rattle.bac_explain_report.specs.Blocks.{IsBlock};
+impl<B: BlockForm> ReportForm for Lines<B> {
     ghost use Rattle.bac_explain_report.specs.Explained.{AreLastLines};
     ghost use Rattle.bac_explain_report.specs.FrameReports.{IsFrameReport};
     ghost use Rattle.std.specs.Prelude.{[]};
 
     ghost front = { [] };
 
-    ghost IsOne = { IsBlock };
+    ghost IsOne = { B.IsOne };
 
-    ghost IsTold = { IsFrameReport };
+    ghost IsTold = { IsFrameReport B.IsOne };
 
     ghost AreLast = { AreLastLines };
 
@@ -38,7 +40,7 @@ impl ReportForm for Lines {
     }
 
     fn transaction_text(&self, alloc: Global, closed: &Closed) -> Result<Vec<u8>, NoMemory> {
-        block(alloc, closed)
+        self.block.block(alloc, closed)
     }
 
     fn frame_text(
@@ -47,7 +49,7 @@ impl ReportForm for Lines {
         number: u64,
         told: &FrameReport,
     ) -> Result<Vec<u8>, NoMemory> {
-        report_text(alloc, number, told)
+        report_text(&self.block, alloc, number, told)
     }
 
     fn last_text(
@@ -61,6 +63,40 @@ impl ReportForm for Lines {
     }
 }
 
+/// Explains a file without lines of frames.
+fn explain_lines_over<R: BufRead, O: Write, E: Write>(
+    alloc: Global,
+    options: ReportOptions,
+    input: &mut R,
+    ports: Ports,
+    out: &mut O,
+    err: &mut E,
+) -> Status
+    ensures { IsReportWith IsBlock options ports.also (R.remaining input.old) (O.contents out.old) (O.contents out.new) result }
+{
+    match Reporter::new(alloc, options, Lines { block: Plain }) {
+        Ok(mut report) => report_over(alloc, input, ports, &mut report, out, err),
+        Err(_) => stopped(CheckError::Memory, out, err),
+    }
+}
+
+/// Explains a file with lines of frames.
+fn explain_frames_over<R: BufRead, O: Write, E: Write>(
+    alloc: Global,
+    options: ReportOptions,
+    input: &mut R,
+    ports: Ports,
+    out: &mut O,
+    err: &mut E,
+) -> Status
+    ensures { IsReportWith IsFramedBlock options ports.also (R.remaining input.old) (O.contents out.old) (O.contents out.new) result }
+{
+    match Reporter::new(alloc, options, Lines { block: Framed }) {
+        Ok(mut report) => report_over(alloc, input, ports, &mut report, out, err),
+        Err(_) => stopped(CheckError::Memory, out, err),
+    }
+}
+
 /// Explains a file of pcap or pcapng: prints its transactions, and what was wrong with their datagrams.
 ///
 /// A fault is printed when its frame is read, with the number of the frame from 1 and the transaction; so is a frame that cannot be
@@ -68,7 +104,8 @@ impl ReportForm for Lines {
 /// A fault is printed if its transaction passes as it stands then; one of no transaction if its peers are selected, and neither
 /// `unanswered` nor `slower` is. At the end of the file the transactions that are still open are printed if they pass, then how many
 /// were printed, if there is a filter, and then how many there were, how they ended, the slowest reply in milliseconds, and how
-/// many findings, frames and unread frames there were, printed or not. Returns `Faulty` if there is a finding or an unread frame; if it
+/// many findings, frames and unread frames there were, printed or not. With `frames` a transaction has a line with the moment of its
+/// request as text, and the numbers of its frames from 1. Returns `Faulty` if there is a finding or an unread frame; if it
 /// is strict, if there is an unread frame, a printed transaction that is unanswered or has a finding, or a printed finding of no
 /// transaction. Prints `no capture file` on `err` if the first four octets are of neither format, `cannot read` if the input cannot be read, and
 /// `no memory` if an allocation fails. Returns `Output` if `out` cannot be written, even if the input fails too. Memory does not
@@ -83,8 +120,9 @@ pub fn explain_over<R: BufRead, O: Write, E: Write>(
 ) -> Status
     ensures { IsReportOf options ports.also (R.remaining input.old) (O.contents out.old) (O.contents out.new) result }
 {
-    match Reporter::new(alloc, options, Lines) {
-        Ok(mut report) => report_over(alloc, input, ports, &mut report, out, err),
-        Err(_) => stopped(CheckError::Memory, out, err),
+    if options.frames {
+        explain_frames_over(alloc, options, input, ports, out, err)
+    } else {
+        explain_lines_over(alloc, options, input, ports, out, err)
     }
 }

@@ -4,9 +4,10 @@ ghost use Rattle.std.specs.Option.{option_map};
 ghost use Rattle.bac_explain.specs.Closings.{closed_view};
 ghost use Rattle.bac_explain.specs.KeyViews.{key_view};
 ghost use Rattle.bac_explain_report.specs.AccountViews.{hearing_view, report_view};
-ghost use Rattle.bac_explain_report.specs.FrameReports.{finding_line, unread_line, IsHearing, IsOptionalBlock, IsFrameReport};
+ghost use Rattle.bac_explain_report.specs.FrameReports.{finding_line, unread_line, IsHearing, IsFrameReport};
+ghost use Rattle.bac_explain_report.specs.Rest.{IsOptional};
 
-use crate::block::block;
+use crate::block::BlockForm;
 use crate::keys::key_text;
 use crate::unread::Unread;
 use bac_explain::{Closed, Finding, TransactionKey};
@@ -60,37 +61,48 @@ fn finding_line(
     Ok(text.into_bytes())
 }
 
-fn optional_block(alloc: Global, closed: &Option<Closed>) -> Result<Vec<u8>, NoMemory>
-    ensures { IfOk result (λ t. IsOptionalBlock (option_map closed_view closed.now) t.items) }
+/// The text of a transaction in a form, if there is one.
+fn optional_text<B: BlockForm>(
+    form: &B,
+    alloc: Global,
+    closed: &Option<Closed>,
+) -> Result<Vec<u8>, NoMemory>
+    ensures { IfOk result (λ t. IsOptional B.IsOne (option_map closed_view closed.now) t.items) }
 {
     match closed {
-        Some(closed) => block(alloc, closed),
+        Some(closed) => form.block(alloc, closed),
         None => Ok(Vec::new(alloc)),
     }
 }
 
-fn hearing_text(alloc: Global, number: u64, hearing: &Hearing) -> Result<Vec<u8>, NoMemory>
-    ensures { IfOk result (λ t. IsHearing number (hearing_view hearing.now) t.items) }
+fn hearing_text<B: BlockForm>(
+    form: &B,
+    alloc: Global,
+    number: u64,
+    hearing: &Hearing,
+) -> Result<Vec<u8>, NoMemory>
+    ensures { IfOk result (λ t. IsHearing B.IsOne number (hearing_view hearing.now) t.items) }
 {
-    let closed = optional_block(alloc, &hearing.closed)?;
+    let closed = optional_text(form, alloc, &hearing.closed)?;
     let finding = finding_line(alloc, number, hearing.key, hearing.finding)?;
-    let mut text = optional_block(alloc, &hearing.over)?;
+    let mut text = optional_text(form, alloc, &hearing.over)?;
     text.extend_from_slice(closed.as_slice())?;
     text.extend_from_slice(finding.as_slice())?;
     Ok(text)
 }
 
-/// The text for the frame with this number, from 1.
-pub(crate) fn report_text(
+/// The text for the frame with this number, from 1, with transactions in a form.
+pub(crate) fn report_text<B: BlockForm>(
+    form: &B,
     alloc: Global,
     number: u64,
     told: &FrameReport,
 ) -> Result<Vec<u8>, NoMemory>
-    ensures { IfOk result (λ t. IsFrameReport number (report_view told.now) t.items) }
+    ensures { IfOk result (λ t. IsFrameReport B.IsOne number (report_view told.now) t.items) }
 {
     match told {
         FrameReport::Nothing => Ok(Vec::new(alloc)),
         FrameReport::Unread(why) => Ok(unread_line(alloc, number, *why)?),
-        FrameReport::Heard(hearing) => hearing_text(alloc, number, hearing),
+        FrameReport::Heard(hearing) => hearing_text(form, alloc, number, hearing),
     }
 }

@@ -1,11 +1,12 @@
 //! Reports on the transactions of a capture file: the text of `bac explain` and its charts.
 //!
-//! The text has each transaction, what is wrong with its datagrams, and a summary. A chart has a column for each peer, and an arrow for
-//! each datagram of a transaction.
+//! The text has each transaction, what is wrong with its datagrams, and a summary. A chart has a column for each peer, or is of one client
+//! and one server, and an arrow for each datagram of a transaction.
 #![tactic(auto)]
 
 mod account;
 mod answer_words;
+mod arrow_words;
 mod block;
 mod chart;
 mod column;
@@ -14,7 +15,10 @@ mod ending;
 mod explain;
 mod form;
 mod frame_report;
+mod frames_line;
 mod keys;
+mod pair;
+mod pair_sketch;
 mod reporter;
 mod request_words;
 mod seeing;
@@ -27,7 +31,7 @@ mod unread;
 pub use account::Account;
 pub use answer_words::told_words;
 pub use bac_chart::ChartFormat;
-pub use chart::chart_over;
+pub use chart::{ChartOptions, chart_over};
 pub use ending::{Ending, delay_of, ending_of, is_unanswered};
 pub use explain::explain_over;
 pub use form::ReportForm;

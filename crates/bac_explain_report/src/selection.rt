@@ -40,6 +40,8 @@ pub struct ReportOptions {
     pub selection: Selection,
     /// Whether the status is that of the printed transactions, and an unanswered one is a fault.
     pub strict: bool,
+    /// Whether a transaction in words has the moment of its request as text, and the numbers of its frames; other forms have them anyway.
+    pub frames: bool,
 }
 
 fn is_host(host: [u8; 4], link: LinkAddress) -> bool

@@ -1,23 +1,24 @@
 //! The state of a chart, and what is drawn for a frame.
 ghost use Rattle.std.specs.Prelude.{◌≡◌, ◌≤◌, IfOk, OnOk, Some, length, map};
 ghost use Rattle.bac_capture.specs.BlockViews.{frame_view};
-ghost use Rattle.bac_chart.specs.Views.{arrow_view};
 ghost use Rattle.bac_explain.specs.Sightings.{sighting_view};
 ghost use Rattle.bac_explain_report.specs.EndViews.{ends_view};
 ghost use Rattle.bac_explain_report.specs.Copies.{is_again, with_drawn};
 ghost use Rattle.bac_explain_report.specs.CopyViews.{drawn_view};
-ghost use Rattle.bac_explain_report.specs.Sketches.{arrow_of, drawn_at, front_text, fresh, is_by_client, moment_in, receiver_of, remark_front, row_text, sender_of, sighting_kept, sighting_text, start_of, unread_line, BreaksFile, IsDrawn, IsUnread, SeesFrame};
+ghost use Rattle.bac_explain_report.specs.Sketches.{drawn_at, front_text, fresh, is_by_client, moment_in, receiver_of, remark_front, sender_of, sighting_kept, start_of, unread_line, BreaksFile, IsDrawn, IsRow, IsSightingText, IsUnread, SeesFrame};
 ghost use Rattle.bac_explain_report.specs.SketchViews.{sketch_view};
 ghost use Rattle.bac_npdu.specs.Views.{peer_view};
 
+use crate::arrow_words::arrow_words;
 use crate::column::{Ends, enter_ends};
 use crate::copies::{Drawn, keep};
 use crate::{Unread, seen_of};
 use bac_capture::{FileFault, Frame, Ports};
-use bac_chart::{Arrow, ChartFormat, coming_line, line_text, octets_words};
+use bac_chart::{Arrow, ChartFormat, coming_line, line_text};
 use bac_explain::{Role, Sighting};
 use bac_npdu::Peer;
 use bac_text::CheckError;
+use bac_value::NoMemory;
 use std::alloc::{AllocError, Global};
 use std::io;
 use std::io::ErrorKind;
@@ -45,7 +46,7 @@ fn remark_front(form: ChartFormat) -> &'static str
     }
 }
 
-fn unread_line(
+pub(crate) fn unread_line(
     alloc: Global,
     form: ChartFormat,
     number: u64,
@@ -59,7 +60,7 @@ fn unread_line(
 }
 
 /// Whether the client sends APDUs with this role.
-fn is_by_client(role: Role) -> bool
+pub(crate) fn is_by_client(role: Role) -> bool
     ensures { result ≡ is_by_client role }
 {
     match role {
@@ -81,30 +82,13 @@ fn peers_of(sighting: Sighting<'_>) -> (Peer, Peer)
     }
 }
 
-/// The arrow of a datagram.
-fn arrow_of(
-    alloc: Global,
-    number: u64,
-    moment: u64,
-    ends: &Ends,
-    octets: &[u8],
-) -> Result<Arrow, AllocError>
-    ensures { IfOk result (λ a. arrow_view a ≡ arrow_of number moment (ends_view ends.now) octets.now) }
-{
-    Ok(Arrow {
-        number,
-        sent: moment,
-        from: ends.from,
-        to: ends.to,
-        words: octets_words(alloc, octets)?,
-    })
-}
-
 /// The state of a chart.
 #[derive(Drop)]
 pub(crate) struct Sketch {
     alloc: Global,
     pub form: ChartFormat,
+    /// Whether the arrow of an answer says its values.
+    values: bool,
     /// The moment of the first datagram that was drawn, in milliseconds.
     start: Option<u64>,
     /// The peers that have columns, from left to right.
@@ -112,7 +96,7 @@ pub(crate) struct Sketch {
     /// The last datagrams that were drawn.
     drawn: Vec<Drawn>,
     /// The number of frames so far; the count saturates.
-    frames: u64,
+    pub frames: u64,
     /// Whether each of them could be read.
     pub is_whole: bool,
     /// Whether there are more peers than columns.
@@ -121,12 +105,13 @@ pub(crate) struct Sketch {
 
 impl Sketch {
     /// The state before the first frame.
-    pub(crate) fn new(alloc: Global, form: ChartFormat) -> Sketch
-        ensures { sketch_view result ≡ fresh form }
+    pub(crate) fn new(alloc: Global, form: ChartFormat, values: bool) -> Sketch
+        ensures { sketch_view result ≡ fresh form values }
     {
         Sketch {
             alloc,
             form,
+            values,
             start: None,
             peers: Vec::new(alloc),
             drawn: Vec::new(alloc),
@@ -137,7 +122,7 @@ impl Sketch {
     }
 
     /// The time in milliseconds since the first datagram that is drawn: 0 for the first one.
-    fn moment(&mut self, now: u64) -> u64
+    pub(crate) fn moment(&mut self, now: u64) -> u64
         ensures moment { result ≡ moment_in now (sketch_view self.old) }
         ensures start { sketch_view self.new ≡ record (sketch_view self.old) { start = Some (start_of now (sketch_view self.old).start) } }
     {
@@ -147,7 +132,7 @@ impl Sketch {
     }
 
     /// Keeps a datagram that is drawn. Returns whether it repeats an earlier one.
-    fn keep(&mut self, now: u64, ends: &Ends, octets: &[u8]) -> Result<bool, AllocError>
+    pub(crate) fn keep(&mut self, now: u64, ends: &Ends, octets: &[u8]) -> Result<bool, AllocError>
         ensures again { IfOk result (λ b. b ≡ is_again (drawn_at now (ends_view ends.now) octets.now) (sketch_view self.old).drawn) }
         ensures kept { OnOk result (sketch_view self.new
             ≡ record (sketch_view self.old) { drawn = with_drawn (drawn_at now (ends_view ends.now) octets.now) (sketch_view self.old).drawn }) }
@@ -163,32 +148,45 @@ impl Sketch {
         Ok(again)
     }
 
-    /// The row of a datagram, which says whether it repeats an earlier one.
-    fn row(
+    /// The number of columns.
+    fn columns(&self) -> u64
+        ensures { result ≡ length (sketch_view self.now).peers }
+    {
+        self.peers.len() as u64
+    }
+
+    /// The row of a datagram among so many columns, which says whether it repeats an earlier one.
+    pub(crate) fn row(
         &self,
+        nodes: u64,
         again: bool,
         moment: u64,
         ends: &Ends,
         octets: &[u8],
-    ) -> Result<Vec<u8>, AllocError>
-        ensures { IfOk result (λ t. t.items ≡ row_text self.now.form (length (sketch_view self.now).peers) again moment
-            (arrow_of self.now.frames moment (ends_view ends.now) octets.now)) }
+    ) -> Result<Vec<u8>, NoMemory>
+        ensures { IfOk result (λ t. IsRow (sketch_view self.now) nodes again moment (ends_view ends.now) octets.now t.items) }
     {
-        let arrow = arrow_of(self.alloc, self.frames, moment, ends, octets)?;
+        let arrow = Arrow {
+            number: self.frames,
+            sent: moment,
+            from: ends.from,
+            to: ends.to,
+            words: arrow_words(self.alloc, self.form, self.values, octets)?,
+        };
         let line = coming_line(self.alloc, again, moment, &arrow)?;
-        line_text(self.alloc, self.form, self.peers.len() as u64, &line)
+        Ok(line_text(self.alloc, self.form, nodes, &line)?)
     }
 
     /// Draws a datagram of a transaction. Returns the text.
-    fn draw(&mut self, now: u64, sighting: Sighting<'_>) -> Result<Vec<u8>, AllocError>
-        ensures text { IfOk result (λ t. t.items ≡ sighting_text now (sighting_view sighting.entry) (sketch_view self.old)) }
+    fn draw(&mut self, now: u64, sighting: Sighting<'_>) -> Result<Vec<u8>, NoMemory>
+        ensures text { IfOk result (λ t. IsSightingText now (sighting_view sighting.entry) (sketch_view self.old) t.items) }
         ensures next { OnOk result (sketch_view self.new ≡ sighting_kept now (sighting_view sighting.entry) (sketch_view self.old)) }
     {
         let moment = self.moment(now);
         let (from, to) = peers_of(sighting);
         let ends = enter_ends(self.alloc, self.form, moment, from, to, &mut self.peers)?;
         let again = self.keep(now, &ends, sighting.octets)?;
-        let row = self.row(again, moment, &ends, sighting.octets)?;
+        let row = self.row(self.columns(), again, moment, &ends, sighting.octets)?;
         let mut text = ends.text;
         text.extend_from_slice(&row)?;
         Ok(text)

@@ -1,2 +1,2 @@
 mod TextLines
-mod Shown
+pub mod Shown

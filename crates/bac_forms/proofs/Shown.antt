@@ -9,6 +9,7 @@ use Rattle.bac_text.specs.DecodedLines.{IsDatagramText}
 use Rattle.bac_text.specs.Outcome.{IsPrinted, shown_status}
 use Rattle.bac_text.specs.Texts.{AppendsText, Is}
 use Rattle.bac_forms.specs.Decoded.{AreAllShown, AreDatagramTexts, IsNumberedText, number_line}
+use Rattle.bac_forms.specs.Framed.{IsItemText}
 use Rattle.bac_forms.specs.Reading.{octets_of}
 use Rattle.bac_forms.specs.declared.decode.Printing.{Printing}
 
@@ -26,16 +27,21 @@ datagram_text : (in_words fine : Bool) (datagram : List ℕ) (a b : Option (List
 datagram_text in_words true datagram a b told = (told.1.0, ((told.0, told.1.1.0), told.1.1.1))
 datagram_text in_words false datagram a b told = (told.printed.0, ((told.fault, (told.at_fault, told.printed.1.0)), told.printed.1.1))
 
+-- the same as what the call returned says it
+pub datagram_told : {E : Type 0} (in_words : Bool) (datagram : List ℕ) (r : Result Bool E) (a b : Option (List ℕ))
+    → IfOk r (λ fine. IsPrinted in_words fine datagram a b) → IfOk r (λ fine. AppendsText a b (IsDatagramText in_words fine datagram))
+datagram_told in_words datagram (Ok fine) a b told = datagram_text in_words fine datagram a b told
+datagram_told in_words datagram (Err error) a b told = told
+
 -- the same behind its number
 pub numbered_text : (p : Printing) (number : ℕ) (fine : Bool) (datagram : List ℕ) (a b c : Option (List ℕ)) → Appends a b (number_line p.numbered number)
-    → IsPrinted p.in_words fine datagram b c → AppendsText a c (IsNumberedText p number datagram fine)
+    → AppendsText b c (IsItemText p.frames p.in_words datagram fine) → AppendsText a c (IsNumberedText p number datagram fine)
 numbered_text p number fine datagram a b c line told =
-    both a b c (Is (number_line p.numbered number)) (IsDatagramText p.in_words fine datagram) (line_is a b (number_line p.numbered number) line)
-    (datagram_text p.in_words fine datagram b c told)
+    both a b c (Is (number_line p.numbered number)) (IsItemText p.frames p.in_words datagram fine) (line_is a b (number_line p.numbered number) line) told
 
 -- the same as what the call returned says it
 pub numbered_at : {E : Type 0} (p : Printing) (number : ℕ) (datagram : List ℕ) (r : Result Bool E) (a b c : Option (List ℕ))
-    → Appends a b (number_line p.numbered number) → IfOk r (λ fine. IsPrinted p.in_words fine datagram b c)
+    → Appends a b (number_line p.numbered number) → IfOk r (λ fine. AppendsText b c (IsItemText p.frames p.in_words datagram fine))
     → IfOk r (λ fine. AppendsText a c (IsNumberedText p number datagram fine))
 numbered_at p number datagram (Ok fine) a b c line told = numbered_text p number fine datagram a b c line told
 numbered_at p number datagram (Err error) a b c line told = told

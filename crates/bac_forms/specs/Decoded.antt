@@ -2,10 +2,11 @@
 use Rattle.std.specs.Prelude.{◌≡◌, ℕ, ◌+◌, ◌++◌, Bool, true, false, List, [], ◌∷◌, codes, decimal, Option, Ok, Err}
 use Rattle.std.specs.Io.KnownBytes.{Keeps}
 use Rattle.bac_service.specs.Members.{◌⨾◌}
-use Rattle.bac_text.specs.DecodedLines.{IsDatagramText, IsFirstText}
+use Rattle.bac_text.specs.DecodedLines.{IsFirstText}
 use Rattle.bac_text.specs.Texts.{AppendsText, Is, line_end}
 use Rattle.bac_text.specs.declared.status.Status.{Status}
 use Rattle.bac_text.specs.declared.status.Status.TheVariants as status
+use Rattle.bac_forms.specs.Framed.{IsItemText}
 use Rattle.bac_forms.specs.Reading.{reading_of}
 use Rattle.bac_forms.specs.declared.decode.Printing.{Printing}
 use Rattle.bac_forms.specs.declared.fault.FormFault.{FormFault}
@@ -16,9 +17,9 @@ abbrev pub number_line : (numbered : Bool) → (number : ℕ) → List ℕ
 number_line false number = []
 number_line true number = (codes "datagram " ++ decimal number) ++ line_end
 
--- the lines of a datagram, which has no fault or one, behind that of its number
+-- the lines of a datagram or a frame, which has no fault or one, behind that of its number
 abbrev pub IsNumberedText : Printing → (number : ℕ) → (datagram : List ℕ) → (fine : Bool) → (text : List ℕ) → Type 0
-IsNumberedText p number datagram fine = Is (number_line p.numbered number) ⨾ IsDatagramText p.in_words fine datagram
+IsNumberedText p number datagram fine = Is (number_line p.numbered number) ⨾ IsItemText p.frames p.in_words datagram fine
 
 -- the same of some datagrams in order, of which the first has that number; all of them are fine, or one is not
 abbrev pub AreDatagramTexts : Printing → (number : ℕ) → List (List ℕ) → (fine : Bool) → (text : List ℕ) → Type 0

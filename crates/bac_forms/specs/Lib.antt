@@ -1,6 +1,7 @@
 pub mod Array
 pub mod Base64
 pub mod Blanks
+pub mod Framed
 pub mod Decoded
 pub mod Digits
 pub mod Dump

@@ -3,13 +3,15 @@ ghost use Rattle.std.specs.Prelude.{◌≡◌, IfOk, OnOk};
 ghost use Rattle.std.specs.Io.KnownBytes.{Appends};
 ghost use Rattle.bac_text.specs.Texts.{AppendsText};
 ghost use Rattle.bac_forms.specs.Decoded.{AreAllShown, AreDatagramTexts, IsNumberedText, IsFormDecoded, IsRefusal, number_line};
+ghost use Rattle.bac_forms.specs.Framed.{IsItemText};
 ghost use Rattle.bac_forms.specs.Reading.{octets_of};
 
 use crate::fault::FormFault;
 use crate::form::Form;
+use crate::frame::{show_frame, show_layers};
 use crate::place::Position;
 use crate::reading::read_datagrams;
-use bac_text::{Status, no_memory, output_failed, show_datagram, shown_status};
+use bac_text::{Status, no_memory, output_failed, shown_status};
 use std::alloc::Global;
 use std::io;
 use std::io::Write;
@@ -21,6 +23,24 @@ pub struct Printing {
     pub in_words: bool,
     /// Each behind a line with its number.
     pub numbered: bool,
+    /// Each is the datagram of BACnet/IP in a frame of Ethernet.
+    pub frames: bool,
+}
+
+/// Prints a datagram, or that of a frame. Answers whether it has no fault.
+fn show_item<W: Write>(
+    alloc: Global,
+    printing: Printing,
+    octets: &[u8],
+    out: &mut W,
+) -> io::Result<bool>
+    ensures { IfOk result (λ fine. AppendsText (W.contents out.old) (W.contents out.new) (IsItemText printing.frames printing.in_words octets.now fine)) }
+{
+    if printing.frames {
+        show_frame(alloc, printing.in_words, octets, out)
+    } else {
+        show_layers(alloc, printing.in_words, octets, out)
+    }
 }
 
 /// Prints the number of a datagram, where it is wanted.
@@ -44,7 +64,7 @@ fn show_numbered<W: Write>(
     ensures { IfOk result (λ fine. AppendsText (W.contents out.old) (W.contents out.new) (IsNumberedText printing number datagram.now fine)) }
 {
     print_number(printing.numbered, number, out)?;
-    show_datagram(alloc, printing.in_words, datagram, out)
+    show_item(alloc, printing, datagram, out)
 }
 
 /// Prints datagrams in order. Answers whether none of them has a fault.
@@ -116,7 +136,8 @@ fn refuse<E: Write>(form: Form, fault: FormFault, err: &mut E) -> Status
 }
 
 /// Prints the layers of the datagrams of a text in that form, as `bac_text::decode_text_over` does of each; each behind a line `datagram N`, from 1 on, where they
-/// are numbered.
+/// are numbered. With `frames` each is the datagram in a frame of Ethernet, from or to a UDP port of BACnet/IP; of another frame a line `frame: ` says why it has
+/// none, which counts as a fault.
 ///
 /// Ends with `Faulty` where one has a fault. Where a character of the text does not fit the form nothing is printed but `bad escaped`, with the form's name, and the
 /// line, the column and the character on `err`. Out of memory: `no memory` on `err`. `Output` where `out` cannot be written.

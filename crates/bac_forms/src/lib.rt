@@ -9,6 +9,7 @@ mod dump;
 mod escaped;
 mod fault;
 mod form;
+mod frame;
 mod gathered;
 mod guessing;
 mod lines;

@@ -51,6 +51,13 @@ const BACKUP: &[Word] = &[
         help: "The folder for the files, as file-1.bin, and for their list, `manifest`: a line `SHA256 LENGTH NAME` for each. It is made if it is not there; files of these names are overwritten",
     },
     Word {
+        name: "device",
+        form: WordForm::Index("N", 4_194_302),
+        need: Need::Never,
+        against: &["OBJECTS"],
+        help: "Saves all files of the object-list of this device, by its instance, 0 to 4194302; by default that of device 4194303, which stands for any instance, and for which not every device answers",
+    },
+    Word {
         name: "OBJECTS",
         form: WordForm::Several,
         need: Need::Never,
@@ -79,7 +86,7 @@ const BACKUPS: &[Grammar] = &[
     Grammar {
         name: "backup",
         about: "Saves files of a device in a folder, with their digests",
-        after: "Example: bac backup --port 47808 --folder saved\nExample: bac backup --to 192.168.1.20 --folder saved file:1 file:2",
+        after: "Example: bac backup --port 47808 --device 1 --folder saved\nExample: bac backup --to 192.168.1.20 --folder saved file:1 file:2",
         words: BACKUP,
     },
     Grammar {

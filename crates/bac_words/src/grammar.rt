@@ -25,6 +25,10 @@ fn formed<'a>(arg: Arg<'a>, name: &'a str, form: WordForm) -> Arg<'a> {
             let parser = ValueParser::unsigned(1, most);
             text(arg, name, value).value_parser(parser)
         }
+        WordForm::Index(value, most) => {
+            let parser = ValueParser::unsigned(0, most);
+            text(arg, name, value).value_parser(parser)
+        }
         WordForm::Choice(value, names) => {
             let parser = ValueParser::Names(names);
             text(arg, name, value).value_parser(parser)

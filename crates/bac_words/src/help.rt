@@ -34,9 +34,10 @@ pub(crate) fn write_form<O: Write>(out: &mut O, hyphens: &str, word: &Word) -> i
         WordForm::Bare => out.write_all(name.as_bytes()),
         WordForm::Several => write!(out, "{name}.."),
         WordForm::Flag => write!(out, "{hyphens}{name}"),
-        WordForm::Text(value) | WordForm::Number(value, _) | WordForm::Choice(value, _) => {
-            write!(out, "{hyphens}{name} {value}")
-        }
+        WordForm::Text(value)
+        | WordForm::Number(value, _)
+        | WordForm::Index(value, _)
+        | WordForm::Choice(value, _) => { write!(out, "{hyphens}{name} {value}") }
     }
 }
 

@@ -13,6 +13,8 @@ pub(crate) enum WordForm {
     Text(&'static str),
     /// By its name, with a number after it, from 1 to the one given here.
     Number(&'static str, u64),
+    /// The same, from 0.
+    Index(&'static str, u64),
     /// By its name, with one of these words after it.
     Choice(&'static str, &'static [&'static str]),
 }
@@ -73,7 +75,8 @@ Example: bac decode 810A000801001013
 Example: bac decode --text '81 0a 00 11 01 04 00 05 01 0c 0c 00 00 00 05 19 55'
 Example: bac decode --text - < datagrams.txt
 Example: bac decode --text --number --form hexdump - < dump.txt
-Example: bac decode --form base64 gQoACAEAEBM=";
+Example: bac decode --form base64 gQoACAEAEBM=
+Example: bac decode --text --frame --form hexdump - < packet.txt";
 
 /// What `decode` takes.
 const DECODE: &[Word] = &[
@@ -96,7 +99,7 @@ const DECODE: &[Word] = &[
         form: WordForm::Text("FORM"),
         need: Need::Never,
         against: &["json"],
-        help: "The form of the datagrams, as Wireshark copies them: `hex`, `hexdump`, `escaped`, `c` (arrays of C), `base64`, or `auto` to find it. Only the part from BACnet/IP on (0x81) is wanted, without the headers before it",
+        help: "The form of the datagrams, as Wireshark copies them: `hex`, `hexdump`, `escaped`, `c` (arrays of C), `base64`, or `auto` to find it. Only the part from BACnet/IP on (0x81) is wanted, without the headers before it, unless --frame is given",
     },
     Word {
         name: "number",
@@ -104,6 +107,13 @@ const DECODE: &[Word] = &[
         need: Need::Never,
         against: &["json"],
         help: "Prints a line `datagram N` before each datagram, from 1 on",
+    },
+    Word {
+        name: "frame",
+        form: WordForm::Flag,
+        need: Need::Never,
+        against: &["json"],
+        help: "Takes whole frames of Ethernet, as Wireshark copies packets, and prints the datagram that each carries from or to UDP port 47808 to 47823",
     },
     Word {
         name: "json",
@@ -162,10 +172,23 @@ const CHECK: &[Word] = &[
 const EXPLAIN_EXAMPLES: &str = "\
 Example: bac explain capture.pcapng
 Example: bac explain --chart capture.pcapng
+Example: bac explain --chart --pairs --values capture.pcapng
 Example: bac explain --peer 192.168.1.20 --slower 1000 capture.pcapng
 Example: bac explain --unanswered --fail capture.pcapng
 Example: bac explain --json capture.pcapng | jq 'select(.unanswered)'
 Example: bac explain --html capture.pcapng > capture.html";
+
+/// The words of `explain` that go with no chart.
+const TRANSACTIONS: &[&str] = &[
+    "unanswered",
+    "findings",
+    "slower",
+    "peer",
+    "fail",
+    "json",
+    "html",
+    "frames",
+];
 
 /// What `explain` takes.
 const EXPLAIN: &[Word] = &[
@@ -245,6 +268,27 @@ const EXPLAIN: &[Word] = &[
         need: Need::Never,
         against: &["chart", "mermaid", "json"],
         help: "Prints a page of HTML: the transactions as a table that sorts and filters, with a picture of each",
+    },
+    Word {
+        name: "values",
+        form: WordForm::Flag,
+        need: Need::Never,
+        against: TRANSACTIONS,
+        help: "Draws a chart, with --mermaid that of Mermaid, in which an answer that is whole in one APDU has its values",
+    },
+    Word {
+        name: "pairs",
+        form: WordForm::Flag,
+        need: Need::Never,
+        against: TRANSACTIONS,
+        help: "Draws a chart for each client and server, one after the other, of any number; with --mermaid as sections of Markdown",
+    },
+    Word {
+        name: "frames",
+        form: WordForm::Flag,
+        need: Need::Never,
+        against: &["chart", "mermaid", "json", "html"],
+        help: "Prints a line for each transaction with the time of its request, and the numbers of its frames as Wireshark counts them",
     },
 ];
 
