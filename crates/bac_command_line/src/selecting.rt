@@ -49,16 +49,15 @@ fn form_by(mermaid: bool) -> ChartFormat
 pub(crate) fn chart_of(given: &ArgMatches<'_>) -> Option<ChartOptions>
     ensures { IfSome result (AreChartOptions given.now) }
 {
+    let chart = flag_of(given, "chart");
     let mermaid = flag_of(given, "mermaid");
-    let values = flag_of(given, "values");
-    let pairs = flag_of(given, "pairs");
-    if mermaid || values || pairs || flag_of(given, "chart") {
-        let form = form_by(mermaid);
-        Some(ChartOptions {
-            form,
-            values,
-            pairs,
-        })
+    let options = ChartOptions {
+        form: form_by(mermaid),
+        values: flag_of(given, "values"),
+        pairs: flag_of(given, "pairs"),
+    };
+    if chart || mermaid || options.values || options.pairs {
+        Some(options)
     } else {
         None
     }
