@@ -4,7 +4,7 @@ use Rattle.std.proofs.lemmas.Result.{err_from_is_err_and}
 use Rattle.std.proofs.lemmas.Option.{slice_get-get_or}
 use Rattle.std.specs.Option.{option_map}
 use Rattle.bac_npdu.specs.Views.{peer_view}
-use Rattle.bac_simulate.proofs.Appending.{drop_seen}
+use Rattle.bac_lists.proofs.Lists.{drop_seen}
 use Rattle.bac_lists.specs.QuestionLines.{AreQuestions, HaveBadLine, Numbered, line_view}
 use Rattle.bac_lists.proofs.ReadLines.{all_read, bad_line_read, one_more_read, others_bad, same_fault}
 use Rattle.bac_lists.proofs.question_lines.questions_among.Goals as goal
