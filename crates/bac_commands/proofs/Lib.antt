@@ -8,4 +8,3 @@ pub mod Reported
 pub mod Logging
 pub mod Unwatched
 pub mod FreshClients
-mod FullTables
