@@ -20,6 +20,7 @@ mod forgotten;
 mod help;
 mod json;
 mod kept;
+mod log_objects;
 mod logged;
 mod not_asked;
 mod online;

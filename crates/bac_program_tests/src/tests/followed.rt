@@ -41,7 +41,11 @@ impl OpenFiles for Edited {
 }
 
 /// What comes of a command line beside a document with these texts, one after the other.
-fn run_beside(alloc: Global, texts: &'static [&'static str], line: &str) -> Result<Printed, Fail> {
+pub(super) fn run_beside(
+    alloc: Global,
+    texts: &'static [&'static str],
+    line: &str,
+) -> Result<Printed, Fail> {
     let words = words_of(alloc, line)?;
     let machine = BenchMachine::new(alloc, QUIET);
     let files = Edited {
@@ -51,10 +55,10 @@ fn run_beside(alloc: Global, texts: &'static [&'static str], line: &str) -> Resu
     Ok(run_words(alloc, &words, &files, &machine))
 }
 
-const COOL: &str =
+pub(super) const COOL: &str =
     "[[object]]\ntype = \"analog-input\"\ninstance = 5\nname = \"air\"\npresent-value = { real = 20.5 }\n";
 
-const WARM: &str =
+pub(super) const WARM: &str =
     "[[object]]\ntype = \"analog-input\"\ninstance = 5\nname = \"air\"\npresent-value = { real = 21.5 }\n";
 
 /// The present-value is a text.
