@@ -84,6 +84,7 @@ struct Telling<'t> {
 }
 
 /// What came, and what was done.
+#[tactic(auto, using(crate::proofs::EventLines::heard_told))]
 fn heard_text(telling: Telling<'_>, peer: Peer, apdu: &Apdu<'_>) -> io::Result<Vec<u8>>
     ensures { IfOk result (λ t. IsHeardText telling.entry.format telling.entry.away.now (turn_view telling.entry.turn.now) (peer_view peer) (apdu_view apdu.now) t.items) }
 {
@@ -123,6 +124,7 @@ fn npdu_text(telling: Telling<'_>, from: LinkAddress, npdu: &Npdu<'_>) -> io::Re
     heard_text(telling, peer, &apdu)
 }
 
+#[tactic(auto, using(crate::proofs::EventLines::dropped_told))]
 fn dropped_text(
     alloc: Global,
     format: LogFormat,
@@ -177,6 +179,7 @@ fn received_text(telling: Telling<'_>, buffer: &[u8]) -> io::Result<Vec<u8>>
 
 // ---- what else a turn gave
 
+#[tactic(auto, using(crate::proofs::EventLines::rest_told))]
 fn rest_text(alloc: Global, format: LogFormat, turn: &Turn) -> io::Result<Vec<u8>>
     ensures { IfOk result (λ t. IsRestText format (turn_view turn.now) t.items) }
 {

@@ -81,11 +81,8 @@ fn full_line(
 ) -> io::Result<Vec<u8>>
     ensures { IfOk result (λ t. IsFullLine format at away node.now.servers t.items) }
 {
-    let event = LogEvent::TableFull {
-        count: away,
-        wait: node.next_free(at).saturating_sub(at),
-    };
-    event_text(alloc, format, at, event)
+    let wait = node.next_free(at).saturating_sub(at);
+    event_text(alloc, format, at, LogEvent::TableFull { count: away, wait })
 }
 
 /// The same, if it is said.

@@ -9,5 +9,5 @@ returns c = record {
   next = c.next_free.result;
   is_next = record { from = c.next_free.ensures.from; full = c.next_free.ensures.full; free = c.next_free.ensures.free };
   is =
-      subst (λ (wait : ℕ). IsEventText c.args.format c.args.at (TableFull c.args.away wait) c.event_text.result) c.saturating_sub.ensures c.event_text.ensures;
+      subst (λ (wait : ℕ). IsEventText c.args.format c.args.at (TableFull c.args.away wait) _) c.saturating_sub-wait.ensures c.event_text.ensures;
 }
