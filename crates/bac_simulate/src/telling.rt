@@ -1,5 +1,6 @@
 //! The run of a script, told in words or as objects of JSON.
-ghost use Rattle.std.specs.Prelude.{◌+◌, ◌<◌, ◌^◌, length, map, IfOk, OnOk};
+ghost use Rattle.std.specs.Prelude.{◌+◌, ◌++◌, ◌<◌, ◌^◌, length, map, IfOk, OnOk};
+ghost use Rattle.std.specs.Io.KnownBytes.{Appends};
 ghost use Rattle.bac_text.specs.Texts.{AppendsText};
 ghost use Rattle.bac_simulate.specs.Runs.{Runs, Steps};
 ghost use Rattle.bac_simulate.specs.Scripts.{Began, Happens, Lost, Paced};
@@ -20,6 +21,15 @@ use std::alloc::Global;
 use std::io;
 use std::io::Write;
 
+/// Prints two texts, one after the other.
+fn print_both<W: Write>(first: Vec<u8>, more: &[u8], out: &mut W) -> io::Result<()>
+    ensures { OnOk result (Appends (W.contents out.old) (W.contents out.new) (first.items ++ more.now)) }
+{
+    let mut text = first;
+    text.extend_from_slice(more)?;
+    out.write_all(text.as_slice())
+}
+
 /// One event. Answers whether the script goes on.
 fn print_event<W: Write>(
     alloc: Global,
@@ -39,12 +49,11 @@ fn print_event<W: Write>(
         style,
         moment: ms_now(world),
     };
-    let mut text = teller.head_text(event)?;
+    let head = teller.head_text(event)?;
     let fault = match world.step(event) {
         Ok(refused) => {
             let outcome = outcome_text(alloc, style, world, before, why, refused)?;
-            text.extend_from_slice(outcome.as_slice())?;
-            out.write_all(text.as_slice())?;
+            print_both(head, outcome.as_slice(), out)?;
             return Ok(true);
         }
         Err(fault) => fault,
@@ -52,8 +61,7 @@ fn print_event<W: Write>(
     match change_fault_in(fault) {
         Some(why) => {
             let refusal = teller.refusal_text(why.number(), change_fault_words(why))?;
-            text.extend_from_slice(refusal.as_slice())?;
-            out.write_all(text.as_slice())?;
+            print_both(head, refusal.as_slice(), out)?;
             Ok(true)
         }
         None => {

@@ -13,7 +13,7 @@ loop-number-preserved c =
     let line =
     subst (λ (t : List ℕ). IsSentText c.args.teller.style c.args.teller.moment at.number (copy_view k) t) (sym c.as_slice.ensures.value) c.in_ok-sent.ensures in
     λ end h. at.invariant end (copy_told c.args.teller.style c.args.teller.moment c.args.copies.now at.number k
-    (slice_get_read c.args.copies.now _ at.number k refl lt c.index-copies-number.is) _ _ end _ line c.in_ok-extend_from_slice.ensures h)
+    (slice_get_read c.args.copies.now _ at.number k refl lt c.index-copies-number.is) _ _ end _ line c.in_ok-extend_from_slice.ensures.items h)
 
 pub returns : goal.returns
 returns c =

@@ -15,7 +15,7 @@ loop-number-preserved c =
     let line =
     subst (λ (t : List ℕ). IsFactText c.args.teller.style notes c.args.teller.moment (fact_view f) t) (sym c.as_slice.ensures.value) c.in_ok-fact.ensures in
     λ end h. at.invariant end (fact_told c.args.teller.style notes c.args.teller.moment c.args.log.now at.number f
-    (slice_get_read c.args.log.now _ at.number f refl lt c.index-log-number.is) _ _ end _ line c.in_ok-extend_from_slice.ensures h)
+    (slice_get_read c.args.log.now _ at.number f refl lt c.index-log-number.is) _ _ end _ line c.in_ok-extend_from_slice.ensures.items h)
 
 pub returns : goal.returns
 returns c =
