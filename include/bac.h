@@ -88,8 +88,9 @@ typedef struct bac_settings {
                               and is performed. A write that equals the last request under its invoke ID, within 65,000 ms, is a repeat: it gets the old answer
                               and is not performed again */
     uint8_t later[3];      /* 0: room for members of later versions */
-    uint32_t memory;       /* how many octets of requests and replies it keeps for those that ask it, 65,540 and more; 0: 67,108,864. A request needs room for
-                              65,539 octets beside its own: one for which there is none is not heard, and bac_on answers BAC_NO_MEMORY */
+    uint32_t memory;       /* how many octets of requests and replies it keeps for those that ask it, 65,540 and more; 0: 67,108,864. A request that
+                              can make it keep more needs room for 65,539 octets beside its own: one for which there is none is not heard, and bac_on answers
+                              BAC_NO_MEMORY */
 } bac_settings;
 
 /* APDUs of 1476 octets, any number of segments, windows of 32, 64 slots at each end (64 asks in 135,000 ms, 64 requests in 65,000), at that link; clients may

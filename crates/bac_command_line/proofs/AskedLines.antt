@@ -9,11 +9,12 @@ use Rattle.bac_text.specs.declared.status.Status.TheVariants as status
 use Rattle.bac_commands.specs.Statuses.{ByStatus}
 use Rattle.bac_driver.specs.Runs.{Timed}
 use Rattle.bac_command_line.specs.Asked.{AreAskedFrom, AsksFromHost, for_lines}
-use Rattle.bac_command_line.specs.AskedLines.{AreRead, AsksEach, AsksLine, line_view}
+use Rattle.bac_lists.specs.QuestionLines.{line_view}
+use Rattle.bac_command_line.specs.AskedLines.{AreRead, AsksEach, AsksLine}
 use Rattle.bac_command_line.specs.Files.{OfFile}
 use Rattle.bac_command_line.specs.Online.{Clocks, Links}
 use Rattle.bac_command_line.specs.declared.asking.Asking.{Asking}
-use Rattle.bac_command_line.specs.declared.question_lines.LineQuestion.{LineQuestion}
+use Rattle.bac_lists.specs.declared.question_lines.LineQuestion.{LineQuestion}
 use Rattle.bac_command_line.proofs.AskedOf.{Files}
 use Rattle.bac_command_line.proofs.InRounds.{and_true, both_and}
 use Rattle.bac_command_line.proofs.Statuses.{lifted}

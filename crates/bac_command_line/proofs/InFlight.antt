@@ -16,7 +16,7 @@ use Rattle.bac_command_line.specs.Online.{Links}
 use Rattle.bac_command_line.specs.declared.flights.Begun.{Begun}
 use Rattle.bac_command_line.specs.declared.flights.Flight.{Flight}
 use Rattle.bac_command_line.specs.declared.flights.Waiting.{Waiting}
-use Rattle.bac_command_line.specs.declared.question_lines.LineQuestion.{LineQuestion}
+use Rattle.bac_lists.specs.declared.question_lines.LineQuestion.{LineQuestion}
 use Rattle.bac_command_line.proofs.InRounds.{and_true, both_and}
 
 -- ---- the lines of a list

@@ -13,7 +13,8 @@ use Rattle.bac_service.specs.Values.{Request}
 use Rattle.bac_text.specs.Texts.{AppendsText, line_end}
 use Rattle.bac_command_line.specs.Clients.{AsksFrom}
 use Rattle.bac_command_line.specs.Online.{AsksRecorded}
-use Rattle.bac_command_line.specs.Recording.{AreWordsOf, Asker, IsRecordText, PrintsRecord, no_line, outcome_of, without_end}
+use Rattle.bac_lists.specs.QuestionLines.{Asker, no_line}
+use Rattle.bac_command_line.specs.Recording.{AreWordsOf, IsRecordText, PrintsRecord, outcome_of, without_end}
 use Rattle.bac_command_line.specs.declared.asking.Asking.{Asking}
 use Rattle.bac_command_line.specs.declared.recording.RecordForm.{RecordForm}
 

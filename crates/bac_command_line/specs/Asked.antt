@@ -7,7 +7,8 @@ use Rattle.bac_text.specs.declared.status.Status.{Status}
 use Rattle.bac_driver.specs.Runs.{Timed}
 use Rattle.bac_driver.specs.Views.{question_view}
 use Rattle.bac_commands.specs.Statuses.{ByStatus}
-use Rattle.bac_command_line.specs.AskedLines.{AreRead, have_names, line_view}
+use Rattle.bac_lists.specs.QuestionLines.{have_names, line_view}
+use Rattle.bac_command_line.specs.AskedLines.{AreRead}
 use Rattle.bac_command_line.specs.Files.{OfFile}
 use Rattle.bac_command_line.specs.InFlight.{AsksLines}
 use Rattle.bac_command_line.specs.Online.{AsksOnce, ByClient, Clocks, Links}
@@ -16,7 +17,7 @@ use Rattle.bac_text.specs.declared.status.Status.TheVariants as status
 use Rattle.bac_command_line.specs.declared.asking.Asking.{Asking}
 use Rattle.bac_command_line.specs.declared.asking_lines.Unasked.{Unasked}
 use Rattle.bac_command_line.specs.declared.asking_lines.Unasked.TheVariants as unasked
-use Rattle.bac_command_line.specs.declared.question_lines.LineQuestion.{LineQuestion}
+use Rattle.bac_lists.specs.declared.question_lines.LineQuestion.{LineQuestion}
 use Rattle.bac_command_line.specs.declared.rounds.Asked.{Asked}
 use Rattle.bac_command_line.specs.declared.rounds.Asked.TheVariants as asked
 

@@ -1,138 +1,18 @@
 -- What `ask --lines` asks and prints: a client asks the requests of some lines in turn.
-use Rattle.std.specs.Prelude.{◌≡◌, ◌⊎◌, ℕ, ◌+◌, Bool, true, false, ◌==◌, ◌&&◌, List, [], ◌∷◌, ◌++◌, codes, decimal, if◌then◌else◌, is_some, string_bytes, Option, None, Some, IfSome}
-use Rattle.std.specs.List.{list_any}
-use Rattle.std.specs.Option.{option_map}
+use Rattle.std.specs.Prelude.{◌≡◌, ℕ, Bool, List, [], ◌∷◌, ◌++◌, codes, decimal, Option, None, Some, IfSome}
 use Rattle.std.specs.Io.KnownBytes.{Appends}
-use Rattle.bac_ask_report.specs.Records.{LineName, Unnamed, Without, Named}
 use Rattle.bac_npdu.specs.Peers.{PeerView}
-use Rattle.bac_service_text.specs.Dispatch.{request_of}
-use Rattle.bac_text.specs.Lines.{LINE_END}
-use Rattle.bac_text.specs.Notes.{read_of}
-use Rattle.bac_driver.specs.Asking.{Question}
 use Rattle.bac_driver.specs.Runs.{Timed}
 use Rattle.bac_driver.specs.Views.{question_view}
 use Rattle.bac_driver.specs.declared.question.AskEnd.{AskEnd}
-use Rattle.bac_value_text.specs.Splits.{split_by}
-use Rattle.bac_commands.specs.Questions.{IsQuestion}
+use Rattle.bac_lists.specs.QuestionLines.{AreQuestions, HaveBadLine, Numbered, asker_of, lines_in, name_in_line}
+use Rattle.bac_lists.specs.declared.question_lines.LineQuestion.{LineQuestion}
 use Rattle.bac_command_line.specs.Clients.{AsksOn}
-use Rattle.bac_command_line.specs.LineNames.{has_bad_name, name_of, words_behind}
-use Rattle.bac_command_line.specs.LineWords.{is_address, words_of}
 use Rattle.bac_command_line.specs.Online.{Links}
-use Rattle.bac_command_line.specs.Recording.{Asker, PrintsAsk}
+use Rattle.bac_command_line.specs.Recording.{PrintsAsk}
 use Rattle.bac_command_line.specs.Rounds.{DoesNothing, Doing, IsNext}
 use Rattle.bac_command_line.specs.declared.asking.Asking.{Asking}
-use Rattle.bac_command_line.specs.declared.question_lines.LineQuestion.{LineQuestion}
 use Rattle.bac_command_line.specs.declared.recording.RecordForm.{RecordForm}
-
-abbrev pub is_octet : (wanted octet : ℕ) → Bool
-is_octet wanted octet = octet == wanted
-
--- ---- the requests of lines
-
-abbrev pub names_peer : (words : List (List ℕ)) → Bool
-names_peer [] = false
-names_peer (word ∷ words) = is_address word
-
--- the words of the request, behind that one
-abbrev pub request_words : (words : List (List ℕ)) → List (List ℕ)
-request_words [] = []
-request_words (word ∷ words) = if is_address word then words else word ∷ words
-
--- a line that names no peer is asked of the one that is given for all
-abbrev pub IsAskedOf : (default : Option PeerView) → (words : List (List ℕ)) → PeerView → Type 0
-IsAskedOf default words peer = names_peer words ≡ false → default ≡ Some peer
-
--- the address that it names is none, or it names none and none is given
-abbrev pub HasNoPeer : (default : Option PeerView) → (words : List (List ℕ)) → Type 0
-HasNoPeer default words = (names_peer words ≡ true) ⊎ (default ≡ None)
-
--- that is what words ask
-pub record AsksWords (default : Option PeerView) (words : List (List ℕ)) (q : Question) : Type 0 where
-  pub peer : PeerView
-  pub of : IsAskedOf default words peer
-  pub is : IsQuestion peer (request_words words) q
-
--- there is no peer for them, or they are no request
-abbrev pub AskNothing : (default : Option PeerView) → (words : List (List ℕ)) → Type 0
-AskNothing default words = HasNoPeer default words ⊎ (request_of (request_words words) ≡ None)
-
--- a line has a quote that is not closed, a name that is none, or the words behind its name ask nothing; one without words is none of these
-abbrev pub AreBadWords : (default : Option PeerView) → (words : Option (List (List ℕ))) → Type 0
-AreBadWords default None = Unit {0}
-AreBadWords default (Some []) = ⊥
-AreBadWords default (Some (word ∷ words)) = (has_bad_name (word ∷ words) ≡ true) ⊎ AskNothing default (words_behind (word ∷ words))
-
-abbrev pub IsBadLine : (default : Option PeerView) → (line : List ℕ) → Type 0
-IsBadLine default line = AreBadWords default (words_of line)
-
--- what a line asks, by its number, and its name
-pub record Numbered : Type 0 where
-  pub number : ℕ
-  pub name : Option (List ℕ)
-  pub question : Question
-
-abbrev pub name_in_line : LineQuestion → Option (List ℕ)
-name_in_line l = option_map string_bytes l.name
-
-abbrev pub line_view : LineQuestion → Numbered
-line_view l = record { number = l.number; name = name_in_line l; question = question_view l.question }
-
--- the line of that number, with these words, asks that; its name stands before the request
-pub record AsksOne (default : Option PeerView) (number : ℕ) (words : List (List ℕ)) (found : List Numbered) : Type 0 where
-  pub question : Question
-  pub asks : AsksWords default (words_behind words) question
-  pub is : found ≡ record { number = number; name = name_of words; question = question } ∷ []
-
--- by its words: without any it asks nothing
-abbrev pub WordsAsk : (default : Option PeerView) → (number : ℕ) → (words : Option (List (List ℕ))) → (found : List Numbered) → Type 0
-WordsAsk default number None found = ⊥
-WordsAsk default number (Some []) found = found ≡ []
-WordsAsk default number (Some (word ∷ words)) found = AsksOne default number (word ∷ words) found
-
--- by what is to be read of a line: nothing of a note
-abbrev pub AsksIn : (default : Option PeerView) → (number : ℕ) → (read : Option (List ℕ)) → (found : List Numbered) → Type 0
-AsksIn default number None found = found ≡ []
-AsksIn default number (Some line) found = WordsAsk default number (words_of line) found
-
--- that and what the others ask
-pub record IsFirst (First Others : List Numbered → Type 0) (all : List Numbered) : Type 0 where
-  pub found : List Numbered
-  pub rest : List Numbered
-  pub first : First found
-  pub others : Others rest
-  pub is : all ≡ found ++ rest
-
--- what lines ask, of which the first has that number
-abbrev pub AreQuestions : (default : Option PeerView) → (number : ℕ) → (lines : List (List ℕ)) → List Numbered → Type 0
-AreQuestions default number [] all = all ≡ []
-AreQuestions default number (line ∷ lines) all = IsFirst (AsksIn default number (read_of true line)) (AreQuestions default (number + 1) lines) all
-
-abbrev pub IsBadRead : (default : Option PeerView) → (read : Option (List ℕ)) → Type 0
-IsBadRead default None = ⊥
-IsBadRead default (Some line) = IsBadLine default line
-
--- one of them is bad
-abbrev pub HaveBadLine : (default : Option PeerView) → (lines : List (List ℕ)) → Type 0
-HaveBadLine default [] = ⊥
-HaveBadLine default (line ∷ lines) = IsBadRead default (read_of true line) ⊎ HaveBadLine default lines
-
--- a text without the byte order mark that some editors put at its beginning
-abbrev pub without_mark : (text : List ℕ) → List ℕ
-without_mark (first ∷ second ∷ third ∷ text) =
-    if (first == 239) && ((second == 187) && (third == 191)) then text else first ∷ second ∷ third ∷ text
-without_mark text = text
-
--- the lines of a text; they are counted from 1
-abbrev pub lines_in : (text : List ℕ) → List (List ℕ)
-lines_in text = split_by (is_octet LINE_END) (without_mark text)
-
--- what a line asks was added
-pub record AddsLine (default : Option PeerView) (number : ℕ) (line : List ℕ) (old new : List Numbered) : Type 0 where
-  pub found : List Numbered
-  pub asked : AsksIn default number (read_of true line) found
-  pub is : new ≡ old ++ found
-
--- ---- asking them
 
 -- the name, where a line has one
 abbrev pub name_text : (name : Option (List ℕ)) → List ℕ
@@ -146,21 +26,6 @@ front_text number name = (decimal number ++ codes ": ") ++ name_text name
 abbrev pub PrintsFront : Option RecordForm → LineQuestion → (old new : Option (List ℕ)) → Type 0
 PrintsFront None l old new = Appends old new (front_text l.number (name_in_line l))
 PrintsFront (Some form) l old new = new ≡ old
-
--- what a record says of the name of a line, of a list in which lines have names or not
-abbrev pub naming : (has_names : Bool) → (name : Option (List ℕ)) → LineName
-naming has_names (Some name) = Named name
-naming has_names None = if has_names then Without else Unnamed
-
-abbrev pub asker_of : (has_names : Bool) → LineQuestion → Asker
-asker_of has_names l = record { line = Some l.number; name = naming has_names (name_in_line l) }
-
-abbrev pub is_named : LineQuestion → Bool
-is_named l = is_some l.name
-
--- a line of a list has a name
-abbrev pub have_names : List LineQuestion → Bool
-have_names lines = list_any is_named lines
 
 -- the request of a line was asked, and how that ended was printed behind the line's number
 pub record AsksLine (IsOn : Links) (asking : Asking) (line : LineQuestion) (succeeded : Bool) (before after : Timed) (old new : Option (List ℕ)) : Type 0 where

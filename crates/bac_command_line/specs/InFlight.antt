@@ -21,7 +21,8 @@ use Rattle.bac_driver.specs.declared.question.AskEnd.TheVariants as end
 use Rattle.bac_driver.specs.declared.turn.Turn.{Turn}
 use Rattle.bac_commands.specs.Spent.{is_spent}
 use Rattle.bac_commands.specs.declared.online.output_format.OutputFormat.{OutputFormat}
-use Rattle.bac_command_line.specs.AskedLines.{AsksEach, PrintsFront, asker_of}
+use Rattle.bac_lists.specs.QuestionLines.{asker_of}
+use Rattle.bac_command_line.specs.AskedLines.{AsksEach, PrintsFront}
 use Rattle.bac_command_line.specs.Asking.{patience_for}
 use Rattle.bac_command_line.specs.Clients.{IsRenewed}
 use Rattle.bac_command_line.specs.Online.{Links}
@@ -33,7 +34,7 @@ use Rattle.bac_command_line.specs.declared.flights.Begun.TheVariants as begun
 use Rattle.bac_command_line.specs.declared.flights.Flight.{Flight}
 use Rattle.bac_command_line.specs.declared.flights.Flights as code
 use Rattle.bac_command_line.specs.declared.flights.Waiting.{Waiting}
-use Rattle.bac_command_line.specs.declared.question_lines.LineQuestion.{LineQuestion}
+use Rattle.bac_lists.specs.declared.question_lines.LineQuestion.{LineQuestion}
 use Rattle.bac_command_line.specs.declared.recording.RecordForm.{RecordForm}
 use Rattle.bac_command_line.specs.declared.window.Plan as code_plan
 

@@ -1,12 +1,11 @@
 pub mod Files
 pub mod Explaining
-pub mod LineWords
-pub mod LineNames
 pub mod Lines
 pub mod Json
 pub mod Serving
 pub mod Asking
 pub mod Given
+pub mod GivenServing
 pub mod Selecting
 pub mod FileWords
 pub mod Rounds

@@ -36,7 +36,8 @@ use Rattle.bac_commands.specs.declared.online.output_format.Style.TheVariants as
 use Rattle.bac_command_line.specs.Asking.{patience_for}
 use Rattle.bac_command_line.specs.Files.{OfFile}
 use Rattle.bac_command_line.specs.FileWords.{file_of, with_octets}
-use Rattle.bac_command_line.specs.Recording.{PrintsHeader, PrintsRecord, no_line}
+use Rattle.bac_lists.specs.QuestionLines.{no_line}
+use Rattle.bac_command_line.specs.Recording.{PrintsHeader, PrintsRecord}
 use Rattle.bac_command_line.specs.Rounds.{AreRounds, Doing}
 use Rattle.bac_command_line.specs.Serving.{patience_of, restart_of, turns_of}
 use Rattle.bac_command_line.specs.declared.asking.Asking.{Asking}

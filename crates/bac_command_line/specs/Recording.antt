@@ -2,7 +2,7 @@
 use Rattle.std.specs.Prelude.{◌≡◌, ℕ, ◌-◌, Bool, List, length, take, Option, Some, None}
 use Rattle.std.specs.Io.KnownBytes.{Appends}
 use Rattle.bac_ask_report.specs.Objects.{IsObject}
-use Rattle.bac_ask_report.specs.Records.{AskRecord, LineName, Outcome, Outcome as outcome, Unnamed, name_view}
+use Rattle.bac_ask_report.specs.Records.{AskRecord, Outcome, Outcome as outcome}
 use Rattle.bac_ask_report.specs.Rows.{IsRow, header_text}
 use Rattle.bac_commands.specs.AskEnds.{PrintsEnd}
 use Rattle.bac_commands.specs.Reports.{is_success}
@@ -12,26 +12,14 @@ use Rattle.bac_driver.specs.Asking.{Question}
 use Rattle.bac_driver.specs.declared.question.AskEnd.{AskEnd}
 use Rattle.bac_driver.specs.declared.question.AskEnd.TheVariants as end
 use Rattle.bac_json_report.specs.Lines.{IsLineOf}
+use Rattle.bac_lists.specs.QuestionLines.{Asker}
 use Rattle.bac_requester.specs.Faults.{ask_fault_number}
 use Rattle.bac_requester.specs.declared.ending.Ending.{Ending}
 use Rattle.bac_requester.specs.declared.ending.Ending.TheVariants as ending
 use Rattle.bac_service.specs.Values.{Request}
 use Rattle.bac_service.specs.Views.{owned_reply_view}
-use Rattle.bac_command_line.specs.declared.recording.Asker as code_asker
 use Rattle.bac_command_line.specs.declared.recording.RecordForm.{RecordForm}
 use Rattle.bac_command_line.specs.declared.recording.RecordForm.TheVariants as form
-
--- ---- the line that asks, if one does: its number, and its name
-
-pub record Asker : Type 0 where
-  pub line : Option ℕ
-  pub name : LineName
-
-abbrev pub asker_view : code_asker.Asker → Asker
-asker_view a = record { line = a.line; name = name_view a.name }
-
-abbrev pub no_line : Asker
-no_line = record { line = None; name = Unnamed }
 
 -- ---- how an ask ended
 

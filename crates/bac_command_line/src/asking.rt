@@ -6,13 +6,14 @@ ghost use Rattle.bac_command_line.specs.Given.{AreRecordsOf, AreRoundsOf, IsFlag
 ghost use Rattle.bac_command_line.specs.Rounds.{next_from};
 ghost use Rattle.bac_command_line.specs.Serving.{turns_of};
 
-use crate::address::{EVERY_HOST, LOCAL_HOST, host_towards, link_at, read_link, read_route};
 use crate::online::Machine;
-use crate::question_lines::{LineQuestion, have_names};
 use crate::recording::RecordForm;
 use crate::seconds::read_seconds;
 use bac_commands::{OutputFormat, Style};
 use bac_driver::WaitLimit;
+use bac_lists::{
+    EVERY_HOST, LOCAL_HOST, LineQuestion, have_names, host_towards, link_at, read_link, read_route,
+};
 use bac_npdu::{LinkAddress, Peer, Route};
 use clap::ArgMatches;
 

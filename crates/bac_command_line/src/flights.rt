@@ -4,9 +4,9 @@ ghost use Rattle.std.specs.List.{position};
 ghost use Rattle.bac_text.specs.Statuses.{IsFailure};
 ghost use Rattle.bac_command_line.specs.InFlight.{AddsFlight, EndsWaiting, IsNewSky, IsTakenUp, TakesEnd, all_noted, begins_spent, closed, ended_in, first_patience, has_ticket, is_idle, is_of, may_begin, noted, sky, with_end};
 
-use crate::question_lines::LineQuestion;
 use bac_commands::is_spent;
 use bac_driver::{AskEnd, Turn, WaitLimit};
+use bac_lists::LineQuestion;
 use bac_node::Outcome;
 use bac_npdu::Peer;
 use bac_requester::{AskFault, Ended};

@@ -1,13 +1,15 @@
 //! `serve --follow` and `serve --until-eof`: serving in stretches of at most a second, between which a server looks at its document and at standard input.
-ghost use Rattle.std.specs.Prelude.{IfErr, IfOk};
+ghost use Rattle.std.specs.Prelude.{◌≡◌, ◌≤◌, true, IfErr, IfOk, IfSome, IsTrue, MatchBool, MatchOption};
 ghost use Rattle.std.specs.Option.{option_map};
 ghost use Rattle.bac_commands.specs.Statuses.{ByStatus};
 ghost use Rattle.std.specs.Io.KnownBytes.{Keeps};
 ghost use Rattle.bac_driver.specs.Runs.{timed};
+ghost use Rattle.bac_driver.specs.Serving.{IsBefore, IsOver};
+ghost use Rattle.bac_driver.specs.Waits.{MOST};
 ghost use Rattle.bac_text.specs.Statuses.{IsFailure, IsStop};
 ghost use Rattle.bac_command_line.specs.Files.{OfFile, OnFile};
 ghost use Rattle.bac_command_line.specs.Keeping.{IsDocument};
-ghost use Rattle.bac_command_line.specs.Looking.{IsChanged, IsServedLooking, IsServer, ServesLooking};
+ghost use Rattle.bac_command_line.specs.Looking.{IsChanged, IsServedLooking, IsServer, ServesLooking, TakesStretch, TakesStretches, stop_limit, stop_of, stretch_limit};
 ghost use Rattle.bac_command_line.specs.Online.{OnClock, OnPort};
 ghost use Rattle.bac_command_line.specs.Stores.{MeansStore};
 
@@ -36,19 +38,39 @@ struct Served<'p> {
     followed: Option<Followed<'p>>,
 }
 
+/// When a server stops.
+#[derive(Clone, Copy)]
+struct Stop {
+    /// At this moment, if there is one.
+    at: Option<u64>,
+    /// When standard input ends.
+    with_input: bool,
+}
+
+/// What came of a stretch.
+#[derive(Clone, Copy)]
+struct Stretch {
+    /// How many requests were performed in it.
+    effects: u64,
+    /// Whether the server stops behind it.
+    is_last: bool,
+}
+
 /// What a server looks at between stretches, and where it tells of it.
 #[derive(Drop)]
 struct Looker<'p> {
-    until_eof: bool,
     followed: Option<Followed<'p>>,
     log: LevelLog,
 }
 
-/// The limit of the stretch that begins at a moment, of a server that ends at one, if there is one.
-fn stretch_from(now: u64, end: Option<u64>) -> RunLimit {
+/// The limit of the stretch that begins at a moment, of a server that stops at one, if there is one.
+fn stretch_from(now: u64, stop: Option<u64>) -> RunLimit
+    ensures turns { result.turns ≡ MOST }
+    ensures until { result.wait_limit ≡ stretch_limit now stop }
+{
     let stretch = now.saturating_add(STRETCH);
-    let until = match end {
-        Some(end) => end.min(stretch),
+    let until = match stop {
+        Some(moment) => moment.min(stretch),
         None => stretch,
     };
     RunLimit {
@@ -60,11 +82,25 @@ fn stretch_from(now: u64, end: Option<u64>) -> RunLimit {
     }
 }
 
-/// Whether a moment is the end, or after it.
-fn is_over(now: u64, end: Option<u64>) -> bool {
-    match end {
-        Some(end) => end <= now,
+/// Whether a moment is the one at which a server stops, or after it.
+fn is_over(now: u64, stop: Option<u64>) -> bool
+    ensures { MatchBool result (MatchOption stop ⊥ (λ moment. moment ≤ now)) (IsBefore now stop) }
+{
+    match stop {
+        Some(moment) => moment <= now,
         None => false,
+    }
+}
+
+impl Stop {
+    /// When a server stops that began at that moment.
+    fn of(serving: &Serving, start: u64) -> Stop
+        ensures { result ≡ stop_of serving.now start }
+    {
+        Stop {
+            at: serving.wait_limit(start).until,
+            with_input: serving.until_eof,
+        }
     }
 }
 
@@ -171,16 +207,18 @@ fn station_of<F: OpenFiles, M: Machine, E: Write>(
     Ok((station, start))
 }
 
-/// Looks at what a server looks at. Returns whether it ends.
+/// Looks at what a server looks at. Returns whether it stops with standard input, which has ended.
 fn look<F: OpenFiles, M: Machine, E: Write>(
     environment: &Environment<'_, F, M>,
+    stop: Stop,
     looker: &mut Looker<'_>,
     station: &mut Station<M::Link, M::Timer>,
     err: &mut E,
 ) -> bool
-    ensures { IsChanged station.old.bound_node station.new.bound_node }
+    ensures changed { IsChanged station.old.bound_node station.new.bound_node }
+    ensures input { IsTrue result → stop.with_input ≡ true }
 {
-    if looker.until_eof && environment.machine.has_input_ended() {
+    if stop.with_input && environment.machine.has_input_ended() {
         return true;
     }
     if let Some(followed) = &mut looker.followed {
@@ -189,31 +227,56 @@ fn look<F: OpenFiles, M: Machine, E: Write>(
     false
 }
 
-/// A node serves in stretches, up to a moment if there is one. Returns how many requests it performed, at most 2^64 - 1.
+/// A node serves a stretch, and looks. None where it is over.
+#[tactic(auto, using(crate::proofs::Stretches::one_taken))]
+fn take_stretch<F: OpenFiles, M: Machine, E: Write>(
+    environment: &Environment<'_, F, M>,
+    stop: Stop,
+    looker: &mut Looker<'_>,
+    station: &mut Station<M::Link, M::Timer>,
+    err: &mut E,
+) -> Result<Option<Stretch>, Status>
+    ensures taken { IfOk result (λ s. MatchOption s
+        (IsOver (stop_limit stop.at) (timed station.old.bound_node (M.Timer.told station.old.clock)) (timed station.new.bound_node (M.Timer.told station.new.clock)))
+        (λ stretch. TakesStretch stop.at (timed station.old.bound_node (M.Timer.told station.old.clock)) stretch.effects
+        (timed station.new.bound_node (M.Timer.told station.new.clock)))) }
+    ensures input { IfOk result (λ s. IfSome s (λ stretch. stretch.is_last ≡ true → stop.with_input ≡ true)) }
+    ensures failed { IfErr result IsFailure }
+{
+    let now = station.clock.now();
+    if is_over(now, stop.at) {
+        return Ok(None);
+    }
+    let effects = serve_stretch(
+        &mut station.bound_node,
+        &mut station.clock,
+        &stretch_from(now, stop.at),
+        &mut looker.log,
+        err,
+    )?;
+    let is_last = look(environment, stop, looker, station, err);
+    Ok(Some(Stretch { effects, is_last }))
+}
+
+/// A node serves in stretches until it stops. Returns how many requests it performed, at most 2^64 - 1.
 fn serve_stretches<F: OpenFiles, M: Machine, E: Write>(
     environment: &Environment<'_, F, M>,
-    end: Option<u64>,
+    stop: Stop,
     looker: &mut Looker<'_>,
     station: &mut Station<M::Link, M::Timer>,
     err: &mut E,
 ) -> Result<u64, Status>
+    ensures taken { IfOk result (λ effects. TakesStretches stop effects (timed station.old.bound_node (M.Timer.told station.old.clock))
+        (timed station.new.bound_node (M.Timer.told station.new.clock))) }
     ensures failed { IfErr result IsFailure }
 {
     let mut effects = 0u64;
-    for _ in 0..u64::MAX {
-        let now = station.clock.now();
-        if is_over(now, end) {
+    for _count in 0..u64::MAX {
+        let Some(stretch) = take_stretch(environment, stop, looker, station, err)? else {
             return Ok(effects);
-        }
-        let more = serve_stretch(
-            &mut station.bound_node,
-            &mut station.clock,
-            &stretch_from(now, end),
-            &mut looker.log,
-            err,
-        )?;
-        effects = effects.saturating_add(more);
-        if look(environment, looker, station, err) {
+        };
+        effects = effects.saturating_add(stretch.effects);
+        if stretch.is_last {
             return Ok(effects);
         }
     }
@@ -235,12 +298,11 @@ fn serve_store<F: OpenFiles, M: Machine, O: Write, E: Write>(
     let Served { store, followed } = served;
     let (mut station, start) = station_of(environment, serving, store, err)?;
     let mut looker = Looker {
-        until_eof: serving.until_eof,
         followed,
         log: serving.log_from(environment.alloc, began_at(start, environment.machine)),
     };
-    let end = serving.wait_limit(start).until;
-    let effects = serve_stretches(environment, end, &mut looker, &mut station, err)?;
+    let stop = Stop::of(serving, start);
+    let effects = serve_stretches(environment, stop, &mut looker, &mut station, err)?;
     print_served(effects, out, err)?;
     looker.log.end(err);
     Ok(())

@@ -8,9 +8,7 @@ ghost use Rattle.bac_command_line.specs.Online.{AsksPlain, IsAsked, IsPair, IsSe
 ghost use Rattle.bac_driver.specs.Runs.{timed};
 ghost use Rattle.bac_driver.specs.Views.{question_view};
 
-use crate::address::LOCAL_HOST;
 use crate::asking::Asking;
-use crate::bad_words::print_bad_words;
 use crate::client_pair::ClientPair;
 use crate::environment::Environment;
 use crate::files::OpenFiles;
@@ -22,6 +20,7 @@ use bac_commands::{
 };
 use bac_driver::{Clock, Link, Question};
 use bac_keep_file::OpenFault;
+use bac_lists::{LOCAL_HOST, print_bad_words};
 use bac_node::NewNodeFault;
 use bac_npdu::{LinkAddress, Peer};
 use bac_service_text::{FormFault, reads_file};

@@ -4,12 +4,12 @@ ghost use Rattle.bac_text.specs.Statuses.{IsStop};
 
 use crate::asking::Asking;
 use crate::asking_lines::ask_on;
-use crate::bad_words::print_bad_words;
 use crate::client::Client;
 use crate::online::{Machine, question_in};
 use bac_commands::Style;
 use bac_driver::{AskEnd, Question};
 use bac_files::PartSize;
+use bac_lists::print_bad_words;
 use bac_npdu::Peer;
 use bac_requester::Ending;
 use bac_service::{AnyComplex, AnyReply, Content, FileRead, FileWritten, Reply};

@@ -1,5 +1,5 @@
 //! The peers of a list of requests.
-use crate::question_lines::LineQuestion;
+use bac_lists::LineQuestion;
 use std::alloc::{AllocError, Global};
 use std::collections::BTreeSet;
 

@@ -3,10 +3,10 @@ ghost use Rattle.std.specs.Prelude.{◌≡◌};
 ghost use Rattle.bac_text.specs.Statuses.{IsStop};
 ghost use Rattle.bac_text.specs.declared.status.Status.TheVariants as status;
 
-use crate::address::{EVERY_HOST, read_end, read_host, read_link, read_route};
 use crate::seconds::{bad_pace, print_bad_pace};
-use crate::serving::{read_memory, remembers_in_vain};
+use crate::serving_words::{read_memory, remembers_in_vain};
 use bac_forms::FORM_NAMES;
+use bac_lists::{EVERY_HOST, read_end, read_host, read_link, read_route};
 use bac_objects::{DocumentFault, document_findings};
 use bac_text::{Status, complain, no_memory};
 use clap::ArgMatches;

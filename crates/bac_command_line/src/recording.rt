@@ -1,19 +1,18 @@
 //! Asks whose ends are printed as records: objects of JSON, or rows of CSV.
 ghost use Rattle.std.specs.Prelude.{◌≡◌, IfErr, IfOk, OnOk};
 ghost use Rattle.bac_ask_report.specs.Records.{outcome_view, record_view};
-ghost use Rattle.bac_command_line.specs.Recording.{AreWordsOf, IsRecordText, PrintsAsk, PrintsHeader, PrintsRecord, asker_view, outcome_of, outcome_of_ending, without_end};
+ghost use Rattle.bac_lists.specs.QuestionLines.{asker_view};
+ghost use Rattle.bac_command_line.specs.Recording.{AreWordsOf, IsRecordText, PrintsAsk, PrintsHeader, PrintsRecord, outcome_of, outcome_of_ending, without_end};
 ghost use Rattle.bac_driver.specs.Views.{question_view};
 ghost use Rattle.bac_service.specs.Views.{owned_request_view};
 ghost use Rattle.bac_text.specs.Statuses.{IsFailure};
 ghost use Rattle.bac_text.specs.Texts.{AppendsText};
 
 use crate::asking::Asking;
-use crate::question_lines::LineQuestion;
-use bac_ask_report::{
-    AskRecord, LineName, Outcome, print_ask_object, print_csv_header, print_csv_row,
-};
+use bac_ask_report::{AskRecord, Outcome, print_ask_object, print_csv_header, print_csv_row};
 use bac_commands::{OutputFormat, Style, print_ask_end};
 use bac_driver::{AskEnd, Question};
+use bac_lists::{Asker, LineQuestion};
 use bac_requester::Ending;
 use bac_service::OwnedRequest;
 use bac_text::{Status, output_failed};
@@ -38,20 +37,6 @@ pub(crate) struct Stamp {
     /// Counted from 1; None where there are no rounds.
     pub round: Option<u64>,
 }
-
-/// The line that asks.
-#[derive(Clone, Copy, Debug)]
-pub(crate) struct Asker<'n> {
-    /// Its number; None where no line asks.
-    pub line: Option<u64>,
-    pub name: LineName<'n>,
-}
-
-/// No line of a list asks.
-pub(crate) const NO_LINE: Asker<'static> = Asker {
-    line: None,
-    name: LineName::Unnamed,
-};
 
 /// How the ends of asks are printed, and when.
 #[derive(Clone, Copy)]

@@ -2,9 +2,9 @@
 ghost use Rattle.std.specs.Prelude.{IfSome};
 ghost use Rattle.bac_command_line.specs.Selecting.{AreGivenOptions};
 
-use crate::address::read_end;
 use crate::asking::{flag_of, number_of};
 use bac_explain_report::{PeerFilter, ReportOptions, Selection};
+use bac_lists::read_end;
 use clap::ArgMatches;
 
 /// The address behind `--peer`, if there is one. None where it is no address.

@@ -8,9 +8,8 @@ ghost use Rattle.bac_text.specs.declared.status.Status.TheVariants as status;
 ghost use Rattle.bac_commands.specs.Kept.{EndsKept, IsKeptByStatus, RoundsText, Unseen, unwatched};
 ghost use Rattle.bac_commands.specs.Statuses.{ByStatus};
 ghost use Rattle.bac_command_line.specs.Keeping.{restarted_by};
-ghost use Rattle.bac_command_line.specs.Serving.{is_reusing, patience_of, restart_of, reuse_of, turns_of};
+ghost use Rattle.bac_command_line.specs.Serving.{patience_of, restart_of, turns_of};
 
-use crate::address::{BACNET_PORT, EVERY_HOST, LOCAL_HOST, read_host};
 use crate::station::Station;
 use bac_commands::{
     KeptServer, LevelLog, LogFormat, LogLevel, LogSettings, OctetStyle, ServeCommand, link_fault,
@@ -19,22 +18,15 @@ use bac_commands::{
 use bac_driver::{BoundNode, Clock, Link, NoObserver, RunLimit, WaitLimit};
 use bac_keep::Keeper;
 use bac_log_json::LogEvent;
-use bac_node::{MEMORY, Reuse};
+use bac_node::Reuse;
 use bac_npdu::LinkAddress;
 use bac_text::Status;
-use clap::ArgMatches;
 use std::alloc::{AllocError, Global};
 use std::io;
 use std::io::Write;
 
 /// How many milliseconds after its restart a server serves again.
 const RESTED: u64 = 65_001;
-
-/// The least number of octets that a server may keep: a request needs room for 65,539 beside its own.
-const LEAST_MEMORY: usize = 65_540;
-
-/// The greatest number of octets that a server may keep: 1 TiB.
-const MOST_MEMORY: usize = 1_099_511_627_776;
 
 /// How a node is to serve.
 #[derive(Clone, Copy, Debug, PartialEq, Eq)]
@@ -326,110 +318,4 @@ pub(crate) fn serve_kept_from<L: Link, C: Clock, K: Keeper, O: Write, E: Write>(
         let _ = err.writeln("log fault");
     }
     logged.status
-}
-
-/// How many slots each end has where nothing is said: 64 of a run of so many turns, otherwise all that there can be.
-fn slots_without_word(turns: Option<u64>) -> usize {
-    match turns {
-        Some(_) => 64,
-        None => 65_536,
-    }
-}
-
-/// Whether it lets clients use invoke IDs again: in a run of so many turns where it is told to, otherwise unless it is strict.
-fn is_reusing(turns: Option<u64>, is_told: bool, is_strict: bool) -> bool
-    ensures { result ≡ is_reusing turns is_told is_strict }
-{
-    match turns {
-        Some(_) => is_told,
-        None => !is_strict,
-    }
-}
-
-/// The same, and for how long it then remembers a request, where that is given in seconds.
-fn reuse_of(is_reusing: bool, seconds: Option<u64>) -> Reuse
-    ensures { result ≡ reuse_of is_reusing seconds }
-{
-    match seconds {
-        Some(seconds) if is_reusing => Reuse::Remembering(seconds.saturating_mul(1_000)),
-        _ => Reuse::of(is_reusing),
-    }
-}
-
-/// How many octets a text as `65540`, `512K` or `64M` is, with K for 1,024 and M for 1,048,576; None where it is none that a server may keep.
-pub(crate) fn read_memory(text: &str) -> Option<usize> {
-    let (digits, unit) = match text.strip_suffix('M') {
-        Some(digits) => (digits, 1_048_576),
-        None => match text.strip_suffix('K') {
-            Some(digits) => (digits, 1_024),
-            None => (text, 1),
-        },
-    };
-    let count: usize = digits.parse().ok()?;
-    let octets = count.checked_mul(unit)?;
-    if octets < LEAST_MEMORY || octets > MOST_MEMORY {
-        return None;
-    }
-    Some(octets)
-}
-
-/// How many octets it keeps: 64 MiB where nothing is said; None where what is given is no number of octets.
-fn memory_of(given: &ArgMatches<'_>) -> Option<usize> {
-    match given.get_str("memory") {
-        Some(text) => read_memory(text),
-        None => Some(MEMORY),
-    }
-}
-
-/// Whether it is to remember requests for so many seconds, and lets no client use an invoke ID again.
-pub(crate) fn remembers_in_vain(given: &ArgMatches<'_>) -> bool {
-    let turns: Option<u64> = given.get_one("turns");
-    let is_told = given.get_flag("reuse");
-    given.get_str("remember").is_some() && !is_reusing(turns, is_told, given.get_flag("strict"))
-}
-
-/// The level of a log that a word is.
-fn level_of(word: &str) -> Option<LogLevel> {
-    match word {
-        "changes" => Some(LogLevel::Changes),
-        "requests" => Some(LogLevel::Requests),
-        "all" => Some(LogLevel::All),
-        _ => None,
-    }
-}
-
-/// The address that a server listens at. None where what is given is no address, or all of this machine's: then the system chooses from which one an answer
-/// leaves, and it need not be the one that was asked.
-fn host_of(given: &ArgMatches<'_>) -> Option<[u8; 4]> {
-    let Some(text) = given.get_str("at") else {
-        return Some(LOCAL_HOST);
-    };
-    let host = read_host(text)?;
-    if host == EVERY_HOST { None } else { Some(host) }
-}
-
-/// None where what is given is no address of a server or no number of octets, or it is to remember requests and lets no client use an invoke ID again.
-pub(crate) fn serving_of(given: &ArgMatches<'_>) -> Option<Serving> {
-    if remembers_in_vain(given) {
-        return None;
-    }
-    let host = host_of(given)?;
-    let turns: Option<u64> = given.get_one("turns");
-    let slots: Option<usize> = given.get_one("slots");
-    let is_reusing = is_reusing(turns, given.get_flag("reuse"), given.get_flag("strict"));
-    Some(Serving {
-        host,
-        port: given.get_one("port").unwrap_or(BACNET_PORT),
-        turns,
-        seconds: given.get_one("seconds"),
-        slots: slots.unwrap_or(slots_without_word(turns)),
-        restarted: given.get_flag("restarted"),
-        reuse: reuse_of(is_reusing, given.get_one("remember")),
-        memory: memory_of(given)?,
-        log: given.get_flag("log"),
-        level: level_of(given.get_str("log-level").unwrap_or("")),
-        json: given.get_flag("json"),
-        follow: given.get_flag("follow"),
-        until_eof: given.get_flag("until-eof"),
-    })
 }

@@ -4,14 +4,15 @@ use crate::copied::{Copied, copied_of, is_copied};
 use crate::file_task::{FileTask, FileWork, backup_of, file_task_of, work_of};
 use crate::files::{CaptureFile, ScriptFile};
 use crate::forgetting::Forgetting;
-use crate::help::Telling;
 use crate::online::Machine;
 use crate::seconds::bad_pace;
 use crate::selecting::options_of;
-use crate::serving::{Serving, serving_of};
+use crate::serving::Serving;
+use crate::serving_words::serving_of;
 use bac_explain_report::{ChartFormat, ReportOptions};
 use bac_npdu::Peer;
 use bac_simulate::View;
+use bac_words::Telling;
 use clap::ArgMatches;
 
 /// What a command line asks for.

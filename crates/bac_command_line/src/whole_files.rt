@@ -11,11 +11,12 @@ use crate::objects::octets_of;
 use crate::online::Machine;
 use crate::peer_file::{Asked, PeerFile};
 use crate::reasons::print_unwritten;
-use crate::recording::{NO_LINE, print_ask, print_header};
+use crate::recording::{print_ask, print_header};
 use crate::whole_reading::{Got, read_whole, whole_end};
 use crate::whole_writing::{Put, size_of, write_whole, written_end};
 use bac_commands::Style;
 use bac_driver::AskEnd;
+use bac_lists::NO_LINE;
 use bac_text::{Status, no_memory, output_failed};
 use std::io::Write;
 

@@ -1,12 +1,17 @@
 -- What a document that was read again changes in a store.
-use Rattle.std.specs.Prelude.{◌≡◌, ℕ, nat_eq, List, [], ◌∷◌, map, Option, Some, None, if◌then◌else◌}
+use Rattle.std.specs.Prelude.{◌≡◌, ◌≢◌, ⊤, ℕ, nat_eq, List, [], ◌∷◌, ◌++◌, map, Option, Some, None, if◌then◌else◌}
 use Rattle.std.specs.Option.{option_map}
 use Rattle.std.specs.Cmp.Lexicographic.{pointwise}
 use Rattle.bac_value.specs.Value.{ObjectId}
-use Rattle.bac_store.specs.AtNode.{Change, changed}
+use Rattle.bac_value.specs.Views.{object_identifier_view}
+use Rattle.bac_store.specs.AtNode.{Change, change_fault, changed}
 use Rattle.bac_store.specs.Changes.{with_contents, with_own_values}
 use Rattle.bac_store.specs.Stores.{File, Object, Property, Store}
 use Rattle.bac_store.specs.Writes.{file_at, listed_at}
+use Rattle.bac_store.specs.declared.change_fault.ChangeFault.{ChangeFault}
+use Rattle.bac_store.specs.declared.change_fault.ChangeFault.TheVariants as change
+use Rattle.bac_follow.specs.declared.fault.FollowFault.{FollowFault}
+use Rattle.bac_follow.specs.declared.fault.FollowFault.TheVariants as fault
 
 -- the store after changes, one after the other
 abbrev pub made : List Change → Store → Store
@@ -52,3 +57,77 @@ object_followed before now o =
 
 abbrev pub followed : (before now : Store) → Store → Store
 followed before now s = map (object_followed before now) s
+
+-- ---- all news of a document, in the order of its objects
+
+abbrev pub value_change : (before now : Store) → ObjectId → ℕ → Option Change
+value_change before now id n = option_map (λ values. Change.Value id n values) (news (values_at before id n) (values_at now id n))
+
+abbrev pub file_change : (before now : Store) → ObjectId → Option Change
+file_change before now id = option_map (λ octets. Change.File id octets) (news (octets_at before id) (octets_at now id))
+
+abbrev pub with_news : List Change → Option Change → List Change
+with_news cs None = cs
+with_news cs (Some c) = cs ++ c ∷ []
+
+-- the changes so far, and the news of some properties of an object
+abbrev pub with_properties : (before now : Store) → ObjectId → List Property → List Change → List Change
+with_properties before now id [] cs = cs
+with_properties before now id (p ∷ ps) cs = with_properties before now id ps (with_news cs (value_change before now id p.number))
+
+-- of an object the properties, then the file
+abbrev pub with_object : (before now : Store) → Object → List Change → List Change
+with_object before now o cs = with_news (with_properties before now o.id o.properties cs) (file_change before now o.id)
+
+abbrev pub with_objects : (before now : Store) → List Object → List Change → List Change
+with_objects before now [] cs = cs
+with_objects before now (o ∷ os) cs = with_objects before now os (with_object before now o cs)
+
+abbrev pub all_news : (before now : Store) → List Object → List Change
+all_news before now objects = with_objects before now objects []
+
+-- ---- why a document cannot be followed
+
+-- a property or a file that cannot be given what the document says, and why
+pub record Refused : Type 0 where
+  pub object : ObjectId
+  pub property : Option ℕ
+  pub fault : ChangeFault
+
+abbrev pub refused : Change → ChangeFault → Refused
+refused (Change.Value id n values) f = record { object = id; property = Some n; fault = f }
+refused (Change.File id octets) f = record { object = id; property = None; fault = f }
+
+abbrev pub refused_or : Change → Option ChangeFault → (others : Option Refused) → Option Refused
+refused_or c (Some f) others = Some (refused c f)
+refused_or c None others = others
+
+-- the first of some changes that cannot be made, one after the other
+abbrev pub first_refused : List Change → Store → Option Refused
+first_refused [] s = None
+first_refused (c ∷ cs) s = refused_or c (change_fault s c) (first_refused cs (changed c s))
+
+-- the fault of one change
+abbrev pub IsRefusedAs : Change → ChangeFault → FollowFault → Type 0
+IsRefusedAs c f (fault.Cannot object property why) =
+    (f ≢ change.NoMemory) × (refused c f ≡ record { object = object_identifier_view object; property = property; fault = why })
+IsRefusedAs c f fault.Other = ⊥
+IsRefusedAs c f fault.NoMemory = f ≡ change.NoMemory
+
+-- memory was refused, or that change is the first that cannot be made
+abbrev pub IsRefusal : List Change → Store → FollowFault → Type 0
+IsRefusal cs s (fault.Cannot object property why) =
+    first_refused cs s ≡ Some (record { object = object_identifier_view object; property = property; fault = why })
+IsRefusal cs s fault.Other = ⊥
+IsRefusal cs s fault.NoMemory = ⊤
+
+-- all of them can be made, and do not make that store
+pub record IsOther (cs : List Change) (before now : Store) : Type 0 where
+  pub made_all : first_refused cs before ≡ None
+  pub other : made cs before ≢ now
+
+-- why the document is not followed whose news are those changes
+abbrev pub IsFollowFault : List Change → (before now : Store) → FollowFault → Type 0
+IsFollowFault cs before now (fault.Cannot object property why) = IsRefusal cs before (fault.Cannot object property why)
+IsFollowFault cs before now fault.Other = IsOther cs before now
+IsFollowFault cs before now fault.NoMemory = ⊤

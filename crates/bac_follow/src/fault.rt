@@ -1,5 +1,7 @@
 //! Why a node cannot follow a document.
 ghost use Rattle.std.specs.Prelude.{◌≡◌};
+ghost use Rattle.bac_store.specs.Views.{change_view};
+ghost use Rattle.bac_follow.specs.Following.{IsRefusedAs};
 ghost use Rattle.bac_follow.specs.declared.fault.FollowFault.TheVariants as fault;
 
 use bac_store::{Change, ChangeFault};
@@ -30,7 +32,9 @@ pub enum FollowFault {
 
 impl FollowFault {
     /// The fault of a change.
-    pub(crate) fn of(change: &Change, fault: ChangeFault) -> FollowFault {
+    pub(crate) fn of(change: &Change, fault: ChangeFault) -> FollowFault
+        ensures { IsRefusedAs (change_view change.now) fault result }
+    {
         match (change, fault) {
             (_, ChangeFault::NoMemory) => FollowFault::NoMemory,
             (

@@ -1,8 +1,8 @@
 //! The changes that make of the store of a document the store of the document as it is now.
-ghost use Rattle.std.specs.Prelude.{◌≡◌, map, IfOk};
+ghost use Rattle.std.specs.Prelude.{◌≡◌, map, IfErr, IfOk, IsOk, None};
 ghost use Rattle.bac_store.specs.Stores.{Store as Objects};
-ghost use Rattle.bac_store.specs.Views.{change_view};
-ghost use Rattle.bac_follow.specs.Following.{followed, made};
+ghost use Rattle.bac_store.specs.Views.{change_view, object_view};
+ghost use Rattle.bac_follow.specs.Following.{IsFollowFault, IsRefusal, all_news, first_refused, followed, made};
 
 use crate::fault::FollowFault;
 use crate::news::news_of;
@@ -18,7 +18,9 @@ pub struct Documents<'a> {
 
 /// A copy of a store, with all these changes.
 fn made_of(alloc: Global, store: &Store, changes: &[Change]) -> Result<Store, FollowFault>
-    ensures { IfOk result (λ s. s ≡ made (map change_view changes.now) store.now) }
+    ensures made { IfOk result (λ s. s ≡ made (map change_view changes.now) store.now) }
+    ensures all { IsOk result → first_refused (map change_view changes.now) store.now ≡ None }
+    ensures refused { IfErr result (IsRefusal (map change_view changes.now) store.now) }
 {
     let mut store = store.copy(alloc)?;
     for change in changes {
@@ -43,6 +45,7 @@ pub fn changes_between(
     objects: &[Object],
 ) -> Result<Vec<Change>, FollowFault>
     ensures whole { IfOk result (λ v. made (map change_view v.items) documents.entry.before.now ≡ documents.entry.now.now) }
+    ensures fault { IfErr result (IsFollowFault (all_news documents.entry.before.now documents.entry.now.now (map object_view objects.now)) documents.entry.before.now documents.entry.now.now) }
     ensures followed { IfOk result (λ v. (s : Objects) → made (map change_view v.items) s ≡ followed documents.entry.before.now documents.entry.now.now s) }
 {
     let changes = news_of(alloc, documents, objects)?;

@@ -1,8 +1,10 @@
 //! What is new in a document.
 ghost use Rattle.std.specs.Prelude.{◌≡◌, map, IfOk, IfSome, OnErr, OnOk};
 ghost use Rattle.std.specs.List.{All};
-ghost use Rattle.bac_store.specs.Views.{change_view};
-ghost use Rattle.bac_follow.specs.Following.{IsNews};
+ghost use Rattle.std.specs.Option.{option_map};
+ghost use Rattle.bac_value.specs.Views.{object_identifier_view};
+ghost use Rattle.bac_store.specs.Views.{change_view, object_view};
+ghost use Rattle.bac_follow.specs.Following.{IsNews, all_news, file_change, value_change, with_news, with_object};
 
 use crate::following::Documents;
 use bac_store::{Change, Object};
@@ -16,7 +18,8 @@ fn value_news(
     object: ObjectIdentifier,
     property: u32,
 ) -> Result<Option<Change>, NoMemory>
-    ensures { IfOk result (λ news. IfSome news (λ c. IsNews documents.entry.before.now documents.entry.now.now (change_view c))) }
+    ensures all { IfOk result (λ news. option_map change_view news ≡ value_change documents.entry.before.now documents.entry.now.now (object_identifier_view object) property) }
+    ensures news { IfOk result (λ news. IfSome news (λ c. IsNews documents.entry.before.now documents.entry.now.now (change_view c))) }
 {
     let Some(listed) = documents.now.listed(object, property) else {
         return Ok(None);
@@ -40,7 +43,8 @@ fn file_news(
     documents: Documents<'_>,
     object: ObjectIdentifier,
 ) -> Result<Option<Change>, NoMemory>
-    ensures { IfOk result (λ news. IfSome news (λ c. IsNews documents.entry.before.now documents.entry.now.now (change_view c))) }
+    ensures all { IfOk result (λ news. option_map change_view news ≡ file_change documents.entry.before.now documents.entry.now.now (object_identifier_view object)) }
+    ensures news { IfOk result (λ news. IfSome news (λ c. IsNews documents.entry.before.now documents.entry.now.now (change_view c))) }
 {
     let Some(file) = documents.now.file(object) else {
         return Ok(None);
@@ -62,7 +66,8 @@ fn add(
 ) -> Result<(), NoMemory>
     requires old { All (IsNews documents.before.now documents.now.now) (map change_view changes.old.items) }
     requires new { IfSome news (λ c. IsNews documents.before.now documents.now.now (change_view c)) }
-    ensures { OnOk result (All (IsNews documents.entry.before.now documents.entry.now.now) (map change_view changes.new.items)) }
+    ensures all { OnOk result (map change_view changes.new.items ≡ with_news (map change_view changes.old.items) (option_map change_view news)) }
+    ensures news { OnOk result (All (IsNews documents.entry.before.now documents.entry.now.now) (map change_view changes.new.items)) }
 {
     if let Some(change) = news {
         changes.push(change)?;
@@ -78,7 +83,8 @@ fn add_object(
     changes: &mut Vec<Change>,
 ) -> Result<(), NoMemory>
     requires { All (IsNews documents.before.now documents.now.now) (map change_view changes.old.items) }
-    ensures { OnOk result (All (IsNews documents.entry.before.now documents.entry.now.now) (map change_view changes.new.items)) }
+    ensures all { OnOk result (map change_view changes.new.items ≡ with_object documents.entry.before.now documents.entry.now.now (object_view object.now) (map change_view changes.old.items)) }
+    ensures news { OnOk result (All (IsNews documents.entry.before.now documents.entry.now.now) (map change_view changes.new.items)) }
 {
     for property in &object.properties {
         let news = value_news(alloc, documents, object.id, property.number)?;
@@ -94,7 +100,8 @@ pub(crate) fn news_of(
     documents: Documents<'_>,
     objects: &[Object],
 ) -> Result<Vec<Change>, NoMemory>
-    ensures { IfOk result (λ v. All (IsNews documents.entry.before.now documents.entry.now.now) (map change_view v.items)) }
+    ensures all { IfOk result (λ v. map change_view v.items ≡ all_news documents.entry.before.now documents.entry.now.now (map object_view objects.now)) }
+    ensures news { IfOk result (λ v. All (IsNews documents.entry.before.now documents.entry.now.now) (map change_view v.items)) }
 {
     let mut changes = Vec::new(alloc);
     for object in objects {

@@ -1,28 +1,38 @@
 -- What a node's server's end keeps after it has served.
-use Rattle.std.proofs.Common.{◌≡◌, ℕ, ◌≤◌, max, ap, sym, subst, arith}
-use Rattle.bac_apdu.specs.Apdu.{Apdu}
-use Rattle.bac_npdu.specs.Peers.{PeerView}
-use Rattle.bac_protocol.specs.Context.{Settings}
+use Rattle.std.proofs.Common.{◌≡◌, ◌∙◌, ℕ, ◌≤◌, Bool, true, Result, Ok, Err, max, ap, subst, arith}
+use Rattle.std.specs.Prelude.{IfOk}
+use Rattle.bac_transaction.specs.Ends.{ServerEnd, ServerTurn}
 use Rattle.bac_store.specs.Stores.{Store}
-use Rattle.bac_transaction.specs.Ends.{ServerEnd, responder_on_apdu}
-use Rattle.bac_transaction.specs.Remembering.{responder_remembering}
-use Rattle.bac_transaction.specs.Services.{service_of}
-use Rattle.bac_responder.specs.Kept.{HasShortReplies, StaysWithin, kept_octets}
+use Rattle.bac_responder.specs.Kept.{HasShortReplies, kept_octets}
 use Rattle.bac_world.specs.Node.{Node}
-use Rattle.bac_node.specs.Memory.{KeepsWithin}
+use Rattle.bac_node.specs.Memory.{EndsWithin, KeepsWithin}
 
 -- where the server's end did not change, it keeps as much
 pub same_kept : (memory : ℕ) (old new : Node) → new.servers ≡ old.servers → KeepsWithin memory old new
 same_kept memory old new same = let all = ap (λ (v : ServerEnd). kept_octets v.slots) same in omega (arith, all)
 
-module _ (memory now : ℕ) (peer : PeerView) (a : Apdu) (c : Settings) (s : Store) (old at new : ServerEnd) (short : HasShortReplies s)
-    (stays : StaysWithin now peer a memory old) (same : at ≡ old) where
-  pub served_within : new ≡ (responder_on_apdu c now (service_of s) peer a at).end → kept_octets new.slots ≤ max (kept_octets old.slots) memory
-  served_within is = subst (λ (v : ServerEnd). kept_octets v.slots ≤ max (kept_octets old.slots) memory) (sym is)
-      (subst (λ (e : ServerEnd). kept_octets (responder_on_apdu c now (service_of s) peer a e).end.slots ≤ max (kept_octets old.slots) memory) (sym same)
-      (stays.on c s short))
+-- where an equal end keeps no more, this one keeps no more
+pub turned_within : (memory : ℕ) (turn : ServerEnd → ServerTurn) (old at : ServerEnd) → at ≡ old → kept_octets (turn at).end.slots ≤ kept_octets at.slots
+    → kept_octets (turn old).end.slots ≤ max (kept_octets old.slots) memory
+turned_within memory turn old at same less =
+    let here = subst (λ (e : ServerEnd). kept_octets (turn e).end.slots ≤ kept_octets e.slots) same less in
+    omega (arith, here)
 
-  pub served_within_reusing : (remember : ℕ) → new ≡ (responder_remembering remember c now (service_of s) peer a at).end → kept_octets new.slots ≤ max (kept_octets old.slots) memory
-  served_within_reusing remember is = subst (λ (v : ServerEnd). kept_octets v.slots ≤ max (kept_octets old.slots) memory) (sym is)
-      (subst (λ (e : ServerEnd). kept_octets (responder_remembering remember c now (service_of s) peer a e).end.slots ≤ max (kept_octets old.slots) memory) (sym same)
-      (stays.on_reusing remember c s short))
+-- the same where an answer says it
+pub turned_where : {E : Type 0} (memory : ℕ) (turn : ServerEnd → ServerTurn) (s : Store) (old at : ServerEnd) → at ≡ old → HasShortReplies s → (r : Result Bool E)
+    → IfOk r (λ b. b ≡ true → HasShortReplies s → kept_octets (turn at).end.slots ≤ kept_octets at.slots)
+    → IfOk r (λ b. b ≡ true → kept_octets (turn old).end.slots ≤ max (kept_octets old.slots) memory)
+turned_where memory turn s old at same short (Ok b) within = λ yes. turned_within memory turn old at same (within yes short)
+turned_where memory turn s old at same short (Err e) within = tt
+
+-- an answer that is one of two equal ones is true where the other is
+pub where_equal : {E : Type 0} (r : Result Bool E) (x y : Bool) → x ≡ y → IfOk r (λ b. b ≡ x) → IfOk r (λ b. y ≡ true → b ≡ true)
+where_equal (Ok b) x y same is = λ yes. is ∙ same ∙ yes
+where_equal (Err e) x y same is = tt
+
+-- a node after a turn of an equal one
+pub served_within : (memory : ℕ) (turn : Node → ServerTurn) (old at new : Node) → at ≡ old → new.servers ≡ (turn at).end → EndsWithin memory old (turn old)
+    → KeepsWithin memory old new
+served_within memory turn old at new same is within =
+    let all = ap (λ (v : ServerEnd). kept_octets v.slots) (is ∙ ap (λ (n : Node). (turn n).end) same) in
+    omega (arith, all, within)

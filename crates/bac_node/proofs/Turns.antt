@@ -63,21 +63,23 @@ pub server_turned_reusing : (remember now : ℕ) (old : Node) (v : ServerEnd) (t
     → IsHeardRememberingBy remember true peer a now old (record old { latest = now; servers = v; store = t }) o
 server_turned_reusing remember now old v t peer a = server_turned_by (responder_remembering remember old.settings now (service_of old.store) peer a old.servers) now old v t
 
--- The same of an end that is as that of the node.
+-- The same of a node that is as it was before.
 
-pub server_turned_from : (now : ℕ) (old : Node) (at v : ServerEnd) (t : Store) (peer : PeerView) (a : Apdu) (sent : List Datagram) (x : Option Act) (o : Outcome)
-    → at ≡ old.servers → IsServed (responder_on_apdu old.settings now (service_of old.store) peer a at) old.store sent (acted_view x) v t
+pub server_turned_at : (now : ℕ) (old at : Node) (v : ServerEnd) (t : Store) (peer : PeerView) (a : Apdu) (sent : List Datagram) (x : Option Act) (o : Outcome)
+    → at ≡ old → IsServed (responder_on_apdu at.settings now (service_of at.store) peer a at.servers) at.store sent (acted_view x) v t
     → o.sends ≡ sent → o.ended ≡ [] → o.performed ≡ option_map performed_view x → o.dropped ≡ None
-    → IsHeardBy true peer a now old (record old { latest = now; servers = v; store = t }) o
-server_turned_from now old at v t peer a sent x o same did = server_turned now old v t peer a sent x o
-    (subst (λ (e : ServerEnd). IsServed (responder_on_apdu old.settings now (service_of old.store) peer a e) old.store sent (acted_view x) v t) same did)
+    → IsHeardBy true peer a now old (record at { latest = now; servers = v; store = t }) o
+server_turned_at now old at v t peer a sent x o same did sends ended performed dropped =
+    subst (λ (n : Node). IsHeardBy true peer a now n (record at { latest = now; servers = v; store = t }) o) same
+    (server_turned now at v t peer a sent x o did sends ended performed dropped)
 
-pub server_turned_reusing_from : (remember now : ℕ) (old : Node) (at v : ServerEnd) (t : Store) (peer : PeerView) (a : Apdu) (sent : List Datagram) (x : Option Act) (o : Outcome)
-    → at ≡ old.servers → IsServed (responder_remembering remember old.settings now (service_of old.store) peer a at) old.store sent (acted_view x) v t
+pub server_turned_reusing_at : (remember now : ℕ) (old at : Node) (v : ServerEnd) (t : Store) (peer : PeerView) (a : Apdu) (sent : List Datagram) (x : Option Act) (o : Outcome)
+    → at ≡ old → IsServed (responder_remembering remember at.settings now (service_of at.store) peer a at.servers) at.store sent (acted_view x) v t
     → o.sends ≡ sent → o.ended ≡ [] → o.performed ≡ option_map performed_view x → o.dropped ≡ None
-    → IsHeardRememberingBy remember true peer a now old (record old { latest = now; servers = v; store = t }) o
-server_turned_reusing_from remember now old at v t peer a sent x o same did = server_turned_reusing remember now old v t peer a sent x o
-    (subst (λ (e : ServerEnd). IsServed (responder_remembering remember old.settings now (service_of old.store) peer a e) old.store sent (acted_view x) v t) same did)
+    → IsHeardRememberingBy remember true peer a now old (record at { latest = now; servers = v; store = t }) o
+server_turned_reusing_at remember now old at v t peer a sent x o same did sends ended performed dropped =
+    subst (λ (n : Node). IsHeardRememberingBy remember true peer a now n (record at { latest = now; servers = v; store = t }) o) same
+    (server_turned_reusing remember now at v t peer a sent x o did sends ended performed dropped)
 
 -- A tick.
 

@@ -6,6 +6,7 @@
 
 mod cause;
 mod config;
+mod ends;
 mod fault;
 mod law;
 mod memory;

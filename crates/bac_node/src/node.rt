@@ -16,7 +16,9 @@ ghost use Rattle.bac_store.specs.ReplyLengths.{DATA_LIMIT, reply_length};
 ghost use Rattle.bac_store.specs.Views.{change_view};
 ghost use Rattle.bac_slots.specs.Slots.{value_at};
 ghost use Rattle.bac_transaction.specs.Keys.{same_key};
-ghost use Rattle.bac_transaction.specs.Ends.{first_after, key_of, is_slot_held, is_slot_live, requester_tick, responder_tick};
+ghost use Rattle.bac_transaction.specs.Ends.{first_after, key_of, is_slot_held, is_slot_live, requester_tick, responder_on_apdu, responder_tick};
+ghost use Rattle.bac_transaction.specs.Remembering.{responder_remembering};
+ghost use Rattle.bac_transaction.specs.Services.{service_of};
 ghost use Rattle.bac_transaction.specs.Tables.{AreLive, IsOrderlyClient, IsOrderlyServer};
 ghost use Rattle.bac_transaction.specs.Views.{peer_key_view, settings_view};
 ghost use Rattle.bac_protocol.specs.Context.{Settings as Set};
@@ -24,25 +26,27 @@ ghost use Rattle.bac_protocol.specs.declared.times.TheConstants.{KEEP as KEPT_FO
 ghost use Rattle.bac_protocol.specs.Wire.{is_from_client};
 ghost use Rattle.bac_requester.specs.Reactions.{HasNoneOpen};
 ghost use Rattle.bac_requester.specs.Short.{AreRepliesShort};
+ghost use Rattle.bac_responder.specs.Kept.{keeps_no_more, knows};
 ghost use Rattle.bac_responder.specs.Short.{AreRequestsShort};
 ghost use Rattle.bac_world.specs.Keys.{HasKeysApart};
 ghost use Rattle.bac_world.specs.Node.{NodeOn, NodeTick, IsHeardBy, restarted, store_after_restart, with_change};
 ghost use Rattle.bac_world.specs.ReusingNodes.{NodeHears, NodeReusing};
 ghost use Rattle.bac_node.specs.Calls.{Dispatches, IsAsked, IsForNoneOpen, IsNotHeard, IsTickOfBoth, Refuses, ticked};
-ghost use Rattle.bac_node.specs.Fresh.{fresh_node, has_large_slots, has_slots, has_slots_within, made_node, slots_within, window_fits, with_first_id};
-ghost use Rattle.bac_node.specs.Memory.{KeepsWithin, kept_octets};
+ghost use Rattle.bac_node.specs.Fresh.{fresh_node, has_large_slots, has_slots, has_slots_within, made_node, window_fits, with_first_id};
+ghost use Rattle.bac_node.specs.Memory.{EndsWithin, KeepsWithin, kept_octets};
 ghost use Rattle.bac_node.specs.Remembering.{DispatchesRemembering, IsHeardRememberingBy, NodeHearsBy};
-ghost use Rattle.bac_node.specs.Views.{outcome_view, settings_of};
+ghost use Rattle.bac_node.specs.Views.{outcome_view};
 ghost use Rattle.bac_node.specs.Waiting.{IsDueBy, MovesAt, RestsUntil};
 ghost use Rattle.bac_requester.specs.Timers.{LAST_MOMENT};
 
-use crate::config::Config;
+use crate::config::{Config, settings_of, slots_within};
+use crate::ends::empty_ends;
 use crate::fault::{NewNodeFault, NodeFault};
 use crate::memory::MEMORY;
 use crate::outcome::Outcome;
 use crate::reading::{is_from_client, read_from};
 use crate::reuse::Reuse;
-use bac_apdu::{Apdu, Limits, Window};
+use bac_apdu::{Apdu, Limits};
 use bac_npdu::{LinkAddress, Peer};
 use bac_requester::{AskFault, Asked, Client, Reaction, Requester};
 use bac_responder::{Responder, ReuseRules, Served, ServerTransaction};
@@ -83,49 +87,6 @@ const MOST_SLOTS: usize = 1_024;
 
 /// How many slots each table of a node with large tables has at the most.
 const MOST_LARGE_SLOTS: usize = 65_536;
-
-/// Whether a table may have so many slots, where it may have that many at the most.
-fn slots_within(most: usize, slots: usize) -> bool
-    ensures { result ≡ slots_within most slots }
-{
-    slots >= 1 && slots <= most
-}
-
-/// The settings of a node; None where its window is not 1 to 64.
-fn settings_of(config: &Config) -> Option<Settings>
-    ensures some { IsSome result ↔ (window_fits config.now.window ≡ true) }
-    ensures same { IfSome result (λ s. settings_view s ≡ settings_of config.now) }
-{
-    if config.window > 64 {
-        return None;
-    }
-    let window = Window::new(config.window)?;
-    Some(Settings {
-        limits: config.limits,
-        window,
-    })
-}
-
-/// The client's end and the server's, both empty, after a restart at that moment, if there was one.
-fn empty_ends(
-    alloc: Global,
-    client_slots: usize,
-    reply_slots: usize,
-    restart: Option<u64>,
-) -> Result<
-    (
-        Requester<IndexSlots<PeerKey, Client>>,
-        Responder<IndexSlots<PeerKey, ServerTransaction>>,
-    ),
-    NoMemory,
->
-    ensures clients { IfOk result (λ ends. ends.0 ≡ record { slots = []; capacity = client_slots; asked = 0; asks_from = first_after REST_TIME restart; first_id = 0 }) }
-    ensures servers { IfOk result (λ ends. ends.1 ≡ record { slots = []; capacity = reply_slots; serves_from = first_after KEPT_FOR restart }) }
-{
-    let clients = Requester::new(alloc, client_slots, restart)?;
-    let servers = Responder::new(alloc, reply_slots, restart)?;
-    Ok((clients, servers))
-}
 
 /// Puts another store in place of the old one, if there is another one.
 fn put_store(store: &mut Store, other: Option<Store>)
@@ -511,6 +472,47 @@ impl Node {
         }
     }
 
+    /// Whether the server's end has room for an APDU, or keeps no more after it.
+    fn has_room(&mut self, memory: usize, now: u64, peer: &Peer, apdu: &Apdu<'_>) -> bool
+        ensures same { self.new ≡ self.old }
+        ensures within { IsTrue result → EndsWithin memory self.old (responder_on_apdu self.old.settings now (service_of self.old.store) (peer_view peer.now)
+            (apdu_view apdu.now) self.old.servers) }
+        ensures needless { knows now (peer_view peer.now) (apdu_view apdu.now) self.old.servers ≡ true → IsTrue result }
+    {
+        replies_can_be_sent(&self.store);
+        if self.servers.has_room_for(now, peer, apdu, memory) {
+            return true;
+        }
+        self.servers.knows(now, peer, apdu)
+    }
+
+    /// As `has_room`, where invoke IDs may be used again.
+    fn has_room_reusing(
+        &mut self,
+        remember: u64,
+        memory: usize,
+        now: u64,
+        peer: &Peer,
+        apdu: &Apdu<'_>,
+    ) -> Result<bool, NoMemory>
+        ensures same { self.new ≡ self.old }
+        ensures within { IfOk result (λ room. IsTrue room → EndsWithin memory self.old (responder_remembering remember self.old.settings now
+            (service_of self.old.store) (peer_view peer.now) (apdu_view apdu.now) self.old.servers)) }
+        ensures needless { IfOk result (λ room. keeps_no_more remember self.old.settings now (service_of self.old.store) (peer_view peer.now) (apdu_view apdu.now)
+            self.old.servers ≡ true → IsTrue room) }
+    {
+        replies_can_be_sent(&self.store);
+        if self.servers.has_room_for(now, peer, apdu, memory) {
+            return Ok(true);
+        }
+        let rules = ReuseRules {
+            settings: self.settings,
+            remember,
+        };
+        self.servers
+            .keeps_no_more(self.alloc, &rules, now, peer, apdu, &self.store)
+    }
+
     /// An APDU for the server's end.
     fn responder_on_apdu(
         &mut self,
@@ -523,8 +525,7 @@ impl Node {
         ensures heard { IfOk result (λ o. IsHeardBy true (peer_view peer.now) (apdu_view apdu.now) now self.old self.new (outcome_view o)) }
         ensures err { OnErr result (self.new ≡ self.old) }
     {
-        replies_can_be_sent(&self.store);
-        if !self.servers.has_room_for(now, peer, apdu, memory) {
+        if !self.has_room(memory, now, peer, apdu) {
             return Err(NoMemory);
         }
         let Served { sends, act } = self.servers.on(
@@ -557,8 +558,7 @@ impl Node {
         ensures heard { IfOk result (λ o. IsHeardRememberingBy remember true (peer_view peer.now) (apdu_view apdu.now) now self.old self.new (outcome_view o)) }
         ensures err { OnErr result (self.new ≡ self.old) }
     {
-        replies_can_be_sent(&self.store);
-        if !self.servers.has_room_for(now, peer, apdu, memory) {
+        if !self.has_room_reusing(remember, memory, now, peer, apdu)? {
             return Err(NoMemory);
         }
         let rules = ReuseRules {

@@ -1,7 +1,7 @@
 //! What a line of a row does to a node. A line is a moment, a verb and its words.
 //!
 //! `from PEER HEX`: an APDU arrives in a plain frame; `reuse PEER HEX`: one arrives at a node that lets invoke IDs be used again, `remember MS PEER HEX`: at one
-//! that then remembers a request no longer than so, and `memory OCTETS PEER HEX`: at one that keeps no more than so. `hear PEER HEX`: a datagram arrives. `ask PEER LIMITS REQUEST`, `tick`, `prepare` (a tick that is only prepared), `begin ID` (where invoke IDs begin), `restart`,
+//! that then remembers a request no longer than so, and `memory OCTETS PEER HEX`, or `memory OCTETS reuse PEER HEX`: at one that keeps no more than so. `hear PEER HEX`: a datagram arrives. `ask PEER LIMITS REQUEST`, `tick`, `prepare` (a tick that is only prepared), `begin ID` (where invoke IDs begin), `restart`,
 //! `set OBJECT PROPERTY HEX` and `file OBJECT HEX` are calls of the node. `due` prints when something is next due, `free` when a slot for a request is,
 //! `count` how many slots are held and how many entries live, and `compare` whether the node and its store are as new.
 use crate::scene::{limits_of, link, nodes_of};
@@ -109,10 +109,14 @@ fn hears_within(
 ) -> Option<Came> {
     let (memory, words) = first(words);
     let memory = memory.parse::<usize>().ok()?;
+    let (reuse, words) = match words.strip_prefix("reuse ") {
+        Some(words) => (true, words),
+        None => (false, words),
+    };
     let (from, octets) = sent_in(alloc, words)?;
     match told(
         alloc,
-        node.hear_within(false, memory, now, from, &octets),
+        node.hear_within(reuse, memory, now, from, &octets),
         out,
     )? {
         Came::NoMemory => {

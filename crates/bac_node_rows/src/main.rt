@@ -8,10 +8,12 @@
 #![tactic(auto)]
 
 mod events;
+mod making;
 mod medium;
 mod memory_link;
 mod node_rows;
 mod nodes;
+mod noise;
 mod playing;
 mod printing;
 mod rows;

@@ -3,7 +3,7 @@ use crate::node_rows::play_node;
 use crate::scripts::Way;
 use crate::wires::play_wire;
 use crate::worlds::play_world;
-use crate::{nodes, scripts, sockets, tables, words};
+use crate::{making, nodes, scripts, sockets, tables, words};
 use bac_simulate::View;
 use std::alloc::Global;
 use std::io;
@@ -19,6 +19,7 @@ enum Kind {
     Node,
     World,
     Wire,
+    Worlds,
     Nodes,
     Socket,
     Tables,
@@ -32,6 +33,7 @@ const KINDS: &[(&str, Kind)] = &[
     ("node", Kind::Node),
     ("world", Kind::World),
     ("wire", Kind::Wire),
+    ("worlds", Kind::Worlds),
     ("nodes", Kind::Nodes),
     ("socket", Kind::Socket),
     ("tables", Kind::Tables),
@@ -71,6 +73,7 @@ impl<'a, R: Net + Clock> Rows<'a, R> {
             Kind::Node => play_node(self.alloc, self.scene, lines, out),
             Kind::World => play_world(self.alloc, self.scene, lines, out),
             Kind::Wire => play_wire(self.alloc, self.scene, lines, out),
+            Kind::Worlds => making::play(self.alloc, lines, out),
             Kind::Nodes => nodes::play(self.alloc, lines, out),
             Kind::Socket => sockets::play(self.rt, self.alloc, lines, out),
             Kind::Tables => tables::play(self.alloc, lines, out),

@@ -4,10 +4,15 @@
 //! millisecond later the octets arrive from the link of that number; prints whether the node looks at them. `flow COUNT`: the first copies are delivered in
 //! order, each once. `run LINE|LINE..`: `World::run` with the events of these lines. `straight CLIENT SERVER REQUEST`: a straight run; prints how many copies it
 //! delivers, and how its ask ends. `stores` prints of each node whether its store was the house store and whether it is, `counts` how many copies and facts there
-//! are, and `log` the world's log. Where an allocation fails in an event, the world has to be the same as its twin, and the event happens again.
+//! are, and `log` the world's log. `rate NODE RATE`: from then on a node's clock goes on by so many parts in a million parts of real time. Where an allocation
+//! fails in an event, the world has to be the same as its twin, and the event happens again.
+//!
+//! `noisy LINE`: before the line each proper prefix of each datagram that was sent arrives at each node of the world, and no octets at each node of its twin.
+use crate::making::made;
+use crate::noise::{all_noise_comes, no_octets_come};
 use crate::playing::{Stage, play};
 use crate::printing::{print_asked, print_performed};
-use crate::scene::{house_after, link, nodes_of, overtake_of};
+use crate::scene::{house_after, link, nodes_of};
 use crate::words::{first, octets_of, put, request_of};
 use bac_commands::print_ended;
 use bac_network::{Event, Fact, StraightRun, World, WorldFault, straight};
@@ -192,6 +197,16 @@ fn goes_straight(alloc: Global, world: &mut World, words: &str, out: &mut Vec<u8
     }
 }
 
+/// The clock of a node is faster or slower from then on.
+fn set_rate(world: &mut World, words: &str, out: &mut Vec<u8>) -> Option<()> {
+    let (node, rate) = first(words);
+    let (node, rate) = (node.parse::<usize>().ok()?, rate.parse::<u32>().ok()?);
+    match world.set_pace(node, rate) {
+        Ok(()) => writeln!(out, "paced").ok(),
+        Err(fault) => writeln!(out, "{fault}").ok(),
+    }
+}
+
 /// What is printed of an event in which an allocation fails.
 const NO_MEMORY: &[u8] = b"line 1: fault 4\n";
 
@@ -219,6 +234,7 @@ fn happens(alloc: Global, world: &mut World, line: &str, out: &mut Vec<u8>) -> O
         b"counts" => print_counts(world, out),
         b"stores" => print_stores(alloc, world, out),
         b"log" => print_log(alloc, world, out),
+        b"rate" => set_rate(world, words, out),
         _ => simulates(alloc, world, line, out),
     }
 }
@@ -254,10 +270,16 @@ impl Twins {
             Some(other.as_slice() == told)
         }
     }
-}
 
-impl Stage for Twins {
-    fn meets(&mut self, alloc: Global, line: &str, out: &mut Vec<u8>) -> Option<()> {
+    /// Noise comes to the world; both have heard of the moment then.
+    fn noise_comes(&mut self, alloc: Global) -> Option<()> {
+        all_noise_comes(alloc, &mut self.world)?;
+        no_octets_come(alloc, &mut self.world)?;
+        no_octets_come(alloc, &mut self.twin)
+    }
+
+    /// Prints the result of a line at both.
+    fn both_meet(&mut self, alloc: Global, line: &str, out: &mut Vec<u8>) -> Option<()> {
         let mut told = Vec::new(alloc);
         self.world_meets(alloc, line, &mut told)?;
         out.write_all(&told).ok()?;
@@ -265,6 +287,18 @@ impl Stage for Twins {
             out.write_all(b"otherwise at the twin\n").ok()?;
         }
         Some(())
+    }
+}
+
+impl Stage for Twins {
+    fn meets(&mut self, alloc: Global, line: &str, out: &mut Vec<u8>) -> Option<()> {
+        match line.strip_prefix("noisy ") {
+            Some(line) => {
+                self.noise_comes(alloc)?;
+                self.both_meet(alloc, line, out)
+            }
+            None => self.both_meet(alloc, line, out),
+        }
     }
 
     fn is_sound(&self) -> bool {
@@ -274,11 +308,7 @@ impl Stage for Twins {
 
 /// A world of a scene.
 fn world_of(alloc: Global, scene: &str) -> Option<World> {
-    let overtake = overtake_of(scene)?;
-    match World::new(alloc, nodes_of(alloc, scene, 0)?, overtake) {
-        Ok(world) => Some(world),
-        Err(_) => None,
-    }
+    made(alloc, scene, nodes_of(alloc, scene, 0)?)?.ok()
 }
 
 /// Plays the lines of a row in a world of a scene.

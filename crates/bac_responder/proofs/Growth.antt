@@ -1,5 +1,5 @@
 -- By how many octets an APDU makes one entry keep more.
-use Rattle.std.proofs.Common.{◌≡◌, ℕ, ◌+◌, ◌*◌, ◌-◌, ◌≤◌, Bool, true, false, not, List, [], ◌∷◌, ◌++◌, length, take, min, Option, Some, None}
+use Rattle.std.proofs.Common.{◌≡◌, ℕ, ◌+◌, ◌*◌, ◌-◌, ◌≤◌, Bool, true, false, not, ◌&&◌, List, [], ◌∷◌, ◌++◌, length, take, min, Option, Some, None}
 use Rattle.std.proofs.Common.{if◌then◌else◌, nat_eq, nat_lt, nat_le, refl, ap, sym, ◌∙◌, arith, length-append}
 use Rattle.std.specs.Prelude.{is_some}
 use Rattle.std.proofs.lemmas.List.{length-take}
@@ -21,7 +21,8 @@ use Rattle.bac_protocol.specs.Service.{BUFFER_OVERFLOW, OTHER, Octets, Outcome, 
 use Rattle.bac_protocol.specs.Service.Outcome.{Rejects, Replies}
 use Rattle.bac_protocol.specs.Sizes.{Way, allows_segments, reply_way_in_segments, reply_way_of, reply_way_of_size, transfer_size}
 use Rattle.bac_protocol.specs.Sizes.Way.{InOne, InSegments, Refused}
-use Rattle.bac_responder.specs.Kept.{entry_octets, growth, octets_of, parts_octets, reply_octets, request_octets, state_octets}
+use Rattle.bac_transaction.specs.Reuse.{is_read}
+use Rattle.bac_responder.specs.Kept.{adds_nothing, entry_octets, growth, is_known, is_read_in_one, is_whole, octets_of, parts_octets, reply_octets, request_octets, state_octets}
 
 -- Segments and pieces.
 
@@ -341,6 +342,74 @@ module _ (c : Context) (service : Service) (short : HasShort service) where
           (if b then idle_reusing c service reads o free a else server.server_on_apdu c service o free a).entry
       go true none = let no = none_kept c.now o none in fits_more c.now _ _ _ (omega (arith, no)) (reusing_fits o none reads free a)
       go false some = server_fits o free a
+
+  -- It makes no entry keep more.
+
+  whole_octets : (e : ServerTransaction) (z : State) → e.state ≡ z → (limits : Limits) (i choice : ℕ) (octets : Octets)
+      → octets_of (server.live_on_apdu c service e z (ConfirmedRequest limits i None choice octets)).entry ≤ entry_octets e
+  whole_octets e (State.SegmentedRequest inc since) is limits i choice octets = omega arith
+  whole_octets e (State.Done kept) is limits i choice octets = omega arith
+  whole_octets e (State.SegmentedResponse out transfer since) is limits i choice octets =
+      let all = replying e out transfer since is (ConfirmedRequest limits i None choice octets) in
+      let same = ap state_octets is in
+      omega (arith, all, same)
+  whole_octets e State.Dropped is limits i choice octets = omega arith
+
+  live_whole : (e : ServerTransaction) (a : Apdu) → is_whole a ≡ true → octets_of (server.live_on_apdu c service e e.state a).entry ≤ entry_octets e
+  live_whole e (ConfirmedRequest limits i None choice octets) whole = whole_octets e e.state refl limits i choice octets
+  live_whole e (ConfirmedRequest limits i (Some g) choice octets) whole = absurd cc
+  live_whole e _ whole = absurd cc
+
+  whole_fits : (o : Option ServerTransaction) (free : Bool) (a : Apdu) → is_none_live c.now o ≡ false → is_whole a ≡ true
+      → Fits c.now (octets_of (live_entry c.now o) + 0) (server.server_on_apdu c service o free a).entry
+  whole_fits None free a some whole = absurd cc
+  whole_fits (Some e) free a some whole = go (is_live c.now e) some
+    where
+      go : (b : Bool) → (if b then false else true) ≡ false → Fits c.now (octets_of (if b then Some e else None) + 0)
+          (if b then server.live_on_apdu c service e e.state a else server.idle_on_apdu c service (Some e) free a).entry
+      go true live = let same = live_whole e a whole in fits_all c.now _ _ (omega (arith, same))
+      go false dead = absurd cc
+
+  read_in_one_fits : (o : Option ServerTransaction) → is_none_live c.now o ≡ true → (free : Bool) (a : Apdu) → is_read_in_one c service a ≡ true
+      → Fits c.now (octets_of (live_entry c.now o) + 0) (idle_reusing c service is_read o free a).entry
+  read_in_one_fits o none free (ConfirmedRequest limits i None choice octets) one = go (is_read choice) (has_transfer r.entry) one
+    where
+      r : Reaction
+      r = server.performs c service (server.begins c choice limits (Some octets)) [] octets
+
+      go : (x y : Bool) → x && not y ≡ true → Fits c.now (octets_of (live_entry c.now o) + 0)
+          (if x then (if y then (if free then server.performs c service (server.begins c choice limits (Some octets)) [] octets
+          else server.rests o (server.server_abort c OTHER ∷ []))
+          else record {
+            entry = o;
+            sends = (server.performs c service (server.begins c choice limits (Some octets)) [] octets).sends;
+            effect = (server.performs c service (server.begins c choice limits (Some octets)) [] octets).effect;
+          })
+          else server.idle_on_request c service o free choice limits octets).entry
+      go true false one = dead_fits c.now _ o none
+      go true true one = absurd cc
+      go false y one = absurd cc
+  read_in_one_fits o none free (ConfirmedRequest limits i (Some g) choice octets) one = absurd cc
+  read_in_one_fits o none free _ one = absurd cc
+
+  pub nothing_fits : (o : Option ServerTransaction) (free : Bool) (a : Apdu) → adds_nothing c service o a ≡ true
+      → Fits c.now (octets_of (live_entry c.now o) + 0) (left_on_apdu c service is_read o free a).entry
+  nothing_fits o free a is = go (is_none_live c.now o) refl is
+    where
+      go : (b : Bool) → is_none_live c.now o ≡ b → (if b then is_read_in_one c service a else is_whole a) ≡ true
+          → Fits c.now (octets_of (live_entry c.now o) + 0)
+          (if b then idle_reusing c service is_read o free a else server.server_on_apdu c service o free a).entry
+      go true none one = read_in_one_fits o none free a one
+      go false some whole = whole_fits o free a some whole
+
+  pub known_fits : (o : Option ServerTransaction) (free : Bool) (a : Apdu) → is_known c.now o a ≡ true
+      → Fits c.now (octets_of (live_entry c.now o) + 0) (server.server_on_apdu c service o free a).entry
+  known_fits o free a is = go (is_none_live c.now o) refl is
+    where
+      go : (b : Bool) → is_none_live c.now o ≡ b → (if b then false else is_whole a) ≡ true
+          → Fits c.now (octets_of (live_entry c.now o) + 0) (server.server_on_apdu c service o free a).entry
+      go true none known = absurd cc
+      go false some whole = whole_fits o free a some whole
 
 -- A tick.
 

@@ -1,7 +1,7 @@
 -- What the server's end keeps after a call, in its own terms and in those of its table.
-use Rattle.std.proofs.Common.{◌≡◌, ℕ, ◌+◌, ◌≤◌, Bool, true, false, ◌&&◌, ◌||◌, List, [], ◌∷◌, filter, length, max, map, Option, Some, None}
+use Rattle.std.proofs.Common.{◌≡◌, ℕ, zero, suc, ◌+◌, ◌≤◌, Bool, true, false, ◌&&◌, ◌||◌, List, [], ◌∷◌, filter, length, max, map, take, Option, Some, None}
 use Rattle.std.proofs.Common.{Result, Ok, Err, if◌then◌else◌, refl, ap, sym, subst, ◌∙◌, arith}
-use Rattle.std.specs.Prelude.{IfSome, MatchOption}
+use Rattle.std.specs.Prelude.{IfOk, IfSome, MatchOption}
 use Rattle.bac_apdu.specs.Apdu.{Apdu}
 use Rattle.bac_npdu.specs.Peers.{PeerView}
 use Rattle.bac_service.specs.Replies as plain
@@ -18,12 +18,12 @@ use Rattle.bac_store.specs.Replies.{reply_to}
 use Rattle.bac_store.specs.Stores.{Store}
 use Rattle.bac_protocol.specs.Context.{Settings}
 use Rattle.bac_protocol.specs.Reuse.{is_ended_by, left_on_apdu}
-use Rattle.bac_protocol.specs.Server.{ServerTransaction, is_live, is_none_live, live_entry, server_on_apdu}
+use Rattle.bac_protocol.specs.Server.{ServerTransaction, Service, is_live, is_none_live, live_entry, server_on_apdu}
 use Rattle.bac_protocol.specs.Service.{Octets}
-use Rattle.bac_transaction.specs.Ends.{ServerEnd, ServerSlot, context_of, is_free, key_of, put_entry}
+use Rattle.bac_transaction.specs.Ends.{ServerEnd, ServerSlot, context_of, is_free, key_of, put_entry, responder_on_apdu}
 use Rattle.bac_transaction.specs.Keys as keys
 use Rattle.bac_transaction.specs.Keys.{same_key}
-use Rattle.bac_transaction.specs.Remembering.{end_unless, ends_it, entry_unless, is_forgotten}
+use Rattle.bac_transaction.specs.Remembering.{end_unless, ends_it, entry_unless, is_forgotten, responder_remembering}
 use Rattle.bac_transaction.specs.Reuse.{is_read, slots_left}
 use Rattle.bac_transaction.specs.Services.{outcome_by, outcome_of, service_of}
 use Rattle.bac_transaction.specs.Views.{code_same_key, context_view, peer_key_view, settings_view, slot_view, slots_view}
@@ -34,12 +34,12 @@ use Rattle.bac_transaction.proofs.Keyed.{value_viewed}
 use Rattle.bac_transaction.proofs.KeyedSlots.{keys_equivalent}
 use Rattle.bac_transaction.proofs.Viewed.{orderly_viewed}
 use Rattle.bac_responder.specs.Aging.{entry_ticked}
-use Rattle.bac_responder.specs.Kept.{HasShortReplies, StaysWithin, counted, entry_octets, growth, kept_octets, octets_of, sum_of}
+use Rattle.bac_responder.specs.Kept.{HasShortReplies, StaysWithin, adds_nothing, counted, entry_octets, given_back, growth, is_known, keeps_no_more, kept_octets, knows, octets_of, sum_of}
 use Rattle.bac_responder.specs.Reuse.{reusing_turn_of}
 use Rattle.bac_responder.specs.Views.{end_of, turn_of}
-use Rattle.bac_responder.proofs.Growth.{Fits, left_fits, outcome_octets, server_fits}
-use Rattle.bac_responder.proofs.KeptTables.{live_slots, put_begins, put_grows, put_moves, tick_keeps, without_octets}
-use Rattle.bac_responder.proofs.Ticks.{left_viewed}
+use Rattle.bac_responder.proofs.Growth.{Fits, known_fits, left_fits, nothing_fits, outcome_octets, server_fits}
+use Rattle.bac_responder.proofs.KeptTables.{live_slots, put_begins, put_grows, put_moves, ticked_octets, without_octets}
+use Rattle.bac_responder.proofs.Ticks.{left_viewed, ticked_viewed}
 
 -- The replies of a store are short.
 
@@ -151,6 +151,24 @@ module _ (remember now : ℕ) (key : keys.PeerKey) (a : Apdu) (e : ServerEnd) wh
         let sum = put_begins now key remaining (growth a) left_after there left_fit in
         omega (arith, all, live, sum)
 
+    -- it makes no entry keep more
+
+    pub on_known : is_known now present a ≡ true → kept_octets (put_entry now key after e.slots) ≤ kept_octets e.slots
+    on_known is =
+        let fit = known_fits (context_of c now key) (service_of s) (short_service s short) present (is_free now e) a is in
+        let sum = put_grows now key e.slots 0 after fit in
+        omega (arith, sum)
+
+    pub reusing_adds_nothing : adds_nothing (context_of c now key) (service_of s) (entry_unless remember now present a) a ≡ true
+        → kept_octets (put_entry now key left_after remaining) ≤ kept_octets e.slots
+    reusing_adds_nothing is =
+        let fit : Fits now (octets_of (live_entry now (value_at same_key key remaining)) + 0) left_after =
+        subst (λ (o : Option ServerTransaction). Fits now (octets_of (live_entry now o) + 0) left_after) (sym (left_there distinct))
+        (nothing_fits (context_of c now key) (service_of s) (short_service s short) (entry_unless remember now present a) (is_free now (end_unless remember now key a e)) a is) in
+        let less = rest_within in
+        let sum = put_grows now key remaining 0 left_after fit in
+        omega (arith, less, sum)
+
 -- Whether there is room for it.
 
 module _ (now : ℕ) (peer : PeerView) (a : Apdu) (room : ℕ) (e : ServerEnd) (distinct : IsDistinct same_key e.slots) where
@@ -225,6 +243,42 @@ module _ (now : ℕ) (peer : PeerView) (a : Apdu) (room : ℕ) (slots : Slots) (
       let same = counted_live now slots in
       begun_within now peer a room (end_of slots capacity restart) (apart slots distinct) seen (omega (arith, within, grows, there, same))
 
+-- It makes no entry of the table keep more.
+
+module _ (now : ℕ) (peer : PeerView) (a : Apdu) (slots : Slots) (capacity : ℕ) (restart : Option ℕ) where
+  pub known_viewed : (key : PeerKey) → peer_key_view key ≡ key_of peer a
+      → is_known now (value_at code_same_key key slots) a ≡ knows now peer a (end_of slots capacity restart)
+  known_viewed key is =
+      ap (λ (o : Option ServerTransaction). is_known now o a) (value_viewed ServerTransaction key slots)
+      ∙ ap (λ (q : keys.PeerKey). is_known now (value_at same_key q (slots_view slots)) a) is
+
+  pub nothing_viewed : (remember : ℕ) (c : Settings) (service : Service) (key : PeerKey) → peer_key_view key ≡ key_of peer a
+      → adds_nothing (context_of c now (peer_key_view key)) service (entry_unless remember now (value_at code_same_key key slots) a) a
+      ≡ keeps_no_more remember c now service peer a (end_of slots capacity restart)
+  nothing_viewed remember c service key is =
+      ap (λ (o : Option ServerTransaction). adds_nothing (context_of c now (peer_key_view key)) service (entry_unless remember now o a) a)
+      (value_viewed ServerTransaction key slots)
+      ∙ ap (λ (q : keys.PeerKey). adds_nothing (context_of c now q) service (entry_unless remember now (value_at same_key q (slots_view slots)) a) a) is
+
+  module _ (distinct : IsDistinct code_same_key slots) (c : Settings) (s : Store) where
+    pub known_within : knows now peer a (end_of slots capacity restart) ≡ true → HasShortReplies s
+        → kept_octets (responder_on_apdu c now (service_of s) peer a (end_of slots capacity restart)).end.slots ≤ kept_octets (slots_view slots)
+    known_within is short = on_known 0 now (key_of peer a) a (end_of slots capacity restart) c s short (apart slots distinct) is
+
+    pub nothing_within : (remember : ℕ) → keeps_no_more remember c now (service_of s) peer a (end_of slots capacity restart) ≡ true → HasShortReplies s
+        → kept_octets (responder_remembering remember c now (service_of s) peer a (end_of slots capacity restart)).end.slots ≤ kept_octets (slots_view slots)
+    nothing_within remember is short = reusing_adds_nothing remember now (key_of peer a) a (end_of slots capacity restart) c s short (apart slots distinct) is
+
+-- an answer that is one of two equal ones, and what follows where it is true
+
+pub ok_same : {E : Type 0} (r : Result Bool E) (x y : Bool) → x ≡ y → IfOk r (λ b. b ≡ x) → IfOk r (λ b. b ≡ y)
+ok_same (Ok b) x y same is = is ∙ same
+ok_same (Err e) x y same is = tt
+
+pub ok_then : {E : Type 0} (P : Type 0) (r : Result Bool E) (x : Bool) → IfOk r (λ b. b ≡ x) → (x ≡ true → P) → IfOk r (λ b. b ≡ true → P)
+ok_then P (Ok b) x is then_so = λ yes. then_so (sym is ∙ yes)
+ok_then P (Err e) x is then_so = tt
+
 -- An APDU was taken: what the table keeps more or less, the entry of its key does.
 
 seen_moves : (key : PeerKey) (old new : Slots) (put : List ServerSlot) → slots_view new ≡ put
@@ -259,10 +313,34 @@ module _ (c : code.Context) (s : Store) (a : Apdu) (old new : Slots) (capacity r
 
 -- A tick.
 
-pub ticked_within : (c : CodeSettings) (now : ℕ) (old ticked new : Slots) (kept : Option ℕ) → ticked ≡ map (changed (ticked_in entry_ticked c now)) old
-    → new ≡ filter (λ s. is_live now s.value) ticked → IfSome kept (λ k. kept_octets (slots_view old) ≤ k) → IfSome kept (λ k. kept_octets (slots_view new) ≤ k)
-ticked_within c now old ticked new None all left within = tt
-ticked_within c now old ticked new (Some k) all left within =
+-- what is live, and what is given back of the first slots
+pub live_and_back : (now n : ℕ) (slots : Slots)
+    → sum_of (counted true now) slots + sum_of (given_back now) (take n slots) ≤ sum_of (counted false now) slots
+live_and_back now zero [] = omega arith
+live_and_back now (suc n) [] = omega arith
+live_and_back now zero (s ∷ slots) = go (is_live now s.value) (live_and_back now zero slots)
+  where
+    go : (b : Bool) → sum_of (counted true now) slots + sum_of (given_back now) (take zero slots) ≤ sum_of (counted false now) slots
+        → (if b then entry_octets s.value else 0) + sum_of (counted true now) slots + 0 ≤ entry_octets s.value + sum_of (counted false now) slots
+    go true again = omega (arith, again)
+    go false again = omega (arith, again)
+live_and_back now (suc n) (s ∷ slots) = go (is_live now s.value) (live_and_back now n slots)
+  where
+    go : (b : Bool) → sum_of (counted true now) slots + sum_of (given_back now) (take n slots) ≤ sum_of (counted false now) slots
+        → (if b then entry_octets s.value else 0) + sum_of (counted true now) slots + ((if b then 0 else entry_octets s.value) + sum_of (given_back now) (take n slots))
+        ≤ entry_octets s.value + sum_of (counted false now) slots
+    go true again = omega (arith, again)
+    go false again = omega (arith, again)
+
+pub ticked_within : (c : CodeSettings) (now : ℕ) (old ticked new : Slots) (back : ℕ) → ticked ≡ map (changed (ticked_in entry_ticked c now)) old
+    → new ≡ filter (λ s. is_live now s.value) ticked → sum_of (counted true now) ticked + back ≤ sum_of (counted false now) ticked
+    → kept_octets (slots_view new) + back ≤ kept_octets (slots_view old)
+ticked_within c now old ticked new back all left given =
+    let whole = counted_all now ticked in
+    let live = counted_live now ticked in
+    let seen = ap slots_view all ∙ ticked_viewed c now old in
+    let some = ap (λ (l : List ServerSlot). kept_octets (live_slots now l)) seen in
     let same = ap kept_octets (left_viewed c now old ticked new all left) in
-    let less = tick_keeps (settings_view c) now (end_of old 0 None) in
-    omega (arith, within, same, less)
+    let before = ap kept_octets seen in
+    let less = ticked_octets (settings_view c) now (slots_view old) in
+    omega (arith, given, whole, live, some, same, before, less)

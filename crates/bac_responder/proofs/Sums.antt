@@ -28,6 +28,13 @@ module _ {A : Type 0} (f : A → ℕ) where
       let same = ap (λ j. sum_of f (take j xs)) next in
       omega (arith, before, more, here, same, is)
 
+  -- one more, of a part of the sum
+  pub part_next : (n k m r : ℕ) (xs : List A) → k ≤ sum_of f (take n xs) → n < length xs → ((x : A) → slice_get xs n ≡ Some x → m ≡ f x) → r ≤ k + m
+      → r ≤ sum_of f (take (n + 1) xs)
+  part_next n k m r xs before within at is =
+      let next = sum_next n (sum_of f (take n xs)) m (sum_of f (take n xs) + m) xs refl within at refl in
+      omega (arith, before, next, is)
+
   -- all of them
   pub sum_all : (n k : ℕ) (xs : List A) → k ≡ sum_of f (take n xs) → length xs ≤ n → k ≡ sum_of f xs
   sum_all n k xs before past = before ∙ ap (λ (l : List A). sum_of f l) (take_all n xs past)

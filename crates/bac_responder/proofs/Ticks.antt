@@ -20,7 +20,7 @@ use Rattle.bac_responder.proofs.TimerLaws.{stays}
 abbrev Slots : Type 0
 Slots = List (Slot PeerKey ServerTransaction)
 
-ticked_viewed : (c : Settings) (now : ℕ) (slots : Slots)
+pub ticked_viewed : (c : Settings) (now : ℕ) (slots : Slots)
     → slots_view (map (changed (ticked_in entry_ticked c now)) slots) ≡ map (server_ticked (settings_view c) now) (slots_view slots)
 ticked_viewed c now [] = refl
 ticked_viewed c now (s ∷ slots) = ap (λ l. server_ticked (settings_view c) now (slot_view s) ∷ l) (ticked_viewed c now slots)

@@ -1,19 +1,23 @@
 -- How many octets of service data the server's end keeps, and by how many an APDU can make it keep more.
-use Rattle.std.specs.Prelude.{◌≤◌, ℕ, ◌+◌, ◌*◌, max, Bool, true, false, if◌then◌else◌, List, [], ◌∷◌, length, Option, Some, None}
+use Rattle.std.specs.Prelude.{◌≤◌, ℕ, ◌+◌, ◌*◌, max, Bool, true, false, ◌&&◌, not, if◌then◌else◌, List, [], ◌∷◌, length, Option, Some, None}
 use Rattle.bac_apdu.specs.Apdu.{Apdu}
 use Rattle.bac_apdu.specs.Apdu.Apdu.{ConfirmedRequest, ComplexAck}
 use Rattle.bac_npdu.specs.Peers.{PeerView}
 use Rattle.bac_segment.specs.Pieces.{join}
 use Rattle.bac_slots.specs.declared.slot.Slot.{Slot}
+use Rattle.bac_slots.specs.Slots.{value_at}
 use Rattle.bac_service.specs.Values.{Request}
 use Rattle.bac_store.specs.ReplyLengths.{DATA_LIMIT, reply_length}
 use Rattle.bac_store.specs.Replies.{reply_to}
 use Rattle.bac_store.specs.Stores.{Store}
-use Rattle.bac_protocol.specs.Context.{Settings}
-use Rattle.bac_protocol.specs.Server.{ServerTransaction, State, is_live}
+use Rattle.bac_protocol.specs.Context.{Context, Settings}
+use Rattle.bac_protocol.specs.Reuse.{has_transfer}
+use Rattle.bac_protocol.specs.Server.{ServerTransaction, Service, State, begins, is_live, is_none_live, performs}
 use Rattle.bac_protocol.specs.Service.{Octets}
-use Rattle.bac_transaction.specs.Ends.{ServerEnd, ServerSlot, responder_on_apdu}
-use Rattle.bac_transaction.specs.Remembering.{responder_remembering}
+use Rattle.bac_transaction.specs.Ends.{ServerEnd, ServerSlot, context_of, key_of, responder_on_apdu}
+use Rattle.bac_transaction.specs.Keys.{same_key}
+use Rattle.bac_transaction.specs.Remembering.{entry_unless, responder_remembering}
+use Rattle.bac_transaction.specs.Reuse.{is_read}
 use Rattle.bac_transaction.specs.Services.{service_of}
 use Rattle.bac_transaction.specs.declared.peer_key.PeerKey.{PeerKey}
 
@@ -56,6 +60,10 @@ abbrev pub counted : (only_live : Bool) → (now : ℕ) → Slot PeerKey ServerT
 counted true now s = if is_live now s.value then entry_octets s.value else 0
 counted false now s = entry_octets s.value
 
+-- what a tick gives back of it: all that its entry keeps, where that is not live
+abbrev pub given_back : (now : ℕ) → Slot PeerKey ServerTransaction → ℕ
+given_back now s = if is_live now s.value then 0 else entry_octets s.value
+
 -- the sum of a number of each
 abbrev pub sum_of : {A : Type 0} → (A → ℕ) → List A → ℕ
 sum_of f [] = 0
@@ -75,3 +83,34 @@ pub record StaysWithin (now : ℕ) (peer : PeerView) (a : Apdu) (room : ℕ) (e 
   pub on : (c : Settings) (s : Store) → HasShortReplies s → kept_octets (responder_on_apdu c now (service_of s) peer a e).end.slots ≤ max (kept_octets e.slots) room
   pub on_reusing : (remember : ℕ) (c : Settings) (s : Store) → HasShortReplies s
       → kept_octets (responder_remembering remember c now (service_of s) peer a e).end.slots ≤ max (kept_octets e.slots) room
+
+-- What makes no end keep more, however little room there is.
+
+-- a request without SEG
+abbrev pub is_whole : Apdu → Bool
+is_whole (ConfirmedRequest limits invoke_id None choice octets) = true
+is_whole (ConfirmedRequest limits invoke_id (Some segment) choice octets) = false
+is_whole _ = false
+
+-- a read without SEG whose reply is one APDU, or a Reject or an Abort
+abbrev pub is_read_in_one : Context → Service → Apdu → Bool
+is_read_in_one c service (ConfirmedRequest limits invoke_id None choice octets) =
+    is_read choice && not (has_transfer (performs c service (begins c choice limits (Some octets)) [] octets).entry)
+is_read_in_one c service (ConfirmedRequest limits invoke_id (Some segment) choice octets) = false
+is_read_in_one c service _ = false
+
+-- a request without SEG whose entry is live gets its kept reply again, or an Abort
+abbrev pub is_known : (now : ℕ) → Option ServerTransaction → Apdu → Bool
+is_known now entry a = if is_none_live now entry then false else is_whole a
+
+-- the same where invoke IDs may be used again, of the entry that is left; and where none is live, a read whose reply is one APDU begins none
+abbrev pub adds_nothing : Context → Service → Option ServerTransaction → Apdu → Bool
+adds_nothing c service left a = if is_none_live c.now left then is_read_in_one c service a else is_whole a
+
+-- an APDU comes from a peer
+abbrev pub knows : (now : ℕ) → PeerView → Apdu → ServerEnd → Bool
+knows now peer a e = is_known now (value_at same_key (key_of peer a) e.slots) a
+
+abbrev pub keeps_no_more : (remember : ℕ) → Settings → (now : ℕ) → Service → PeerView → Apdu → ServerEnd → Bool
+keeps_no_more remember c now service peer a e =
+    adds_nothing (context_of c now (key_of peer a)) service (entry_unless remember now (value_at same_key (key_of peer a) e.slots) a) a

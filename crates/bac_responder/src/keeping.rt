@@ -1,10 +1,10 @@
 //! How many octets of service data the entries of the reply table keep, and whether there is room for more. `Responder` calls it.
-ghost use Rattle.std.specs.Prelude.{◌≡◌, ℕ, ◌+◌, ◌≤◌, true, IfSome, IsTrue, MatchOption, Some, slice_get};
+ghost use Rattle.std.specs.Prelude.{◌≡◌, ℕ, ◌+◌, ◌≤◌, true, IfSome, IsTrue, MatchOption, Some, false, slice_get};
 ghost use Rattle.bac_apdu.specs.Views.{apdu_view};
 ghost use Rattle.bac_slots.specs.declared.slot.Slot.{Slot};
 ghost use Rattle.bac_slots.specs.Slots.{value_at};
 ghost use Rattle.bac_transaction.specs.Views.{code_same_key};
-ghost use Rattle.bac_responder.specs.Kept.{counted, entry_octets, growth, octets_of, reply_octets, state_octets, sum_of};
+ghost use Rattle.bac_responder.specs.Kept.{counted, entry_octets, given_back, growth, is_whole, octets_of, reply_octets, state_octets, sum_of};
 ghost use Rattle.bac_responder.specs.TransactionViews.{kept_reply_view, state_view};
 
 use crate::ServerTransaction;
@@ -117,6 +117,13 @@ pub(crate) fn service_len(apdu: &Apdu<'_>) -> Option<usize>
     }
 }
 
+/// Whether an APDU is a request without SEG.
+pub(crate) fn is_whole(apdu: &Apdu<'_>) -> bool
+    ensures { result ≡ is_whole (apdu_view apdu.now) }
+{
+    matches!(apdu, Apdu::ConfirmedRequest { segment: None, .. })
+}
+
 /// Whether there is room for a request with so much service data, where so many octets are kept.
 pub(crate) fn fits(kept: Option<usize>, len: usize, room: usize) -> bool
     ensures { IsTrue result → MatchOption kept ⊥ (λ k. k + (len + 65539) ≤ room) }
@@ -140,4 +147,42 @@ pub(crate) fn moved(
 {
     let left = kept?.checked_sub(before?)?;
     left.checked_add(after?)
+}
+
+/// What the n-th slot in order of insertion gives back at a tick, if its entry is not live: None where it is, or where none is there.
+fn given_back_at<S: SlotTable<PeerKey, ServerTransaction>>(
+    table: &S,
+    n: usize,
+    now: u64,
+) -> Option<usize>
+    ensures { IfSome result (λ k. (s : Slot PeerKey ServerTransaction) → slice_get (S.slots table.now) n ≡ Some s → k ≡ given_back now s) }
+{
+    let Some((_, _, entry)) = table.by_age(n) else {
+        return None;
+    };
+    if entry.is_live(now) {
+        return None;
+    }
+    entry.octets()
+}
+
+/// How many octets the oldest slots keep, up to the first one whose entry is live: so many at least are given back when all that are not live are dropped.
+pub(crate) fn given_back<S: SlotTable<PeerKey, ServerTransaction>>(table: &S, now: u64) -> usize
+    ensures { sum_of (counted true now) (S.slots table.now) + result ≤ sum_of (counted false now) (S.slots table.now) }
+{
+    let mut octets: usize = 0;
+    for n in 0..table.len() {
+        let Some(more) = given_back_at(table, n, now) else {
+            return octets;
+        };
+        octets = octets.saturating_add(more);
+    }
+    octets
+}
+
+/// What is kept at the most after so many octets were given back.
+pub(crate) fn without(kept: Option<usize>, given_back: usize) -> Option<usize>
+    ensures { (old new : ℕ) → IfSome kept (λ k. old ≤ k) → new + given_back ≤ old → IfSome result (λ k. new ≤ k) }
+{
+    kept?.checked_sub(given_back)
 }

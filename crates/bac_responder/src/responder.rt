@@ -13,17 +13,18 @@ ghost use Rattle.bac_transaction.specs.Sends.{Pairwise, IsSent};
 ghost use Rattle.bac_transaction.specs.Keys.{same_key};
 ghost use Rattle.bac_transaction.specs.Views.{peer_key_view, settings_view};
 ghost use Rattle.bac_transaction.specs.Services.{service_of};
+ghost use Rattle.bac_store.specs.Stores.{Store as Stored};
 ghost use Rattle.bac_responder.specs.Timers.{LAST_MOMENT};
 ghost use Rattle.bac_responder.specs.Short.{AreRequestsShort};
-ghost use Rattle.bac_responder.specs.Kept.{StaysWithin, kept_octets};
+ghost use Rattle.bac_responder.specs.Kept.{HasShortReplies, StaysWithin, growth, keeps_no_more, kept_octets, knows};
 ghost use Rattle.bac_responder.specs.Views.{end_of, Serves};
 
 use crate::aging::{ServerRules, ShortRequests};
 use crate::freeing::first_dead;
-use crate::keeping::{count_octets, fits, key_octets, moved, service_len};
+use crate::keeping::{count_octets, fits, given_back, key_octets, moved, service_len, without};
 use crate::lookup::on_apdu;
 use crate::moments::{first_end, first_timer};
-use crate::reusing::{Remembering, is_none_live};
+use crate::reusing::{Remembering, is_known, is_none_live};
 use crate::served::Served;
 use crate::ticking::{nothing_due, prepare};
 use crate::{ServerTransaction, reusing};
@@ -160,8 +161,9 @@ impl<S: SlotTable<PeerKey, ServerTransaction> + Drop> Responder<S> {
         self.restart == other.restart && same_tables(&self.aged.table, &other.aged.table)
     }
 
-    /// Whether what the entries keep stays within so many octets, or does not grow, whatever an APDU makes of them: ask before `on` and `on_reusing`, and where it
-    /// is false, drop the APDU as where memory ran out. What contracts see of the end does not change.
+    /// Whether what the entries keep stays within so many octets, or does not grow, whatever an APDU makes of them: ask before `on` and `on_reusing`. Where it is
+    /// false, ask `knows` before `on`, and `keeps_no_more` before `on_reusing`; where that is false too, drop the APDU as where memory ran out. What contracts see
+    /// of the end does not change.
     ///
     /// Octets of service data count: of the kept requests and replies, and of the segments of requests that are received, each with four more. A request is
     /// taken to need room for its own, and for the longest reply, 65,535 octets; any other APDU needs none. Entries that are not live count, but not
@@ -169,6 +171,7 @@ impl<S: SlotTable<PeerKey, ServerTransaction> + Drop> Responder<S> {
     pub fn has_room_for(&mut self, now: u64, peer: &Peer, apdu: &Apdu<'_>, room: usize) -> bool
         ensures same { self.new ≡ self.old }
         ensures within { IsTrue result → StaysWithin now (peer_view peer.now) (apdu_view apdu.now) room self.old }
+        ensures needless { growth (apdu_view apdu.now) ≡ 0 → IsTrue result }
     {
         // that no two entries have one key
         let _entries = self.aged.table.len();
@@ -196,6 +199,56 @@ impl<S: SlotTable<PeerKey, ServerTransaction> + Drop> Responder<S> {
         }
         self.counts_from = now.saturating_add(PAUSE);
         false
+    }
+
+    /// Whether an APDU is a request without segments that has a live entry: `on` sends the kept reply again, or an Abort, and the end keeps no more than before,
+    /// however little room there is.
+    pub fn knows(&self, now: u64, peer: &Peer, apdu: &Apdu<'_>) -> bool
+        ensures exact { result ≡ knows now (peer_view peer.now) (apdu_view apdu.now) self.now }
+        ensures within { (c : Set) (s : Stored) → IsTrue result → HasShortReplies s
+            → kept_octets (responder_on_apdu c now (service_of s) (peer_view peer.now) (apdu_view apdu.now) self.now).end.slots ≤ kept_octets self.now.slots }
+    {
+        // that no two entries have one key
+        let _entries = self.aged.table.len();
+        let key = PeerKey {
+            peer: *peer,
+            invoke_id: invoke_id_of(apdu),
+        };
+        is_known(&self.aged.table, &key, now, apdu)
+    }
+
+    /// Whether `on_reusing` of an APDU, with the same store, makes the end keep no more than before, however little room there is. Such are a request without
+    /// segments that has a live entry and does not end it: the kept reply goes again, or an Abort; and a read without segments whose reply is one APDU, where no
+    /// entry goes on. The reply to a read is prepared for this, so ask it only where there is no room. An Err says that an allocation failed.
+    pub fn keeps_no_more(
+        &self,
+        alloc: Global,
+        rules: &ReuseRules,
+        now: u64,
+        peer: &Peer,
+        apdu: &Apdu<'_>,
+        store: &Store,
+    ) -> Result<bool, NoMemory>
+        ensures exact { IfOk result (λ none. none ≡ keeps_no_more rules.now.remember (settings_view rules.now.settings) now (service_of store.now) (peer_view peer.now)
+            (apdu_view apdu.now) self.now) }
+        ensures within { IfOk result (λ none. IsTrue none → HasShortReplies store.now
+            → kept_octets (responder_remembering rules.now.remember (settings_view rules.now.settings) now (service_of store.now) (peer_view peer.now) (apdu_view apdu.now)
+            self.now).end.slots ≤ kept_octets self.now.slots) }
+    {
+        // that no two entries have one key
+        let _entries = self.aged.table.len();
+        let told = Remembering {
+            context: Context {
+                settings: rules.settings,
+                key: PeerKey {
+                    peer: *peer,
+                    invoke_id: invoke_id_of(apdu),
+                },
+                moment: now,
+            },
+            remember: rules.remember,
+        };
+        reusing::adds_nothing(alloc, &told, &self.aged.table, apdu, store)
     }
 
     /// An APDU comes from a peer, at that moment in milliseconds: call it for each APDU that a client can send, and then send all of `sends`, in their order.
@@ -300,6 +353,8 @@ impl<S: SlotTable<PeerKey, ServerTransaction> + Drop> Responder<S> {
         ensures kept { kept_octets self.new.slots ≤ kept_octets self.old.slots }
     {
         tick(&mut self.aged, settings, now);
+        let given_back = given_back(&self.aged.table, now);
         remove_dead(&mut self.aged, now);
+        self.kept = without(self.kept, given_back);
     }
 }

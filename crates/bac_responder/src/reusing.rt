@@ -1,23 +1,25 @@
 //! An APDU comes to a node that lets invoke IDs be used again: it may end the entry of its key, and a read may begin none. `Responder::on` calls `on_apdu`, in
 //! place of that of lookup, where the settings of its node say so.
-ghost use Rattle.std.specs.Prelude.{◌≡◌, ◌&&◌, ℕ, true, Some, None, MatchOption};
+ghost use Rattle.std.specs.Prelude.{◌≡◌, ◌&&◌, ℕ, not, true, [], Some, None, IfOk, MatchOption};
 ghost use Rattle.bac_apdu.specs.Views.{apdu_view, limits_view};
 ghost use Rattle.bac_slots.specs.Slots.{value_at};
 ghost use Rattle.bac_slots.specs.Ages.{IsKnownBy};
 ghost use Rattle.bac_protocol.specs.Reuse as machine;
-ghost use Rattle.bac_protocol.specs.Server.{is_none_live};
+ghost use Rattle.bac_protocol.specs.Server.{begins, is_none_live, performs};
 ghost use Rattle.bac_transaction.specs.Ends.{is_free};
 ghost use Rattle.bac_transaction.specs.Remembering.{ends_it, entry_unless, is_forgotten};
 ghost use Rattle.bac_transaction.specs.Reuse.{is_read};
 ghost use Rattle.bac_transaction.specs.Services.{service_of};
 ghost use Rattle.bac_transaction.specs.Views.{code_same_key, context_view, peer_of};
 ghost use Rattle.bac_responder.specs.Aging.{AreAged, begins_request};
+ghost use Rattle.bac_responder.specs.Kept.{adds_nothing, is_known};
 ghost use Rattle.bac_responder.specs.Reactions.{BeginsAt, BeginsWhereFree};
 ghost use Rattle.bac_responder.specs.Reuse.{ReusingReacts, code_slots_left, reusing_turn_of, whole_read};
 ghost use Rattle.bac_responder.specs.TransactionViews.{state_view};
 ghost use Rattle.bac_responder.specs.Views.{end_of, Serves};
 
 use crate::aging::ServerRules;
+use crate::keeping::is_whole;
 use crate::lookup::{self, begins_request, has_place, served};
 use crate::performed::Performed;
 use crate::performing::commit;
@@ -321,4 +323,57 @@ pub(crate) fn on_apdu<S: SlotTable<PeerKey, ServerTransaction>>(
         return on_apdu_without_entry(alloc, told, aged, restart, apdu, store);
     }
     lookup::on_apdu(alloc, context, aged, restart, apdu, store)
+}
+
+/// Whether an APDU is a request without SEG whose entry is live.
+pub(crate) fn is_known<S: SlotTable<PeerKey, ServerTransaction>>(
+    table: &S,
+    key: &PeerKey,
+    now: u64,
+    apdu: &Apdu<'_>,
+) -> bool
+    ensures { result ≡ is_known now (value_at code_same_key key.now (S.slots table.now)) (apdu_view apdu.now) }
+{
+    if is_none_live(table, key, now) {
+        return false;
+    }
+    is_whole(apdu)
+}
+
+/// Whether the reply to a read without SEG is one APDU, or a Reject or an Abort. It prepares the reply, and changes nothing.
+fn replies_in_one(
+    alloc: Global,
+    context: &Context,
+    terms: Terms,
+    octets: &[u8],
+    store: &Store,
+) -> Result<bool, NoMemory>
+    ensures { IfOk result (λ one. one ≡ not (machine.has_transfer (performs (context_view context.now) (service_of store.now)
+        (begins (context_view context.now) terms.choice (limits_view terms.limits) (Some octets.now)) [] octets.now).entry)) }
+{
+    let found = read_whole(alloc, terms.choice, octets)?;
+    let prepared = prepare_reply(alloc, context, terms, found, store)?;
+    Ok(!prepared.state.goes_in_segments())
+}
+
+/// Whether an APDU for the context's transaction makes the end keep no more, however little room there is.
+pub(crate) fn adds_nothing<S: SlotTable<PeerKey, ServerTransaction>>(
+    alloc: Global,
+    told: &Remembering,
+    table: &S,
+    apdu: &Apdu<'_>,
+    store: &Store,
+) -> Result<bool, NoMemory>
+    ensures { IfOk result (λ nothing. nothing ≡ adds_nothing (context_view told.now.context) (service_of store.now)
+        (entry_unless told.now.remember told.now.context.moment (value_at code_same_key told.now.context.key (S.slots table.now)) (apdu_view apdu.now)) (apdu_view apdu.now)) }
+{
+    let context = &told.context;
+    let ends = ends_entry(table, told, apdu);
+    if !ends && !is_none_live(table, &context.key, context.moment) {
+        return Ok(is_whole(apdu));
+    }
+    match whole_read(apdu) {
+        None => Ok(false),
+        Some((terms, octets)) => replies_in_one(alloc, context, terms, octets, store),
+    }
 }

@@ -1,11 +1,11 @@
 //! One end, one ticket and one entry by itself, where a node can't say it: moments that go back, and when a tick finds something to do.
-use super::scene::request_of;
 use super::*;
 use bac_apdu::{Limits, Window, read};
 use bac_npdu::Peer;
 use bac_requester::{AskFault, Client, Ending, Requester};
 use bac_responder::{Responder, ServerTransaction, idle_on_apdu};
 use bac_service::OwnedRequest;
+use bac_service_text::read_request_words;
 use bac_slots::{IndexSlots, Same};
 use bac_store::{Store, house};
 use bac_transaction::{Context, PeerKey, Settings};
@@ -101,7 +101,7 @@ const AFTER: &[Asking] = &[
 type Indexed = Requester<IndexSlots<PeerKey, Client>>;
 
 /// Whether an ask is accepted or refused as its row says.
-fn is_accepted(alloc: Global, end: &mut Indexed, request: &OwnedRequest, row: &Asking) -> bool {
+fn is_accepted(end: &mut Indexed, request: &OwnedRequest, row: &Asking) -> bool {
     let to = peer(row.1);
     match end.ask(&SETTINGS, row.0, &to, &SMALL_APDUS, request) {
         Ok(asked) => row.2 == Ok((asked.ticket, asked.invoke_id)),
@@ -109,19 +109,22 @@ fn is_accepted(alloc: Global, end: &mut Indexed, request: &OwnedRequest, row: &A
     }
 }
 
-/// Whether that is so of each ask.
-fn are_accepted(alloc: Global, end: &mut Indexed, rows: &[Asking]) -> Option<bool> {
-    let request = request_of(alloc, "read 0:5 85")?;
+/// Whether that is so of each ask for the present-value of analog-input 5.
+fn are_accepted(alloc: Global, end: &mut Indexed, rows: &[Asking]) -> bool {
+    let words: [&[u8]; 3] = [b"read", b"0:5", b"85"];
+    let Ok(request) = read_request_words(alloc, &words) else {
+        return false;
+    };
     for row in rows {
-        if !is_accepted(alloc, end, &request, row) {
-            return Some(false);
+        if !is_accepted(end, &request, row) {
+            return false;
         }
     }
-    Some(true)
+    true
 }
 
 /// Whether a Reject of peer 2 at 3,000 ends a ticket.
-fn is_rejected(alloc: Global, end: &mut Indexed) -> bool {
+fn is_rejected(end: &mut Indexed) -> bool {
     let Ok(apdu) = read(b"\x60\x00\x09") else {
         return false;
     };
@@ -131,21 +134,14 @@ fn is_rejected(alloc: Global, end: &mut Indexed) -> bool {
     }
 }
 
-fn makes_room(alloc: Global, end: &mut Indexed) -> Option<bool> {
-    Some(
-        are_accepted(alloc, end, BEFORE)?
-            && is_rejected(alloc, end)
-            && are_accepted(alloc, end, AFTER)?,
-    )
+fn makes_room(alloc: Global, end: &mut Indexed) -> bool {
+    are_accepted(alloc, end, BEFORE) && is_rejected(end) && are_accepted(alloc, end, AFTER)
 }
 
 #[test]
 fn slots_out_of_order(rt: HostRuntime) -> Result<(), Fail> {
     let mut end: Indexed = Requester::new(rt.alloc(), 2, None)?;
-    holds(
-        makes_room(rt.alloc(), &mut end) == Some(true),
-        "asks of two slots",
-    )
+    holds(makes_room(rt.alloc(), &mut end), "asks of two slots")
 }
 
 /// Invoke ID 0 of peer 2.
@@ -181,13 +177,21 @@ fn is_entry(entry: &ServerTransaction, other: &ServerTransaction) -> bool {
     is_timed && entry.due(5) == u64::MAX && entry.same(entry) && !entry.same(other)
 }
 
+/// Whether that is so of the entry of a read at moment 5, and another one at 6.
+fn is_apart(alloc: Global, entry: &ServerTransaction) -> bool {
+    match begun(alloc, 6) {
+        Some(other) => is_entry(entry, &other),
+        None => false,
+    }
+}
+
 #[test]
-fn an_entry(rt: HostRuntime) -> Result<(), Fail> {
-    let (Some(entry), Some(other)) = (begun(rt.alloc(), 5), begun(rt.alloc(), 6)) else {
-        return Err(Fail::from("no entry"));
+fn an_entry(rt: HostRuntime) {
+    let is_entry = match begun(rt.alloc(), 5) {
+        Some(entry) => is_apart(rt.alloc(), &entry),
+        None => false,
     };
-    assert!(rt; is_entry(&entry, &other));
-    Ok(())
+    assert!(rt; is_entry);
 }
 
 /// Whether the transaction of an ask at moment 1,000 is the next to expire, at 61,001.
@@ -201,23 +205,25 @@ fn expires(end: &Indexed) -> bool {
     }
 }
 
-/// Whether the transaction of an ask at moment 1,000 takes a request for none of its answers, has its timer set, and expires after 60,000 ms.
-fn ignores_a_request(alloc: Global) -> Option<bool> {
-    let Ok(mut end) = Indexed::new(alloc, 2, None) else {
-        return None;
-    };
-    let is_asked = are_accepted(alloc, &mut end, &[Asking(1_000, 2, Ok((0, 0)))])?;
+/// Whether a request from peer 2 at moment 2,000 does nothing.
+fn ignores(end: &mut Indexed) -> bool {
     let Ok(apdu) = read(READ) else {
-        return None;
+        return false;
     };
-    let Ok(reaction) = end.on(&SETTINGS, 2_000, &peer(2), &apdu) else {
-        return None;
-    };
-    let is_ignored = reaction.sends.is_empty() && reaction.ended.is_empty();
-    Some(is_asked && is_ignored && end.next_due() == 4_000 && expires(&end))
+    match end.on(&SETTINGS, 2_000, &peer(2), &apdu) {
+        Ok(reaction) => reaction.sends.is_empty() && reaction.ended.is_empty(),
+        Err(_) => false,
+    }
+}
+
+/// Whether the transaction of an ask at moment 1,000 takes a request for none of its answers, has its timer set, and expires after 60,000 ms.
+fn waits_for_an_answer(alloc: Global, end: &mut Indexed) -> bool {
+    let is_asked = are_accepted(alloc, end, &[Asking(1_000, 2, Ok((0, 0)))]);
+    is_asked && ignores(end) && end.next_due() == 4_000 && expires(end)
 }
 
 #[test]
-fn a_request_is_no_answer(rt: HostRuntime) {
-    assert!(rt; ignores_a_request(rt.alloc()) == Some(true));
+fn a_request_is_no_answer(rt: HostRuntime) -> Result<(), Fail> {
+    let mut end = Indexed::new(rt.alloc(), 2, None)?;
+    holds(waits_for_an_answer(rt.alloc(), &mut end), "a request")
 }

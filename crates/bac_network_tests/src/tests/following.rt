@@ -1,5 +1,4 @@
 //! Logs that are followed as they grow, on stores of the test's own.
-use super::scene::put;
 use super::*;
 use bac_network::{Fact, World};
 use bac_requester::Ending;
@@ -90,45 +89,39 @@ fn performed_at(log: &[Fact], place: usize) -> Option<(&OwnedRequest, &OwnedRepl
     }
 }
 
-fn put_copy(alloc: Global, store: &Store, stores: &mut Vec<Store>) -> Option<()> {
+fn put_copy(alloc: Global, store: &Store, stores: &mut Vec<Store>) -> bool {
     match store.copy(alloc) {
-        Ok(copy) => put(stores, copy),
-        Err(_) => None,
+        Ok(copy) => stores.push(copy).is_ok(),
+        Err(_) => false,
     }
 }
 
-fn copies_of(alloc: Global, stores: &[Store]) -> Option<Vec<Store>> {
-    let mut copies = Vec::new(alloc);
-    for store in stores {
-        put_copy(alloc, store, &mut copies)?;
+fn put_copies(alloc: Global, from: &[Store], stores: &mut Vec<Store>) -> bool {
+    for store in from {
+        if !put_copy(alloc, store, stores) {
+            return false;
+        }
     }
-    Some(copies)
+    true
 }
 
 /// Makes a store a copy of another one.
-fn replace(alloc: Global, store: &mut Store, with: &Store) -> Option<()> {
-    let Ok(copy) = with.copy(alloc) else {
-        return None;
-    };
-    *store = copy;
-    Some(())
-}
-
-/// A store performs a request with that reply.
-fn performs(
-    alloc: Global,
-    store: &mut Store,
-    request: &OwnedRequest,
-    reply: &OwnedReply,
-) -> Option<()> {
-    match store.perform(alloc, &request.as_request()) {
-        Ok(given) => must(same_reply(reply, &given)),
-        Err(_) => None,
+fn replace(alloc: Global, store: &mut Store, with: &Store) -> bool {
+    match with.copy(alloc) {
+        Ok(copy) => {
+            *store = copy;
+            true
+        }
+        Err(_) => false,
     }
 }
 
-fn must(is: bool) -> Option<()> {
-    if is { Some(()) } else { None }
+/// Whether a store performs a request with that reply.
+fn performs(alloc: Global, store: &mut Store, request: &OwnedRequest, reply: &OwnedReply) -> bool {
+    match store.perform(alloc, &request.as_request()) {
+        Ok(given) => same_reply(reply, &given),
+        Err(_) => false,
+    }
 }
 
 /// Whether those are the stores of the world's first nodes.
@@ -182,35 +175,41 @@ pub(super) struct Followed {
 }
 
 impl Followed {
-    /// Nothing yet, from the stores that a world began with.
-    pub(super) fn from_opening(alloc: Global, world: &World) -> Option<Followed> {
-        let stores = copies_of(alloc, world.opening())?;
-        let mut lives = Vec::new(alloc);
-        lives.resize(stores.len(), 0usize).ok()?;
-        Some(Followed {
+    /// Nothing.
+    pub(super) fn new(alloc: Global) -> Followed {
+        Followed {
             seen: 0,
-            stores,
-            lives,
+            stores: Vec::new(alloc),
+            lives: Vec::new(alloc),
             deeds: Vec::new(alloc),
             counts: Counts::none(),
-        })
+        }
+    }
+
+    /// The stores that a world began with.
+    pub(super) fn opens(&mut self, alloc: Global, world: &World) -> bool {
+        let nodes = world.opening().len();
+        put_copies(alloc, world.opening(), &mut self.stores)
+            && self.lives.resize(nodes, 0usize).is_ok()
     }
 
     pub(super) fn counts(&self) -> Counts {
         self.counts
     }
 
-    /// Each fact that is new in the world's log may stand there, and the stores are then those of the world.
-    pub(super) fn follow(&mut self, alloc: Global, world: &World) -> Option<()> {
+    /// Whether each fact that is new in the world's log may stand there, and the stores are then those of the world.
+    pub(super) fn follows(&mut self, alloc: Global, world: &World) -> bool {
         let log = world.log();
         for place in self.seen..log.len() {
-            self.note(alloc, log, place)?;
+            if !self.notes(alloc, log, place) {
+                return false;
+            }
         }
         self.seen = log.len();
-        must(are_in(world, &self.stores))
+        are_in(world, &self.stores)
     }
 
-    fn note(&mut self, alloc: Global, log: &[Fact], place: usize) -> Option<()> {
+    fn notes(&mut self, alloc: Global, log: &[Fact], place: usize) -> bool {
         match log.get(place) {
             Some(
                 Fact::Asked {
@@ -219,17 +218,17 @@ impl Followed {
                     server,
                     ..
                 },
-            ) => self.asked(place, *number, *client, Some(*server)),
-            Some(Fact::AskedAway { number, client, .. }) => {
-                self.asked(place, *number, *client, None)
-            }
+            ) => self.asks(place, *number, *client, Some(*server)),
+            Some(Fact::AskedAway { number, client, .. }) => self.asks(
+                place, *number, *client, None,
+            ),
             Some(Fact::Performed { number, .. }) => self.performs(alloc, log, place, *number),
             Some(Fact::Ended { number, how }) => self.ends(log, *number, how),
             Some(Fact::Changed { node, change }) => self.changes(alloc, *node, change),
             Some(Fact::Restarted { node, store }) => self.restarts(alloc, *node, store),
             Some(Fact::Served { node, .. }) => self.serves(alloc, log, place, *node),
             Some(Fact::EndedAway { number, how }) => self.ends_away(*number, how),
-            None => None,
+            None => false,
         }
     }
 
@@ -238,119 +237,121 @@ impl Followed {
     }
 
     /// An ask has the next number.
-    fn asked(
-        &mut self,
-        place: usize,
-        number: usize,
-        client: usize,
-        server: Option<usize>,
-    ) -> Option<()> {
-        must(number == self.deeds.len())?;
+    fn asks(&mut self, place: usize, number: usize, client: usize, server: Option<usize>) -> bool {
         let life = self.life(client);
-        self.deeds
-            .push(Deed {
-                client,
-                server,
-                life,
-                asked: place,
-                performed: None,
-                has_ended: false,
-            })
-            .ok()?;
+        let deed = Deed {
+            client,
+            server,
+            life,
+            asked: place,
+            performed: None,
+            has_ended: false,
+        };
         count(&mut self.counts.asked_anew, life > 0);
-        Some(())
+        number == self.deeds.len() && self.deeds.push(deed).is_ok()
     }
 
-    /// An ask is performed for the first time: what was asked, and with the reply of its server's store.
-    fn performs(&mut self, alloc: Global, log: &[Fact], place: usize, number: usize) -> Option<()> {
-        let (server, asked) = self.opens(place, number)?;
-        must(is_asked(log, place, asked))?;
-        self.replies(alloc, log, place, server)?;
+    /// An ask of a node is performed for the first time: what was asked, and with the reply of its server's store.
+    fn performs(&mut self, alloc: Global, log: &[Fact], place: usize, number: usize) -> bool {
+        let Some(deed) = self.opened(place, number) else {
+            return false;
+        };
+        let Some(server) = deed.server else {
+            return false;
+        };
         let is_anew = self.life(server) > 0;
         count(&mut self.counts.performed, true);
         count(&mut self.counts.performed_anew, is_anew);
-        Some(())
+        is_asked(log, place, deed.asked) && self.replies(alloc, log, place, server)
     }
 
-    /// The request of an ask of a node is performed there, for the first time: its server, and where it was asked.
-    fn opens(&mut self, place: usize, number: usize) -> Option<(usize, usize)> {
-        let Some(deed) = self.deeds.get_mut(number) else {
+    /// What a request is of that is performed there, for the first time.
+    fn opened(&mut self, place: usize, number: usize) -> Option<Deed> {
+        let deed = self.deeds.get_mut(number)?;
+        if deed.performed.is_some() {
             return None;
-        };
-        must(deed.performed.is_none())?;
-        deed.performed = Some(place);
-        let asked = deed.asked;
-        match deed.server {
-            Some(server) => Some((server, asked)),
-            None => None,
         }
+        deed.performed = Some(place);
+        Some(*deed)
     }
 
     /// What was performed there was so with the reply of a node's store.
-    fn replies(&mut self, alloc: Global, log: &[Fact], place: usize, node: usize) -> Option<()> {
-        let (request, reply) = performed_at(log, place)?;
-        match self.stores.get_mut(node) {
-            Some(store) => performs(alloc, store, request, reply),
-            None => None,
+    fn replies(&mut self, alloc: Global, log: &[Fact], place: usize, node: usize) -> bool {
+        match (self.stores.get_mut(node), performed_at(log, place)) {
+            (Some(store), Some((request, reply))) => performs(alloc, store, request, reply),
+            _ => false,
         }
     }
 
     /// A request of a stranger is performed: with the reply of the node's store.
-    fn serves(&mut self, alloc: Global, log: &[Fact], place: usize, node: usize) -> Option<()> {
-        self.replies(alloc, log, place, node)?;
+    fn serves(&mut self, alloc: Global, log: &[Fact], place: usize, node: usize) -> bool {
         count(&mut self.counts.served, true);
-        Some(())
+        self.replies(alloc, log, place, node)
     }
 
-    /// An ask ends for the first time, in the life of its client in which it was asked.
-    fn closes(&mut self, number: usize) -> Option<Deed> {
-        let Some(deed) = self.deeds.get_mut(number) else {
+    /// What ends for the first time.
+    fn closed(&mut self, number: usize) -> Option<Deed> {
+        let deed = self.deeds.get_mut(number)?;
+        if deed.has_ended {
             return None;
-        };
-        must(!deed.has_ended)?;
+        }
         deed.has_ended = true;
-        let deed = *deed;
-        must(deed.life == self.life(deed.client))?;
-        Some(deed)
+        Some(*deed)
+    }
+
+    /// The same, in the life of its client in which it was asked.
+    fn closed_in_life(&mut self, number: usize) -> Option<Deed> {
+        let deed = self.closed(number)?;
+        if deed.life == self.life(deed.client) {
+            Some(deed)
+        } else {
+            None
+        }
     }
 
     /// An ask of a stranger ends.
-    fn ends_away(&mut self, number: usize, how: &Ending) -> Option<()> {
-        let deed = self.closes(number)?;
-        must(deed.server.is_none())?;
+    fn ends_away(&mut self, number: usize, how: &Ending) -> bool {
         count(&mut self.counts.answered_away, is_answered(how));
-        Some(())
+        match self.closed_in_life(number) {
+            Some(deed) => deed.server.is_none(),
+            None => false,
+        }
     }
 
     /// An ask of a node ends; where it is answered, with the reply with which it was performed.
-    fn ends(&mut self, log: &[Fact], number: usize, how: &Ending) -> Option<()> {
-        let deed = self.closes(number)?;
-        must(deed.server.is_some() && is_ended(log, deed.performed, how))?;
+    fn ends(&mut self, log: &[Fact], number: usize, how: &Ending) -> bool {
         count(&mut self.counts.answered, is_answered(how));
-        Some(())
+        match self.closed_in_life(number) {
+            Some(deed) => deed.server.is_some() && is_ended(log, deed.performed, how),
+            None => false,
+        }
     }
 
-    fn changes(&mut self, alloc: Global, node: usize, change: &Change) -> Option<()> {
-        let Some(store) = self.stores.get_mut(node) else {
-            return None;
-        };
-        must(store.change(alloc, change).is_ok())?;
+    fn changes(&mut self, alloc: Global, node: usize, change: &Change) -> bool {
         count(&mut self.counts.changes, true);
-        Some(())
+        match self.stores.get_mut(node) {
+            Some(store) => store.change(alloc, change).is_ok(),
+            None => false,
+        }
+    }
+
+    /// The store of a node is another one from then on.
+    fn begins_with(&mut self, alloc: Global, node: usize, with: &Store) -> bool {
+        match self.stores.get_mut(node) {
+            Some(store) => replace(alloc, store, with),
+            None => false,
+        }
     }
 
     /// A node restarts, with the store that it has or another one.
-    fn restarts(&mut self, alloc: Global, node: usize, with: &Option<Store>) -> Option<()> {
-        let Some(store) = self.stores.get_mut(node) else {
-            return None;
-        };
-        if let Some(with) = with {
-            replace(alloc, store, with)?;
-        }
+    fn restarts(&mut self, alloc: Global, node: usize, with: &Option<Store>) -> bool {
+        count(&mut self.counts.restarts, true);
         if let Some(life) = self.lives.get_mut(node) {
             count(life, true);
         }
-        count(&mut self.counts.restarts, true);
-        Some(())
+        match with {
+            Some(with) => self.begins_with(alloc, node, with),
+            None => true,
+        }
     }
 }

@@ -52,7 +52,7 @@ fn tickets_in_a_tick(node: &Node)
 }
 
 fn are_lawful(alloc: Global) -> Result<(), Fail> {
-    let node = limits::house_node(alloc, 1)?;
+    let node = nodes::house_node(alloc, 1)?;
     tickets_after_an_ask(&node);
     replies_after_a_datagram(&node);
     tickets_in_a_tick(&node);

@@ -2,23 +2,13 @@
 //! schedules that are made up from a number, and send the same datagrams at the same moments.
 //!
 //! Sometimes both stand still so long that a ticket which is sent again then ends before its timer is due, or an entry of a reply table does.
-use super::calls::step;
 use super::chance::Chance;
-use super::generated::{change, restart};
-use super::scene::{limits_of, request_of};
+use super::schedules::{ask_any, change, deliver, restart};
+use super::worlds::{Went, happens, small_world, steps};
 use super::*;
-use bac_network::{Event, Fact, World, WorldFault};
+use bac_network::{Event, Fact, World};
 use bac_requester::Ending;
-use bac_rows::octets_of;
-
-/// What nodes ask, in words.
-const REQUESTS: &[&str] = &[
-    "read 0:5 85",
-    "append 10:1 {100*AB}",
-    "get 10:1 0 200",
-    "write 2:1 28 7564{100*00}",
-    "read 2:1 28",
-];
+use std::fmt::Write;
 
 /// What comes from a link of no node.
 const NOISE: &[&str] = &[
@@ -44,13 +34,6 @@ enum Driver {
     Ticks,
 }
 
-fn happens(world: &mut World, event: &Event) -> Option<()> {
-    match step(world, event) {
-        Ok(_) | Err(WorldFault::BadChange(_)) => Some(()),
-        Err(_) => None,
-    }
-}
-
 fn is_due(world: &World, node: usize) -> bool {
     match world.nodes().get(node) {
         Some(node) => matches!(node.next_due(), Some(due) if due <= world.now()),
@@ -69,99 +52,98 @@ fn next_due(world: &World) -> u64 {
     first
 }
 
-fn does_what_is_due(world: &mut World, node: usize) -> Option<()> {
-    happens(world, &Event::Tick { node })
+/// A node does what is due, if its driver has it do so.
+fn settles(world: &mut World, driver: Driver, node: usize) -> bool {
+    let is_told = matches!(driver, Driver::Ticks) || is_due(world, node);
+    !is_told || steps(world, &Event::Tick { node })
 }
 
 /// Nodes do what is due.
-fn settle(world: &mut World, driver: Driver) -> Option<()> {
-    for node in 0..world.nodes().len() {
-        if matches!(driver, Driver::Ticks) || is_due(world, node) {
-            does_what_is_due(world, node)?;
-        }
-    }
-    Some(())
+fn all_settle(world: &mut World, driver: Driver) -> bool {
+    settles(world, driver, 0) && settles(world, driver, 1) && settles(world, driver, 2)
 }
 
-/// An event happens, and then nodes do what is due.
-fn goes_on(world: &mut World, driver: Driver, event: &Event) -> Option<()> {
-    happens(world, event)?;
-    settle(world, driver)
-}
-
-fn passes(world: &mut World, driver: Driver, by: u64) -> Option<()> {
-    goes_on(world, driver, &Event::Advance { by })
+fn passes(world: &mut World, driver: Driver, by: u64) -> bool {
+    steps(world, &Event::Advance { by }) && all_settle(world, driver)
 }
 
 /// So many milliseconds pass, one after the other.
-fn tick(world: &mut World, milliseconds: u64) -> Option<()> {
+fn ticks(world: &mut World, milliseconds: u64) -> bool {
     for _ in 0..milliseconds {
-        passes(world, Driver::Ticks, 1)?;
+        if !passes(world, Driver::Ticks, 1) {
+            return false;
+        }
     }
-    Some(())
+    true
 }
 
 /// The same, in one sleep after the other: each ends where something is due, and the last one where all have passed.
-fn sleep(world: &mut World, milliseconds: u64) -> Option<()> {
+fn sleeps(world: &mut World, milliseconds: u64) -> bool {
     let end = world.now().saturating_add(milliseconds);
     for _ in 0..milliseconds {
         let by = next_due(world).min(end).saturating_sub(world.now());
-        passes(world, Driver::Sleeps, by)?;
+        if !passes(world, Driver::Sleeps, by) {
+            return false;
+        }
         if world.now() == end {
-            return Some(());
+            return true;
         }
     }
-    None
+    false
 }
 
-/// A world, once for each driver.
+/// Something comes from a link of no node.
+fn noise(line: &mut String, chance: &mut Chance) -> bool {
+    let node = chance.below(3);
+    let digits = NOISE.get(chance.below(NOISE.len())).unwrap_or(&"");
+    write!(line, "noise {node} {digits}").is_ok()
+}
+
+/// Both stand still.
+fn pause(line: &mut String, chance: &mut Chance) -> bool {
+    let least = PAUSES.get(chance.below(PAUSES.len())).copied().unwrap_or(0);
+    let more = chance.below(900) as u64;
+    write!(line, "advance {}", least.saturating_add(more)).is_ok()
+}
+
+/// A line happens in a world, and then nodes do what is due.
+fn goes_on(alloc: Global, world: &mut World, driver: Driver, line: &str) -> bool {
+    happens(alloc, world, line) != Went::Wrong && all_settle(world, driver)
+}
+
+/// A world, once for each driver, and what happens next.
 #[derive(Drop)]
 struct Drivers {
-    sleeps: World,
-    ticks: World,
+    sleeping: World,
+    ticking: World,
+    line: String,
 }
 
 impl Drivers {
-    fn new(alloc: Global) -> Option<Drivers> {
-        Some(Drivers {
-            sleeps: SMALL_ONES.world(alloc)?,
-            ticks: SMALL_ONES.world(alloc)?,
-        })
-    }
-
-    fn go_on(&mut self, event: &Event) -> Option<()> {
-        goes_on(&mut self.sleeps, Driver::Sleeps, event)?;
-        goes_on(&mut self.ticks, Driver::Ticks, event)
-    }
-
-    fn pass(&mut self, milliseconds: u64) -> Option<()> {
-        sleep(&mut self.sleeps, milliseconds)?;
-        tick(&mut self.ticks, milliseconds)
-    }
-
-    /// One node asks another one, or itself, which is refused.
-    fn ask(&mut self, alloc: Global, chance: &mut Chance) -> Option<()> {
-        let words = REQUESTS.get(chance.below(REQUESTS.len())).unwrap_or(&"");
-        let event = Event::Ask {
-            client: chance.below(3),
-            server: chance.below(3),
-            limits: limits_of(alloc, "0270")?,
-            request: request_of(alloc, words)?,
-        };
-        self.go_on(&event)
-    }
-
-    /// One of the last copies comes.
-    fn deliver(&mut self, chance: &mut Chance) -> Option<()> {
-        let copies = self.sleeps.copies().len();
-        match copies.checked_sub(chance.below(6).saturating_add(1)) {
-            Some(number) => self.go_on(&Event::Deliver { number }),
-            None => Some(()),
+    /// What happens at both before any time passes; false where it is nothing.
+    fn makes_line(&mut self, chance: &mut Chance, kind: usize) -> bool {
+        self.line.clear();
+        match kind {
+            0..=11 => ask_any(&mut self.line, chance),
+            17..=19 => change(&mut self.line, chance),
+            20..=22 => noise(&mut self.line, chance),
+            23 => restart(&mut self.line, chance),
+            24 | 25 => pause(&mut self.line, chance),
+            _ => deliver(&mut self.line, chance, self.sleeping.copies().len(), 6),
         }
     }
 
+    fn go_on(&mut self, alloc: Global) -> bool {
+        goes_on(alloc, &mut self.sleeping, Driver::Sleeps, &self.line)
+            && goes_on(alloc, &mut self.ticking, Driver::Ticks, &self.line)
+    }
+
+    fn pass(&mut self, milliseconds: u64) -> bool {
+        sleeps(&mut self.sleeping, milliseconds) && ticks(&mut self.ticking, milliseconds)
+    }
+
     /// Some time passes: mostly little, and at most 3,100 milliseconds.
-    fn wait(&mut self, chance: &mut Chance) -> Option<()> {
+    fn wait(&mut self, chance: &mut Chance) -> bool {
         let most = match chance.below(4) {
             0 | 1 => 10,
             2 => 2_100,
@@ -171,68 +153,34 @@ impl Drivers {
         self.pass(more.saturating_add(1))
     }
 
-    /// Something comes from a link of no node.
-    fn hear(&mut self, alloc: Global, chance: &mut Chance) -> Option<()> {
-        let node = chance.below(3);
-        let digits = NOISE.get(chance.below(NOISE.len())).unwrap_or(&"");
-        let octets = octets_of(alloc, digits).ok()?;
-        let from = link(9);
-        self.go_on(&Event::Noise { node, from, octets })
-    }
-
-    fn change(&mut self, alloc: Global, chance: &mut Chance) -> Option<()> {
-        let event = change(alloc, chance)?;
-        self.go_on(&event)
-    }
-
-    fn restart(&mut self, alloc: Global, chance: &mut Chance) -> Option<()> {
-        let event = restart(alloc, chance)?;
-        self.go_on(&event)
-    }
-
-    /// Both stand still.
-    fn pause(&mut self, chance: &mut Chance) -> Option<()> {
-        let least = PAUSES.get(chance.below(PAUSES.len())).copied().unwrap_or(0);
-        let more = chance.below(900) as u64;
-        let by = least.saturating_add(more);
-        self.go_on(&Event::Advance { by })
-    }
-
-    fn follow(&mut self, alloc: Global, chance: &mut Chance) -> Option<()> {
+    fn follow(&mut self, alloc: Global, chance: &mut Chance) -> bool {
         match chance.below(64) {
-            0..=11 => self.ask(alloc, chance),
             12..=16 => self.wait(chance),
-            17..=19 => self.change(alloc, chance),
-            20..=22 => self.hear(alloc, chance),
-            23 => self.restart(alloc, chance),
-            24 | 25 => self.pause(chance),
-            _ => self.deliver(chance),
+            kind => self.makes_line(chance, kind) && self.go_on(alloc),
         }
     }
 
     /// Whether as many datagrams were sent and as much was logged.
     fn are_alike(&self) -> bool {
-        self.sleeps.copies().len() == self.ticks.copies().len()
-            && self.sleeps.log().len() == self.ticks.log().len()
+        self.sleeping.copies().len() == self.ticking.copies().len()
+            && self.sleeping.log().len() == self.ticking.log().len()
     }
 
     /// The same, and nothing differs once all nodes know the same latest moment.
-    fn are_same(&mut self) -> Option<bool> {
-        let are_alike = self.are_alike();
-        settle(&mut self.sleeps, Driver::Ticks)?;
-        Some(are_alike && self.sleeps.same(&self.ticks))
+    fn are_same(&mut self) -> bool {
+        self.are_alike()
+            && all_settle(&mut self.sleeping, Driver::Ticks)
+            && self.sleeping.same(&self.ticking)
     }
 
     /// Both go by a schedule, and then all is sent again until it is given up; whether nothing differs.
-    fn go(&mut self, alloc: Global, chance: &mut Chance) -> Option<bool> {
+    fn go(&mut self, alloc: Global, chance: &mut Chance) -> bool {
         for _ in 0..150u8 {
-            self.follow(alloc, chance)?;
-            if !self.are_alike() {
-                return None;
+            if !self.follow(alloc, chance) || !self.are_alike() {
+                return false;
             }
         }
-        self.pass(12_500)?;
-        self.are_same()
+        self.pass(12_500) && self.are_same()
     }
 }
 
@@ -253,11 +201,26 @@ fn counted(world: &World) -> (usize, usize) {
 }
 
 /// Both drivers go by a schedule; what is counted then, None where they differ.
-fn gone_by_both(alloc: Global, seed: u64) -> Option<(usize, usize)> {
-    let mut drivers = Drivers::new(alloc)?;
-    match drivers.go(alloc, &mut Chance::of(seed)) {
-        Some(true) => Some(counted(&drivers.ticks)),
-        _ => None,
+fn gone_by_both(alloc: Global, sleeping: World, seed: u64) -> Option<(usize, usize)> {
+    let Some(ticking) = small_world(alloc) else {
+        return None;
+    };
+    let mut drivers = Drivers {
+        sleeping,
+        ticking,
+        line: String::new(alloc),
+    };
+    if drivers.go(alloc, &mut Chance::of(seed)) {
+        Some(counted(&drivers.ticking))
+    } else {
+        None
+    }
+}
+
+fn gone_by(alloc: Global, seed: u64) -> Option<(usize, usize)> {
+    match small_world(alloc) {
+        Some(world) => gone_by_both(alloc, world, seed),
+        None => None,
     }
 }
 
@@ -266,16 +229,13 @@ fn sleeping_and_ticking_send_the_same(rt: HostRuntime) -> Result<(), Fail> {
     let mut sent = 0usize;
     let mut expired = 0usize;
     for seed in 0..SEEDS {
-        match gone_by_both(rt.alloc(), seed) {
+        match gone_by(rt.alloc(), seed) {
             Some(counts) => {
                 sent = sent.saturating_add(counts.0);
                 expired = expired.saturating_add(counts.1);
             }
-            _ => return Err(Fail::from("another datagram")),
+            None => return Err(Fail::from("another datagram")),
         }
     }
-    if sent < 300 || expired < 3 {
-        return Err(Fail::from("too little happened"));
-    }
-    Ok(())
+    holds(sent >= 300 && expired >= 3, "too little happened")
 }

@@ -1,5 +1,5 @@
 //! A node takes turns on a link that tells its calls, at the moments of a clock that tells its own.
-use super::limits::house_node;
+use super::nodes::house_node;
 use super::*;
 use crate::noted_call::NotedCall;
 use bac_driver::{BoundNode, Link, RunLimit, WaitLimit};

@@ -1,7 +1,48 @@
 //! Commands on the files, sockets and the clock of this machine.
-use super::*;
-use bac_command_line::System;
+use bac_command_line::{System, run};
 use bac_driver::{Clock, MonotonicClock, UdpLink};
+use bac_rows::holds;
+use std::alloc::Global;
+use std::test::Fail;
+
+/// What is printed, what is complained of, and the exit status.
+type Ending = (&'static str, &'static str, u8);
+
+/// What a command line printed and complained of, and its exit status.
+#[derive(Drop)]
+struct Printed {
+    out: Vec<u8>,
+    err: Vec<u8>,
+    code: u8,
+}
+
+impl Printed {
+    fn is(&self, (out, err, code): &Ending) -> bool {
+        self.code == *code
+            && self.out.as_slice() == out.as_bytes()
+            && self.err.as_slice() == err.as_bytes()
+    }
+}
+
+/// The words of a command line, after the name of the program.
+fn words_of(alloc: Global, line: &str) -> Result<Vec<String>, Fail> {
+    let mut words = vec![in alloc; String::from_str(alloc, "bac")?]?;
+    for word in line.split(' ') {
+        words.push(String::from_str(alloc, word)?)?;
+    }
+    Ok(words)
+}
+
+/// What comes of a command line on this machine.
+fn run_line(rt: &HostRuntime, line: &str) -> Result<Printed, Fail> {
+    let alloc = rt.alloc();
+    let words = words_of(alloc, line)?;
+    let system = System::new(rt, false);
+    let mut out = Vec::new(alloc);
+    let mut err = Vec::new(alloc);
+    let code = run(alloc, &words, &system, &system, &mut out, &mut err).code();
+    Ok(Printed { out, err, code })
+}
 
 /// A port that is taken while the commands run.
 const TAKEN: u16 = 47_897;
@@ -54,13 +95,8 @@ const ROWS: &[(&str, Ending)] = &[
 #[test]
 fn runs_on_this_machine(rt: HostRuntime) -> Result<(), Fail> {
     let _taken = UdpLink::bind(&rt, TAKEN)?;
-    let system = System::new(&rt, false);
     for (line, ending) in ROWS {
-        let words = words_of(rt.alloc(), line)?;
-        holds(
-            run_words(rt.alloc(), &words, &system, &system).is(ending),
-            line,
-        )?;
+        holds(run_line(&rt, line)?.is(ending), line)?;
     }
     Ok(())
 }
@@ -78,10 +114,8 @@ fn moment_of(err: &[u8]) -> Option<u64> {
 /// A server that restarts takes new requests 65,001 ms after it began to listen, which it did while the command ran: its clock begins at 0 with the command.
 #[test]
 fn serves_from_a_moment(rt: HostRuntime) -> Result<(), Fail> {
-    let words = words_of(rt.alloc(), "serve --port 47898 --seconds 1 --restarted")?;
-    let system = System::new(&rt, false);
     let mut clock = MonotonicClock::new(&rt)?;
-    let printed = run_words(rt.alloc(), &words, &system, &system);
+    let printed = run_line(&rt, "serve --port 47898 --seconds 1 --restarted")?;
     let took = clock.now();
     let Some(moment) = moment_of(&printed.err) else {
         return Err(Fail::from("no moment"));

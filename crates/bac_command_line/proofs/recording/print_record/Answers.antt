@@ -1,7 +1,7 @@
 -- The record was printed, and then flushed.
 use Rattle.bac_driver.specs.Views.{question_view}
 use Rattle.bac_command_line.proofs.Recorded.{record_printed}
-use Rattle.bac_command_line.specs.Recording.{asker_view}
+use Rattle.bac_lists.specs.QuestionLines.{asker_view}
 use Rattle.bac_command_line.proofs.recording.print_record.Goals as goal
 
 pub returns : goal.returns

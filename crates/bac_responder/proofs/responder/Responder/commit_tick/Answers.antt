@@ -1,7 +1,7 @@
 -- All entries have gone on, those that are not live are gone, and the others keep no more.
 use Rattle.std.proofs.Common.{ap, arith, subst, sym}
 use Rattle.bac_transaction.specs.Tables.{AreLive}
-use Rattle.bac_transaction.specs.Views.{settings_view}
+use Rattle.bac_transaction.specs.Views.{settings_view, slots_view}
 use Rattle.bac_transaction.proofs.ServerTables.{ticks_leave_live}
 use Rattle.bac_responder.specs.Kept.{kept_octets}
 use Rattle.bac_responder.specs.Views.{end_of}
@@ -33,8 +33,11 @@ returns-clause-kept g c =
     rw (← c.self.view_is) (omega (arith, left, less))
 
 pub invariant_of-self : goal.invariant_of-self
-invariant_of-self g c = (
-  c.remove_dead.ensures.aged,
-  ticked_within c.args.settings.now c.args.now (g.S.SlotTable.slots c.self.inside.aged.table) (g.S.SlotTable.slots c.tick.new.aged.table)
-      (g.S.SlotTable.slots c.remove_dead.new.aged.table) c.self.inside.kept c.tick.ensures.slots c.remove_dead.ensures.slots c.self.invariant.1,
-)
+invariant_of-self g c =
+    let old = g.S.SlotTable.slots c.self.inside.aged.table in
+    let new = g.S.SlotTable.slots c.remove_dead.new.aged.table in (
+      c.remove_dead.ensures.aged,
+      c.without-self-inside.ensures (kept_octets (slots_view old)) (kept_octets (slots_view new)) c.self.invariant.1
+          (ticked_within c.args.settings.now c.args.now old (g.S.SlotTable.slots c.tick.new.aged.table) new c.given_back-given_back.result
+          c.tick.ensures.slots c.remove_dead.ensures.slots c.given_back-given_back.ensures),
+    )

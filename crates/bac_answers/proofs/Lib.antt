@@ -1,0 +1,4 @@
+pub mod Logs
+pub mod Answers
+pub mod Moments
+pub mod Computed

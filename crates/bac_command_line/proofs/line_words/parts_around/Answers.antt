@@ -1,6 +1,0 @@
-use Rattle.std.proofs.Common.{◌+◌, arith}
-use Rattle.std.proofs.lemmas.List.{take_rest, length-drop}
-use Rattle.bac_command_line.proofs.line_words.parts_around.Goals as goal
-
-pub returns-clause-rest : goal.returns-clause-rest
-returns-clause-rest c = take_rest c.args.text.now (c.args.end + 1)

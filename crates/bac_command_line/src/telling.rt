@@ -1,0 +1,28 @@
+//! Telling of the program: its help, its manual, its version and its completion.
+ghost use Rattle.bac_command_line.specs.Tasks.{IsTold};
+
+use bac_text::{Status, output_failed};
+use bac_words::Telling;
+use std::io::Write;
+
+/// Tells of the program. A name of no command: `no command`, and that name, on `err`.
+#[tactic(auto, using(crate::proofs::Told::failed_told))]
+pub(crate) fn tell<O: Write, E: Write>(telling: Telling<'_>, out: &mut O, err: &mut E) -> Status
+    ensures { IsTold result }
+{
+    match telling.write(out) {
+        Ok(true) => match out.flush() {
+            Ok(()) => Status::Done,
+            Err(error) => output_failed(err, &error),
+        },
+        Ok(false) => {
+            // if that fails too, only the status is left
+            let _ = err.writeln("no command");
+            if let Telling::Help(Some(name)) = telling {
+                let _ = writeln!(err, "{name}: `bac help` lists the commands");
+            }
+            Status::CommandLine
+        }
+        Err(error) => output_failed(err, &error),
+    }
+}

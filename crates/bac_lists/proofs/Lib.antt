@@ -1,0 +1,4 @@
+pub mod Separated
+pub mod ReadLines
+pub mod LineWords
+mod LineNames

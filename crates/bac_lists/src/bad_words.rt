@@ -1,0 +1,127 @@
+//! What is printed of words that are no request.
+ghost use Rattle.bac_text.specs.Statuses.{IsStop};
+
+use bac_commands::Style;
+use bac_service_text::bad_word;
+use bac_text::{Status, no_memory};
+use std::alloc::{AllocError, Global};
+use std::io;
+use std::io::Write;
+
+/// Why words are refused of which each alone is good, where the answer is to be printed so.
+fn whole_reason(style: Style) -> &'static str {
+    match style {
+        Style::Octets => "--raw writes the octets of a file: a `get` wanted",
+        Style::Numbers | Style::Words => "the octets are too many for a file",
+    }
+}
+
+/// What stands between `bad words` and which is bad, where the answer is to be printed so: in words, both are on one line.
+fn separator_of(style: Style) -> &'static str {
+    match style {
+        Style::Words => ": ",
+        Style::Numbers | Style::Octets => "\n",
+    }
+}
+
+/// `bad words`, and which is bad and what was wanted.
+fn bad_words_text(alloc: Global, style: Style, words: &[&[u8]]) -> Result<Vec<u8>, AllocError> {
+    let mut text = Vec::from_slice(alloc, b"bad words")?;
+    match bad_word(alloc, words)? {
+        Some(bad) => {
+            let reason = bad.text(alloc)?;
+            text.extend_from_slice(separator_of(style).as_bytes())?;
+            text.extend_from_slice(reason.as_slice())?;
+        }
+        None => {
+            text.push(b'\n')?;
+            text.extend_from_slice(whole_reason(style).as_bytes())?;
+        }
+    }
+    text.push(b'\n')?;
+    Ok(text)
+}
+
+/// Complains of words that are no request, or none that can be printed so: `bad words`, and which is bad and what was wanted, behind that in words, otherwise
+/// on a line of its own. An Err says that memory was refused.
+pub fn print_bad_words<E: Write>(
+    alloc: Global,
+    style: Style,
+    words: &[&str],
+    err: &mut E,
+) -> Result<(), AllocError> {
+    let mut octets = Vec::new(alloc);
+    for word in words {
+        octets.push(word.as_bytes())?;
+    }
+    let text = bad_words_text(alloc, style, &octets)?;
+    // if that fails too, only the status is left
+    let _ = err.write_all(&text);
+    Ok(())
+}
+
+/// Complains of the words of the line with that number, which are no request: which is bad and what was wanted.
+pub(crate) fn print_bad_line<E: Write>(
+    alloc: Global,
+    number: u64,
+    words: &[&[u8]],
+    err: &mut E,
+) -> Status
+    ensures { IsStop result }
+{
+    let Ok(text) = bad_words_text(alloc, Style::Words, words) else {
+        return no_memory(err);
+    };
+    // if that fails too, only the status is left
+    let _ = write!(err, "line {number}: ");
+    let _ = err.write_all(&text);
+    Status::CommandLine
+}
+
+/// Complains of the line with that number, in which a text in quotes does not end as it should.
+pub(crate) fn print_open_quote<E: Write>(number: u64, err: &mut E) -> Status
+    ensures { IsStop result }
+{
+    // if that fails too, only the status is left
+    let _ = writeln!(
+        err,
+        "line {number}: bad words: a text in quotes ends with a quote, and a blank or the end of the line after it"
+    );
+    Status::CommandLine
+}
+
+/// Complains of the line with that number, whose first word ends with a colon as a name does, and is none.
+pub(crate) fn print_bad_name<E: Write>(number: u64, word: &[u8], err: &mut E) -> Status
+    ensures { IsStop result }
+{
+    // if that fails too, only the status is left
+    let _ = print_no_name(number, word, err);
+    Status::CommandLine
+}
+
+fn print_no_name<E: Write>(number: u64, word: &[u8], err: &mut E) -> io::Result<()> {
+    write!(err, "line {number}: bad name: \"")?;
+    err.write_all(word)?;
+    writeln!(err, "\" is no NAME: of letters, digits, `_`, `-` and `.`")
+}
+
+/// Complains of the line with that number, which is asked of no peer: its first word is none, or it names none.
+pub(crate) fn print_no_peer<E: Write>(number: u64, words: &[&[u8]], err: &mut E) -> Status
+    ensures { IsStop result }
+{
+    // if that fails too, only the status is left
+    let _ = match words.first() {
+        Some(word) if word.first() == Some(&b'@') => print_bad_address(number, *word, err),
+        _ => writeln!(
+            err,
+            "line {number}: no address: @A.B.C.D[:P][/NET:MAC] before the request wanted, or --to"
+        ),
+    };
+    Status::CommandLine
+}
+
+fn print_bad_address<E: Write>(number: u64, word: &[u8], err: &mut E) -> io::Result<()> {
+    write!(err, "line {number}: bad address: \"")?;
+    err.write_all(word)?;
+    writeln!(err, "\" is no @A.B.C.D[:P][/NET:MAC]")
+}

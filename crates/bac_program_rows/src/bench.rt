@@ -1,0 +1,254 @@
+//! Machines in memory: links behind which a house answers, or others do, and clocks that go on, stand or go back.
+ghost use Rattle.std.specs.Prelude.{◌≡◌, ◌≤◌, length, is_ok, if◌then◌else◌, None, ⊤};
+ghost use Rattle.bac_driver.specs.Calls.{one_more};
+
+use crate::behind::Behind;
+use crate::databases::database_at;
+use crate::files::copy_front;
+use crate::scene::{BenchClock, Scene, Setup};
+use bac_command_line::{ClientPair, Machine};
+use bac_driver::{Link, LinkFault};
+use bac_keep_file::OpenFault;
+use sqlite_trees::memory::MemStore;
+use std::alloc::Global;
+use std::cell::Cell;
+use std::io;
+
+/// Who sent the requests that wait.
+const CLIENT: [u8; 6] = [127, 0, 0, 1, 0xBA, 0xC1];
+
+/// A read of the present-value of analog-input 5, with this invoke ID.
+fn request(invoke_id: u8) -> [u8; 17] {
+    [
+        0x81, 0x0A, 0, 17, 1, 4, 0, 5, invoke_id, 12, 0x0C, 0, 0, 0, 5, 0x19, 85,
+    ]
+}
+
+/// A datagram that waits: who sent it, and its octets.
+type Waiting = ([u8; 6], Vec<u8>);
+
+/// A link with that behind it.
+#[derive(Drop)]
+pub(crate) struct BenchLink<'a> {
+    alloc: Global,
+    behind: Behind<'a>,
+    /// How many requests still wait.
+    requests: u8,
+    /// How many datagrams came.
+    came: usize,
+    /// How many were sent.
+    sent: usize,
+    /// The answers that wait: where the houses answer backwards all of them, otherwise the one to what was sent last.
+    answers: Vec<Waiting>,
+    failures: u64,
+}
+
+impl BenchLink<'_> {
+    /// An answer waits. Out of memory is a failure.
+    fn keep(&mut self, from: [u8; 6], answer: Vec<u8>) -> Result<(), LinkFault>
+        ensures { self.new.failures ≡ (if is_ok result then self.old.failures else one_more self.old.failures) }
+    {
+        if !self.behind.keeps_all() {
+            self.answers.clear();
+        }
+        match self.answers.push((from, answer)) {
+            Ok(()) => Ok(()),
+            Err(_) => Err(self.failed()),
+        }
+    }
+
+    fn failed(&mut self) -> LinkFault
+        ensures { self.new.failures ≡ one_more self.old.failures }
+    {
+        self.failures = self.failures.saturating_add(1);
+        LinkFault
+    }
+}
+
+fn hand_over(waiting: Waiting, buffer: &mut [u8]) -> ([u8; 6], usize)
+    ensures { result.1 ≤ length buffer.new }
+{
+    let len = copy_front(&waiting.1, buffer);
+    (waiting.0, len)
+}
+
+impl Link for BenchLink<'_> {
+    ghost failures = { λ l. l.failures };
+
+    ghost calls = { λ _. None };
+
+    fn failures(&self) -> u64 {
+        self.failures
+    }
+
+    fn send(&mut self, to: [u8; 6], octets: &[u8]) -> Result<(), LinkFault> {
+        if matches!(self.behind, Behind::Unsent(_)) {
+            return Err(self.failed());
+        }
+        let number = self.sent;
+        self.sent = number.saturating_add(1);
+        match self.behind.answer(self.alloc, to, octets, number) {
+            Some(answer) => self.keep(to, answer),
+            None => Ok(()),
+        }
+    }
+
+    fn recv(
+        &mut self,
+        buffer: &mut [u8],
+        _wait: u64,
+    ) -> Result<Option<([u8; 6], usize)>, LinkFault> {
+        if self.requests > 0 {
+            self.requests -= 1;
+            let len = copy_front(&request(self.requests), buffer);
+            return Ok(Some((CLIENT, len)));
+        }
+        if let Some(datagram) = self.behind.datagram(self.alloc, self.came) {
+            self.came = self.came.saturating_add(1);
+            return Ok(Some(hand_over(datagram, buffer)));
+        }
+        match self.answers.pop() {
+            Some(waiting) => Ok(Some(hand_over(waiting, buffer))),
+            None if matches!(self.behind, Behind::Deaf) => Err(self.failed()),
+            None => Ok(None),
+        }
+    }
+}
+
+/// An IPv4 address and a port.
+pub(crate) type Bound = ([u8; 4], u16);
+
+/// The first port at which clients begin, of machines of which some are taken.
+const FIRST: u16 = 40_000;
+
+/// A machine of a scene. Its first free port is 50,001.
+#[derive(Drop)]
+pub(crate) struct BenchMachine<'a> {
+    alloc: Global,
+    setup: Setup<'a>,
+    scene: Scene<'a>,
+    last_free: Cell<u16>,
+    /// The port of the next client, where some are taken.
+    next: Cell<u16>,
+    /// Where its last link is bound.
+    pub bound: Cell<Option<Bound>>,
+}
+
+impl<'a> BenchMachine<'a> {
+    pub(crate) fn new(alloc: Global, setup: Setup<'a>, scene: Scene<'a>) -> BenchMachine<'a> {
+        BenchMachine {
+            alloc,
+            setup,
+            scene,
+            last_free: Cell::new(50_000),
+            next: Cell::new(FIRST),
+            bound: Cell::new(None),
+        }
+    }
+
+    /// That port, or where it is 0 the next free one.
+    fn port(&self, port: u16) -> u16 {
+        if port == 0 {
+            self.last_free.set(self.last_free.get().saturating_add(1));
+            self.last_free.get()
+        } else {
+            port
+        }
+    }
+
+    /// Whether the system refuses the next link, at that port.
+    fn has_no_link(&self, port: u16) -> bool {
+        let behind = self.scene.behind;
+        let taken = match self.scene.taken {
+            Some(taken) => FIRST.saturating_add(taken),
+            None => 0,
+        };
+        matches!(behind, Behind::Nothing)
+            || (behind.has_one_link() && self.last_free.get() > 50_000)
+            || port < taken
+    }
+
+    fn link(&self) -> BenchLink<'a> {
+        let requests = match self.scene.behind {
+            Behind::Requests(count) => count,
+            _ => 0,
+        };
+        BenchLink {
+            alloc: self.alloc,
+            behind: self.scene.behind,
+            requests,
+            came: 0,
+            sent: 0,
+            answers: Vec::new(self.alloc),
+            failures: 0,
+        }
+    }
+}
+
+impl<'a> Machine for BenchMachine<'a> {
+    type Link = BenchLink<'a>;
+
+    type Timer = BenchClock;
+
+    type Database = MemStore;
+
+    ghost is_bound = { λ _ _ _ _. ⊤ };
+
+    ghost is_made = { λ _. ⊤ };
+
+    ghost is_database = { λ _ _ _. ⊤ };
+
+    fn bind(&self, host: [u8; 4], port: u16) -> io::Result<(BenchLink<'a>, [u8; 6])> {
+        if self.has_no_link(port) {
+            return Err(io::Error::from(io::ErrorKind::AddrInUse));
+        }
+        let port = self.port(port);
+        self.bound.set(Some((host, port)));
+        let [high, low] = port.to_be_bytes();
+        let [a, b, c, d] = host;
+        Ok((self.link(), [a, b, c, d, high, low]))
+    }
+
+    fn timer(&self) -> Option<BenchClock> {
+        self.scene.clock
+    }
+
+    /// Any free port, and the moment at which the clock begins, up to 255; where there is no clock, 0. Where ports are taken, one after the other, and 7.
+    fn pair(&self) -> Option<ClientPair> {
+        if self.scene.taken.is_some() {
+            let port = self.next.get();
+            self.next.set(port.saturating_add(1));
+            return Some(ClientPair { port, first_id: 7 });
+        }
+        let first_id = match self.scene.clock {
+            Some(clock) => clock.moment.to_le_bytes()[0],
+            None => 0,
+        };
+        Some(ClientPair { port: 0, first_id })
+    }
+
+    /// 2026-11-27, 7:10 in UTC; none where there is no clock.
+    fn time_of_day(&self) -> Option<u64> {
+        match self.scene.clock {
+            Some(_) => Some(1_795_763_400_000),
+            None => None,
+        }
+    }
+
+    fn source_towards(&self, _link: [u8; 6]) -> Option<[u8; 4]> {
+        self.scene.source
+    }
+
+    fn open_database(&self, path: &str) -> Result<(MemStore, bool), OpenFault> {
+        database_at(self.alloc, self.setup, path)
+    }
+
+    /// From the first look on.
+    fn has_input_ended(&self) -> bool {
+        true
+    }
+
+    fn shows_progress(&self) -> bool {
+        self.scene.is_terminal
+    }
+}

@@ -1,0 +1,116 @@
+//! Command lines, read by the table of commands.
+use crate::backup_words::backups;
+use crate::help_words::about;
+use crate::words::{ASKING, Grammar, Need, OFFLINE, SERVING, Word, WordForm};
+use clap::builder::ValueParser;
+use clap::{Arg, ArgAction, ArgMatches, Command};
+use std::alloc::Global;
+
+/// An argument that has a text behind its name.
+fn text<'a>(arg: Arg<'a>, name: &'a str, value: &'a str) -> Arg<'a> {
+    arg.long(name).action(ArgAction::Set).value_name(value)
+}
+
+/// An argument that is given as its word's form says.
+fn formed<'a>(arg: Arg<'a>, name: &'a str, form: WordForm) -> Arg<'a> {
+    match form {
+        WordForm::Bare => arg.action(ArgAction::Set),
+        WordForm::Several => arg
+            .num_args(1..)
+            .action(ArgAction::Append)
+            .allow_negative_numbers(true),
+        WordForm::Flag => arg.long(name).action(ArgAction::SetTrue),
+        WordForm::Text(value) => text(arg, name, value),
+        WordForm::Number(value, most) => {
+            let parser = ValueParser::unsigned(1, most);
+            text(arg, name, value).value_parser(parser)
+        }
+        WordForm::Choice(value, names) => {
+            let parser = ValueParser::Names(names);
+            text(arg, name, value).value_parser(parser)
+        }
+    }
+}
+
+/// An argument that has to be given where its word's need says so.
+fn needed<'a>(arg: Arg<'a>, need: Need) -> Result<Arg<'a>, clap::Error> {
+    match need {
+        Need::Always => Ok(arg.required(true)),
+        Need::Unless(other) => Ok(arg.required_unless_present(other)?),
+        Need::UnlessAny(others) => Ok(arg.required_unless_present_any(others)?),
+        Need::Never => Ok(arg),
+        Need::Beside(other) => Ok(arg.requires_arg(other)?),
+    }
+}
+
+fn argument<'a>(alloc: Global, word: &Word) -> Result<Arg<'a>, clap::Error> {
+    let arg = Arg::new(alloc, word.name).help(word.help);
+    let arg = arg.conflicts_with_all(word.against)?;
+    needed(formed(arg, word.name, word.form), word.need)
+}
+
+/// A command without its words.
+fn titled<'a>(alloc: Global, grammar: &Grammar) -> Command<'a> {
+    Command::new(alloc, grammar.name)
+        .about(grammar.about)
+        .after_help(grammar.after)
+}
+
+fn command_of<'a>(alloc: Global, grammar: &Grammar) -> Result<Command<'a>, clap::Error> {
+    let mut command = titled(alloc, grammar);
+    for word in grammar.words {
+        command = command.arg(argument(alloc, word)?)?;
+    }
+    Ok(command)
+}
+
+/// A program with more commands.
+fn with_commands<'a>(
+    alloc: Global,
+    program: Command<'a>,
+    grammars: &[Grammar],
+) -> Result<Command<'a>, clap::Error> {
+    let mut program = program;
+    for grammar in grammars {
+        program = program.subcommand(command_of(alloc, grammar)?)?;
+    }
+    Ok(program)
+}
+
+/// The program with those of its commands that need no link.
+fn offline<'a>(alloc: Global) -> Result<Command<'a>, clap::Error> {
+    let bac = Command::new(alloc, "bac")
+        .about("BACnet confirmed services, proved")
+        .subcommand_required(true)
+        .disable_help_subcommand(true);
+    with_commands(alloc, bac, OFFLINE)
+}
+
+/// The program with those and the commands of servers.
+fn with_servers<'a>(alloc: Global) -> Result<Command<'a>, clap::Error> {
+    with_commands(alloc, offline(alloc)?, SERVING)
+}
+
+/// The program with those and the commands that ask.
+fn with_clients<'a>(alloc: Global) -> Result<Command<'a>, clap::Error> {
+    with_commands(alloc, with_servers(alloc)?, ASKING)
+}
+
+/// The program with those, and the commands that keep whole files.
+fn with_backups<'a>(alloc: Global) -> Result<Command<'a>, clap::Error> {
+    with_commands(alloc, with_clients(alloc)?, backups())
+}
+
+/// The program with all of its commands: a table a function, since the prover writes out what a function names.
+fn commands<'a>(alloc: Global) -> Result<Command<'a>, clap::Error> {
+    with_commands(alloc, with_backups(alloc)?, about())
+}
+
+/// What the words of a command line give: the first is the program's name, the next a command's, and behind it stand words of that command, each as its table
+/// says. The words that it gives are borrowed of the line.
+///
+/// An Err whose kind is `OutOfMemory` says that memory was refused. Any other has the text for who wrote the line: its words have no such form, or one is
+/// `--help`.
+pub fn matches<'a>(alloc: Global, words: &'a [String]) -> Result<ArgMatches<'a>, clap::Error> {
+    commands(alloc)?.try_get_matches_from(words)
+}

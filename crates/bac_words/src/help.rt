@@ -1,0 +1,121 @@
+//! What `bac help`, `bac version` and `bac completion` print, by the table of commands.
+ghost use Rattle.std.specs.Prelude.{◌≡◌, false, IfOk};
+ghost use Rattle.std.specs.Io.KnownBytes.{Keeps};
+
+use crate::backup_words::backups;
+use crate::completion::write_completion;
+use crate::help_words::{about, command_named, more_example, of_clients, of_servers, offline};
+use crate::manual::write_manual;
+use crate::words::{Grammar, Need, Word, WordForm};
+use crate::wrapping::{write_lines, write_wrapped};
+use std::io;
+use std::io::Write;
+
+/// The version of the program.
+const VERSION: &str = "bac 1.0.0";
+
+/// What is told of the program.
+#[derive(Clone, Copy, Debug)]
+pub enum Telling<'a> {
+    /// All commands, or what the one of that name does, its words and examples.
+    Help(Option<&'a str>),
+    /// The page of the manual, in roff.
+    Manual,
+    /// The name of the program and its version, on one line.
+    Version,
+    /// The script that completes words in bash.
+    Completion,
+}
+
+/// Writes how a word is written, with these hyphens: `--port P`, `--text`, `FILE`.
+pub(crate) fn write_form<O: Write>(out: &mut O, hyphens: &str, word: &Word) -> io::Result<()> {
+    let name = word.name;
+    match word.form {
+        WordForm::Bare => out.write_all(name.as_bytes()),
+        WordForm::Several => write!(out, "{name}.."),
+        WordForm::Flag => write!(out, "{hyphens}{name}"),
+        WordForm::Text(value) | WordForm::Number(value, _) | WordForm::Choice(value, _) => {
+            write!(out, "{hyphens}{name} {value}")
+        }
+    }
+}
+
+/// When a word is required, in words; nothing where it never is.
+fn need_words(need: Need) -> &'static str {
+    match need {
+        Need::Always => " (required)",
+        Need::Unless(_) | Need::UnlessAny(_) | Need::Never | Need::Beside(_) => "",
+    }
+}
+
+/// Writes a word, and below it what it means.
+fn write_word<O: Write>(out: &mut O, word: &Word) -> io::Result<()> {
+    out.write_all(b"  ")?;
+    write_form(out, "--", word)?;
+    out.writeln(need_words(word.need))?;
+    write_wrapped(out, 6, 6, word.help)
+}
+
+/// Writes what a command does, its words, and examples.
+fn write_command<O: Write>(out: &mut O, grammar: &Grammar) -> io::Result<()> {
+    let name = grammar.name;
+    writeln!(out, "bac {name}")?;
+    write_wrapped(out, 2, 2, grammar.about)?;
+    out.write_all(b"\n")?;
+    for word in grammar.words {
+        write_word(out, word)?;
+    }
+    if !grammar.words.is_empty() {
+        out.write_all(b"\n")?;
+    }
+    write_lines(out, grammar.after)?;
+    match more_example(name) {
+        Some(example) => write_lines(out, example),
+        None => Ok(()),
+    }
+}
+
+/// Writes the names of some commands, and what each does.
+fn write_names<O: Write>(out: &mut O, grammars: &[Grammar]) -> io::Result<()> {
+    for grammar in grammars {
+        let name = grammar.name;
+        writeln!(out, "  {name}")?;
+        write_wrapped(out, 6, 6, grammar.about)?;
+    }
+    Ok(())
+}
+
+/// Writes all commands.
+fn write_all_commands<O: Write>(out: &mut O) -> io::Result<()> {
+    out.writeln("BACnet confirmed services, proved: bac COMMAND WORDS..")?;
+    out.write_all(b"\n")?;
+    write_names(out, offline())?;
+    write_names(out, of_servers())?;
+    write_names(out, of_clients())?;
+    write_names(out, backups())?;
+    write_names(out, about())?;
+    out.write_all(b"\n")?;
+    out.writeln("Example: bac help serve")?;
+    out.writeln("Example: bac ask --help")
+}
+
+impl Telling<'_> {
+    /// Writes what is told, without a flush. False, with nothing written, where it is help for a command and there is none of that name. An Err is the writer's.
+    pub fn write<O: Write>(self, out: &mut O) -> io::Result<bool>
+        ensures missing { IfOk result (λ told. told ≡ false → Keeps (O.contents out.old) (O.contents out.new)) }
+    {
+        match self {
+            Telling::Help(None) => write_all_commands(out)?,
+            Telling::Help(Some(name)) => {
+                let Some(grammar) = command_named(name) else {
+                    return Ok(false);
+                };
+                write_command(out, grammar)?;
+            }
+            Telling::Manual => write_manual(out)?,
+            Telling::Version => out.writeln(VERSION)?,
+            Telling::Completion => write_completion(out)?,
+        }
+        Ok(true)
+    }
+}

@@ -1,0 +1,14 @@
+//! The words of the command line of `bac`: the table of its commands, reading words by it, and its help, manual page and completion.
+#![tactic(auto)]
+
+mod backup_words;
+mod completion;
+mod grammar;
+mod help;
+mod help_words;
+mod manual;
+mod words;
+mod wrapping;
+
+pub use grammar::matches;
+pub use help::Telling;
