@@ -4,7 +4,7 @@ use Rattle.bac_json.specs.Forms.{octets_form, optional_number, text_form}
 use Rattle.bac_npdu.specs.Peers.{PeerView}
 use Rattle.bac_npdu.specs.Views.{peer_view}
 use Rattle.bac_text.specs.Peers.{peer_text}
-use Rattle.serde_json.specs.Data.{Data, member, no_members, null, object, string, unsigned}
+use Rattle.serde_json.specs.Data.{Data, Members, no_members, null, object, put, string, unsigned}
 use Rattle.serde_json.specs.Data.{number as whole}
 use Rattle.serde_json.specs.Find.{of_integer}
 use Rattle.bac_log_json.specs.declared.event.EventKind as code
@@ -125,12 +125,21 @@ kind_word (Fault fault why) = codes "fault"
 
 -- ---- the object: its members are sorted by name
 
+abbrev pub with_line : (kind : List ℕ) → (line moment : Option ℕ) → Members → Members
+with_line kind line moment ms =
+    put (codes "type") (string kind) (put (codes "moment") (optional_number moment) (put (codes "line") (optional_number line) ms))
+
+abbrev pub with_words : EventMembers → Members → Members
+with_words m ms =
+    put (codes "text") m.text (put (codes "peer") m.peer (put (codes "pace") m.pace (put (codes "node") m.node (put (codes "id") m.id
+    (put (codes "fault") m.fault (put (codes "ask") m.ask ms))))))
+
+abbrev pub with_datagram : EventMembers → Members → Members
+with_datagram m ms =
+    put (codes "to") m.to (put (codes "octets") m.octets (put (codes "number") m.number (put (codes "from") m.from ms)))
+
 abbrev pub event_form : (kind : List ℕ) → (line moment : Option ℕ) → EventMembers → Data
-event_form kind line moment m =
-    object (member (codes "ask") m.ask (member (codes "fault") m.fault (member (codes "from") m.from (member (codes "id") m.id
-    (member (codes "line") (optional_number line) (member (codes "moment") (optional_number moment) (member (codes "node") m.node
-    (member (codes "number") m.number (member (codes "octets") m.octets (member (codes "pace") m.pace (member (codes "peer") m.peer
-    (member (codes "text") m.text (member (codes "to") m.to (member (codes "type") (string kind) no_members))))))))))))))
+event_form kind line moment m = object (with_datagram m (with_words m (with_line kind line moment no_members)))
 
 abbrev pub IsEventForm : EventRecord → Data → Type 0
 IsEventForm r d = d ≡ event_form (kind_word r.kind) r.line r.moment (members_of r.kind)

@@ -1,8 +1,9 @@
 //! Lines of what came of an event of a script.
 ghost use Rattle.std.specs.Prelude.{◌≡◌, IfOk, OnOk};
 ghost use Rattle.bac_json_report.specs.Lines.{IsLineOf};
-ghost use Rattle.bac_log_json.specs.EventMembers.{members_view};
+ghost use Rattle.bac_log_json.specs.EventMembers.{datagram_view, members_view, words_view};
 ghost use Rattle.bac_log_json.specs.Events.{IsEventForm, ask_members, event_form, fault_members, kind_view, kind_word, members_of, node_members, nulls, record_view, sent_members};
+ghost use Rattle.bac_log_json.specs.Events.{with_datagram, with_line, with_words};
 ghost use Rattle.bac_json.specs.Forms.{octets_form, optional_number, text_form};
 ghost use Rattle.bac_npdu.specs.Views.{peer_view};
 ghost use Rattle.bac_text.specs.Peers.{peer_text};
@@ -10,17 +11,20 @@ ghost use Rattle.bac_text.specs.Texts.{AppendsText};
 ghost use Rattle.serde_json.specs.Data.{string, unsigned};
 ghost use Rattle.serde_json.specs.Data.{number as whole};
 ghost use Rattle.serde_json.specs.Find.{of_integer};
-ghost use Rattle.serde_json.specs.View.{view};
+ghost use Rattle.serde_json.specs.View.{members_view as json_members, view};
 
 use crate::log::id_json;
 use bac_json::{octets_json, text_json};
 use bac_json_report::print_json;
 use bac_npdu::Peer;
 use bac_text::peer_text;
-use serde_json::{Value as Json, json};
+use serde_json::{Map, Value as Json, put};
 use std::alloc::{AllocError, Global};
 use std::io;
 use std::io::Write;
+
+/// The members of an object.
+type Members = Map<String, Json>;
 
 /// What came of an event.
 #[derive(Clone, Copy)]
@@ -100,37 +104,53 @@ pub struct EventRecord<'a> {
     pub kind: EventKind<'a>,
 }
 
-/// What a line says; Null for what it does not.
+/// What a line says but of datagrams; Null for what it does not.
 #[derive(Drop)]
-struct EventMembers {
+struct WordMembers {
     ask: Json,
     fault: Json,
-    from: Json,
     id: Json,
     node: Json,
-    number: Json,
-    octets: Json,
     pace: Json,
     peer: Json,
     text: Json,
+}
+
+/// What a line says of a datagram; Null for what it does not.
+#[derive(Drop)]
+struct DatagramMembers {
+    from: Json,
+    number: Json,
+    octets: Json,
     to: Json,
+}
+
+/// What a line says.
+#[derive(Drop)]
+struct EventMembers {
+    words: WordMembers,
+    datagram: DatagramMembers,
 }
 
 fn nulls() -> EventMembers
     ensures { members_view result ≡ nulls }
 {
     EventMembers {
-        ask: Json::Null,
-        fault: Json::Null,
-        from: Json::Null,
-        id: Json::Null,
-        node: Json::Null,
-        number: Json::Null,
-        octets: Json::Null,
-        pace: Json::Null,
-        peer: Json::Null,
-        text: Json::Null,
-        to: Json::Null,
+        words: WordMembers {
+            ask: Json::Null,
+            fault: Json::Null,
+            id: Json::Null,
+            node: Json::Null,
+            pace: Json::Null,
+            peer: Json::Null,
+            text: Json::Null,
+        },
+        datagram: DatagramMembers {
+            from: Json::Null,
+            number: Json::Null,
+            octets: Json::Null,
+            to: Json::Null,
+        },
     }
 }
 
@@ -169,7 +189,7 @@ fn ask_members(ask: u64) -> EventMembers
     ensures { members_view result ≡ ask_members ask }
 {
     let mut members = nulls();
-    members.ask = Json::from(ask);
+    members.words.ask = Json::from(ask);
     members
 }
 
@@ -177,7 +197,7 @@ fn node_members(node: u64) -> EventMembers
     ensures { members_view result ≡ node_members node }
 {
     let mut members = nulls();
-    members.node = Json::from(node);
+    members.words.node = Json::from(node);
     members
 }
 
@@ -185,7 +205,7 @@ fn asked_members(ask: u64, invoke_id: Option<u8>) -> EventMembers
     ensures { members_view result ≡ record (ask_members ask) { id = optional_number invoke_id } }
 {
     let mut members = ask_members(ask);
-    members.id = id_json(invoke_id);
+    members.words.id = id_json(invoke_id);
     members
 }
 
@@ -193,7 +213,7 @@ fn asked_away_members(alloc: Global, ask: u64, peer: Peer) -> Result<EventMember
     ensures { IfOk result (λ m. members_view m ≡ record (ask_members ask) { peer = string (peer_text (peer_view peer)) }) }
 {
     let mut members = ask_members(ask);
-    members.peer = Json::String(peer_text(alloc, peer)?);
+    members.words.peer = Json::String(peer_text(alloc, peer)?);
     Ok(members)
 }
 
@@ -206,8 +226,8 @@ fn served_members(
     ensures { IfOk result (λ m. members_view m ≡ record (node_members node) { peer = string (peer_text (peer_view peer)); text = text_form words.now }) }
 {
     let mut members = node_members(node);
-    members.peer = Json::String(peer_text(alloc, peer)?);
-    members.text = text_json(alloc, words)?;
+    members.words.peer = Json::String(peer_text(alloc, peer)?);
+    members.words.text = text_json(alloc, words)?;
     Ok(members)
 }
 
@@ -216,7 +236,7 @@ fn told_members(alloc: Global, ask: u64, words: &[u8]) -> Result<EventMembers, A
     ensures { IfOk result (λ m. members_view m ≡ record (ask_members ask) { text = text_form words.now }) }
 {
     let mut members = ask_members(ask);
-    members.text = text_json(alloc, words)?;
+    members.words.text = text_json(alloc, words)?;
     Ok(members)
 }
 
@@ -230,10 +250,10 @@ fn sent_members(
     ensures { IfOk result (λ m. members_view m ≡ sent_members number from to octets.now) }
 {
     let mut members = nulls();
-    members.number = Json::from(number);
-    members.from = Json::from(from);
-    members.to = Json::from(to);
-    members.octets = octets_json(alloc, octets)?;
+    members.datagram.number = Json::from(number);
+    members.datagram.from = Json::from(from);
+    members.datagram.to = Json::from(to);
+    members.datagram.octets = octets_json(alloc, octets)?;
     Ok(members)
 }
 
@@ -241,7 +261,7 @@ fn lost_members(number: u64) -> EventMembers
     ensures { members_view result ≡ record nulls { number = whole (unsigned number) } }
 {
     let mut members = nulls();
-    members.number = Json::from(number);
+    members.datagram.number = Json::from(number);
     members
 }
 
@@ -249,7 +269,7 @@ fn paced_members(node: u64, pace: i64) -> EventMembers
     ensures { members_view result ≡ record (node_members node) { pace = whole (of_integer pace) } }
 {
     let mut members = node_members(node);
-    members.pace = Json::from(pace);
+    members.words.pace = Json::from(pace);
     members
 }
 
@@ -257,7 +277,7 @@ fn nothing_members(alloc: Global, why: &str) -> Result<EventMembers, AllocError>
     ensures { IfOk result (λ m. members_view m ≡ record nulls { text = string why.now }) }
 {
     let mut members = nulls();
-    members.text = Json::try_from_str(alloc, why)?;
+    members.words.text = Json::try_from_str(alloc, why)?;
     Ok(members)
 }
 
@@ -265,8 +285,8 @@ fn fault_members(alloc: Global, fault: u8, why: &str) -> Result<EventMembers, Al
     ensures { IfOk result (λ m. members_view m ≡ fault_members fault why.now) }
 {
     let mut members = nulls();
-    members.fault = Json::from(fault);
-    members.text = Json::try_from_str(alloc, why)?;
+    members.words.fault = Json::from(fault);
+    members.words.text = Json::try_from_str(alloc, why)?;
     Ok(members)
 }
 
@@ -295,6 +315,47 @@ fn members_of(alloc: Global, kind: EventKind<'_>) -> Result<EventMembers, AllocE
     }
 }
 
+/// What a line tells, and where and when that came.
+fn put_line(
+    alloc: Global,
+    kind: &str,
+    line: Option<u64>,
+    moment: Option<u64>,
+    object: &mut Members,
+) -> Result<(), AllocError>
+    ensures { OnOk result (json_members object.new.entries ≡ with_line kind.now line moment (json_members object.old.entries)) }
+{
+    let kind = Json::try_from_str(alloc, kind)?;
+    put(object, alloc, "line", number_json(line))?;
+    put(object, alloc, "moment", number_json(moment))?;
+    put(object, alloc, "type", kind)
+}
+
+fn put_words(alloc: Global, words: WordMembers, object: &mut Members) -> Result<(), AllocError>
+    ensures { OnOk result (json_members object.new.entries ≡ with_words (words_view words) (json_members object.old.entries)) }
+{
+    put(object, alloc, "ask", words.ask)?;
+    put(object, alloc, "fault", words.fault)?;
+    put(object, alloc, "id", words.id)?;
+    put(object, alloc, "node", words.node)?;
+    put(object, alloc, "pace", words.pace)?;
+    put(object, alloc, "peer", words.peer)?;
+    put(object, alloc, "text", words.text)
+}
+
+fn put_datagram(
+    alloc: Global,
+    datagram: DatagramMembers,
+    object: &mut Members,
+) -> Result<(), AllocError>
+    ensures { OnOk result (json_members object.new.entries ≡ with_datagram (datagram_view datagram) (json_members object.old.entries)) }
+{
+    put(object, alloc, "from", datagram.from)?;
+    put(object, alloc, "number", datagram.number)?;
+    put(object, alloc, "octets", datagram.octets)?;
+    put(object, alloc, "to", datagram.to)
+}
+
 fn event_object(
     alloc: Global,
     kind: &str,
@@ -304,15 +365,11 @@ fn event_object(
 ) -> Result<Json, AllocError>
     ensures { IfOk result (λ v. view v ≡ event_form kind.now line moment (members_view members)) }
 {
-    let (line, moment) = (number_json(line), number_json(moment));
-    let (ask, fault, from, id) = (members.ask, members.fault, members.from, members.id);
-    let (node, number, octets) = (members.node, members.number, members.octets);
-    let (pace, peer, text, to) = (members.pace, members.peer, members.text, members.to);
-    json!(in alloc; {
-        "ask": ask, "fault": fault, "from": from, "id": id, "line": line, "moment": moment,
-        "node": node, "number": number, "octets": octets, "pace": pace, "peer": peer,
-        "text": text, "to": to, "type": kind
-    })
+    let mut object = Map::new(alloc);
+    put_line(alloc, kind, line, moment, &mut object)?;
+    put_words(alloc, members.words, &mut object)?;
+    put_datagram(alloc, members.datagram, &mut object)?;
+    Ok(Json::Object(object))
 }
 
 fn object_of(alloc: Global, event: &EventRecord<'_>) -> Result<Json, AllocError>
