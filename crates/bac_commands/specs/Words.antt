@@ -1,5 +1,5 @@
 -- How an ask ended, in words.
-use Rattle.std.specs.Prelude.{◌≡◌, List, codes, Option, None}
+use Rattle.std.specs.Prelude.{◌≡◌, ℕ, List, codes, Option, None}
 use Rattle.bac_service.specs.Values.{Reference, Request}
 use Rattle.bac_service_text.specs.Answers.{AreAnswerWords}
 use Rattle.bac_service_text.specs.Dispatch.{property_read}
