@@ -91,12 +91,20 @@ fn full_line(alloc: Global, at: u64, away: u64, wait: u64) -> Result<Vec<u8>, Al
     Ok(text.into_bytes())
 }
 
-/// Words behind others, and the end of the line.
-fn line_of(front: String, words: &[u8]) -> Result<Vec<u8>, AllocError>
-    ensures { IfOk result (λ t. t.items ≡ (string_bytes front ++ words.now) ++ line_end) }
+/// What the document gave, behind the moment.
+fn document_line(alloc: Global, at: u64, words: &[u8]) -> Result<Vec<u8>, AllocError>
+    ensures { IfOk result (λ t. t.items ≡ ((decimal at ++ codes " document ") ++ words.now) ++ line_end) }
 {
-    let mut text = front.into_bytes();
+    let mut text = format!(in alloc; "{at} document ")?.into_bytes();
     text.extend_from_slice(words)?;
+    text.push(b'\n')?;
+    Ok(text)
+}
+
+fn started_line(alloc: Global, words: &[u8]) -> Result<Vec<u8>, AllocError>
+    ensures { IfOk result (λ t. t.items ≡ words.now ++ line_end) }
+{
+    let mut text = Vec::from_slice(alloc, words)?;
     text.push(b'\n')?;
     Ok(text)
 }
@@ -117,8 +125,8 @@ fn event_line(alloc: Global, at: u64, event: LogEvent<'_>) -> Result<Vec<u8>, Al
         LogEvent::NotSent(count) => count_line(alloc, at, "link: ", count, " not sent"),
         LogEvent::NotDone(count) => count_line(alloc, at, "no memory: ", count, " not done"),
         LogEvent::TableFull { count, wait } => full_line(alloc, at, count, wait),
-        LogEvent::Document { words, .. } => line_of(format!(in alloc; "{at} document ")?, words),
-        LogEvent::Started { words } => line_of(String::new(alloc), words),
+        LogEvent::Document { words, .. } => document_line(alloc, at, words),
+        LogEvent::Started { words } => started_line(alloc, words),
     }
 }
 
