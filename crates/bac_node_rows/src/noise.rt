@@ -35,10 +35,20 @@ fn comes(world: &mut World, noise: &Event) -> Option<()> {
     }
 }
 
+/// How many octets noise has.
+fn len_of(noise: &Event) -> usize {
+    match noise {
+        Event::Noise { octets, .. } => octets.len(),
+        _ => 0,
+    }
+}
+
 /// Each proper prefix of these octets comes, the longest first.
 fn prefixes_come(world: &mut World, noise: &mut Event) -> Option<()> {
-    while shorten(noise) {
-        comes(world, noise)?;
+    for _ in 0..len_of(noise) {
+        if shorten(noise) {
+            comes(world, noise)?;
+        }
     }
     Some(())
 }

@@ -197,6 +197,27 @@ impl Wire<'_> {
         }
     }
 
+    /// The datagram of that number: from where it was sent, to where, and its octets.
+    fn copy_of(&self, alloc: Global, words: &str) -> Option<(LinkAddress, LinkAddress, Vec<u8>)> {
+        let sent = self.sent.get(number(words)? as usize)?;
+        let octets = sent.datagram.octets().to_vec(alloc).ok()?;
+        Some((sent.from, sent.datagram.to(), octets))
+    }
+
+    /// What comes of the datagram of that number at its node.
+    fn delivered(
+        &mut self,
+        alloc: Global,
+        moment: u64,
+        words: &str,
+    ) -> Option<(LinkAddress, Outcome)> {
+        let (from, to, octets) = self.copy_of(alloc, words)?;
+        let now = self.now(place_of(to), moment)?;
+        let node = self.nodes.get_mut(place_of(to))?;
+        let outcome = node.on(now, from, &octets).ok()?;
+        Some((to, outcome))
+    }
+
     fn delivers(
         &mut self,
         alloc: Global,
@@ -204,14 +225,8 @@ impl Wire<'_> {
         words: &str,
         out: &mut Vec<u8>,
     ) -> Option<()> {
-        let sent = self.sent.get(number(words)? as usize)?;
-        let to = sent.datagram.to();
-        let now = self.now(place_of(to), moment)?;
-        let node = self.nodes.get_mut(place_of(to))?;
-        match node.on(now, sent.from, sent.datagram.octets()) {
-            Ok(outcome) => self.go_on(alloc, to, outcome, out),
-            Err(_) => None,
-        }
+        let (to, outcome) = self.delivered(alloc, moment, words)?;
+        self.go_on(alloc, to, outcome, out)
     }
 
     /// What comes of octets at a node, from a link.
