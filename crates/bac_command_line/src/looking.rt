@@ -18,7 +18,7 @@ use crate::files::{OpenFiles, opened};
 use crate::followed::Followed;
 use crate::objects::{document_of, octets_of, store_in};
 use crate::online::Machine;
-use crate::serving::{Serving, print_listening, print_not_bound};
+use crate::serving::{Serving, Start, epoch_of, print_listening, print_not_bound};
 use crate::station::Station;
 use bac_commands::{LevelLog, bound_server, clock_fault, print_served, serve_stretch};
 use bac_driver::{Clock, RunLimit, WaitLimit};
@@ -158,6 +158,14 @@ fn served_document<'p, F: OpenFiles, M: Machine, E: Write>(
     }
 }
 
+/// The start of a server at a moment of its clock.
+fn began_at<M: Machine>(moment: u64, machine: &M) -> Start {
+    Start {
+        moment,
+        epoch: epoch_of(moment, machine.time_of_day()),
+    }
+}
+
 /// A node with a store on its link, which begins at the moment that is returned.
 fn station_of<F: OpenFiles, M: Machine, E: Write>(
     environment: &Environment<'_, F, M>,
@@ -189,7 +197,8 @@ fn station_of<F: OpenFiles, M: Machine, E: Write>(
         Err(_) => return Err(no_memory(err)),
     };
     serving.set(&mut bound_node);
-    print_listening(serving, address, objects, start, err);
+    let began = began_at(start, environment.machine);
+    print_listening(alloc, serving, address, objects, began, err);
     let station = Station {
         alloc,
         bound_node,
@@ -289,7 +298,7 @@ fn serve_store<F: OpenFiles, M: Machine, O: Write, E: Write>(
     let (mut station, start) = station_of(environment, serving, store, err)?;
     let mut looker = Looker {
         followed,
-        log: serving.log_from(environment.alloc, start),
+        log: serving.log_from(environment.alloc, began_at(start, environment.machine)),
     };
     let stop = Stop::of(serving, start);
     let effects = serve_stretches(environment, stop, &mut looker, &mut station, err)?;
