@@ -62,7 +62,7 @@ fn lines_of(log: &LevelLog, node: &Node, buffer: &[u8], turn: &Turn) -> io::Resu
     let lines = turn_lines(log.alloc, log.settings, node, buffer, turn)?;
     match log.octet_style {
         OctetStyle::Whole => Ok(lines),
-        OctetStyle::Short => Ok(shortened(log.alloc, &lines)?),
+        OctetStyle::Short => Ok(shortened(log.alloc, log.settings.format, &lines)?),
     }
 }
 

@@ -9,6 +9,6 @@ mod Separated
 pub mod Settings
 pub mod Stepping
 pub mod Showing
-pub mod Told
+pub mod ToldTexts
 pub mod Tracing
 pub mod Starting

@@ -1,6 +1,6 @@
 use Rattle.std.proofs.Common.{◌≡◌, ◌∙◌, ◌++◌, ℕ, List, Option, refl, sym, subst}
 use Rattle.std.specs.Io.KnownBytes.{Appends}
-use Rattle.bac_simulate.proofs.Told.{event_told, fault_told, refusal_told}
+use Rattle.bac_simulate.proofs.ToldTexts.{event_told, fault_told, refusal_told}
 use Rattle.bac_simulate.proofs.telling.print_event.Goals as goal
 
 written : (a b : Option (List ℕ)) (head said more : List ℕ) → Appends a b (head ++ said) → said ≡ more → Appends a b (head ++ more)

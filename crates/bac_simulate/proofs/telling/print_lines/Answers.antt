@@ -1,7 +1,7 @@
 use Rattle.std.proofs.Common.{◌<◌, ◌+◌, true, false, length, refl, arith}
 use Rattle.std.proofs.lemmas.Option.{slice_get_read}
 use Rattle.bac_simulate.specs.Told.{told_in}
-use Rattle.bac_simulate.proofs.Told.{no_line_told}
+use Rattle.bac_simulate.proofs.ToldTexts.{no_line_told}
 use Rattle.bac_simulate.proofs.Stepping.{goes_on, stops}
 use Rattle.bac_simulate.proofs.telling.print_lines.Goals as goal
 

@@ -1,4 +1,4 @@
-use Rattle.bac_simulate.proofs.Told.{pace_told}
+use Rattle.bac_simulate.proofs.ToldTexts.{pace_told}
 use Rattle.bac_simulate.proofs.telling.print_pace.Goals as goal
 
 pub returns-in_ok-print_paced-in-Ok : goal.returns-in_ok-print_paced-in-Ok

@@ -2,7 +2,7 @@ use Rattle.std.proofs.Common.{◌<◌, ℕ, List, length, refl, sym, subst, arit
 use Rattle.std.proofs.lemmas.Option.{slice_get_read}
 use Rattle.bac_journal.specs.Views.{copy_view}
 use Rattle.bac_simulate.specs.Told.{IsSentText}
-use Rattle.bac_simulate.proofs.Told.{copies_told, copy_told}
+use Rattle.bac_simulate.proofs.ToldTexts.{copies_told, copy_told}
 use Rattle.bac_simulate.proofs.told.add_copies.Goals as goal
 
 pub loop-number-preserved : goal.loop-number-preserved

@@ -3,7 +3,7 @@ use Rattle.std.proofs.lemmas.Option.{slice_get_read}
 use Rattle.bac_journal.specs.Notes.{note_view}
 use Rattle.bac_network.specs.Views.{fact_view}
 use Rattle.bac_simulate.specs.Told.{IsFactText}
-use Rattle.bac_simulate.proofs.Told.{fact_told, facts_told}
+use Rattle.bac_simulate.proofs.ToldTexts.{fact_told, facts_told}
 use Rattle.bac_simulate.proofs.told.add_facts.Goals as goal
 
 pub loop-number-preserved : goal.loop-number-preserved

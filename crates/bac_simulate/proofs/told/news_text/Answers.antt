@@ -1,4 +1,4 @@
-use Rattle.bac_simulate.proofs.Told.{news_told}
+use Rattle.bac_simulate.proofs.ToldTexts.{news_told}
 use Rattle.bac_simulate.proofs.told.news_text.Goals as goal
 
 pub returns : goal.returns
