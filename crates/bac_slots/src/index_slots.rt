@@ -1,8 +1,7 @@
 //! A table with an index that is sorted by key.
-ghost use Rattle.std.specs.Prelude.{◌≡◌, ◌≢◌, true, ℕ, ◌+◌, ◌<◌, ◌≤◌, List, length, Some, None, MatchOption, slice_get, min};
-ghost use Rattle.std.specs.Option.{option_map};
+ghost use Rattle.std.specs.Prelude.{◌≡◌, ◌≢◌, true, ℕ, ◌+◌, ◌<◌, ◌≤◌, List, length, Some, None, MatchOption, IfSome, slice_get, min};
 ghost use Rattle.bac_slots.specs.Slots.{rank, value_at, in_order, digits, IsDistinct};
-ghost use Rattle.bac_slots.specs.Indexes.{AllAbove, AllBelow, IsIndex, IsSearched, lowered};
+ghost use Rattle.bac_slots.specs.Indexes.{AllAbove, AllBelow, IsIndex, IsSearched};
 
 use crate::places::{MOST_PLACES, Places, lowered};
 use crate::slot::Slot;
@@ -18,8 +17,8 @@ pub struct IndexSlots<K: Ord, T> {
     slots: VecDeque<Slot<K, T>>,
     places: Places,
     capacity: usize,
-    /// The place in key order of the last key that was looked up in vain for a mutable borrow: the next `put` tries it first.
-    gap: Option<usize>,
+    /// The place in key order of the key that was looked up last by `seek` or `get_mut`, or was put last, or where it would be: the next look-ups try it first.
+    near: usize,
 }
 
 impl<K: Ord, T> Model for IndexSlots<K, T> {
@@ -51,7 +50,7 @@ impl<K: Ord + Copy + Drop, T: Drop> SlotTable<K, T> for IndexSlots<K, T> {
             slots: VecDeque::with_capacity(alloc, room)?,
             places: Places::new(alloc, room)?,
             capacity: room,
-            gap: None,
+            near: 0,
         })
     }
 
@@ -93,19 +92,26 @@ impl<K: Ord + Copy + Drop, T: Drop> SlotTable<K, T> for IndexSlots<K, T> {
         Some((slot.key, slot.begin, &slot.value))
     }
 
+    fn seek(&mut self, key: &K) {
+        self.near = rank_near(&self.slots, &self.places, self.near, key);
+    }
+
+    /// A key that was looked up last by `seek` or `get_mut`, or was put last, is compared once or twice.
     fn get(&self, key: &K) -> Option<&T> {
-        let Some(found) = look_up(&self.slots, &self.places, key) else {
-            return None;
-        };
-        Some(&self.slots[found.place].value)
+        match search_near(&self.slots, &self.places, self.near, key) {
+            Ok(found) => Some(&self.slots[found.place].value),
+            Err(_) => None,
+        }
     }
 
     fn get_mut(&mut self, key: &K) -> Option<&mut T> {
-        let mut count = Count { comparisons: 0 };
-        match search(&self.slots, &self.places, key, &mut count) {
-            Ok(found) => Some(&mut self.slots[found.place].value),
+        match search_near(&self.slots, &self.places, self.near, key) {
+            Ok(found) => {
+                self.near = found.rank;
+                Some(&mut self.slots[found.place].value)
+            }
             Err(n) => {
-                self.gap = Some(n);
+                self.near = n;
                 None
             }
         }
@@ -116,8 +122,8 @@ impl<K: Ord + Copy + Drop, T: Drop> SlotTable<K, T> for IndexSlots<K, T> {
         if len >= self.capacity {
             return Err((key, value));
         }
-        let n = rank_near(&self.slots, &self.places, self.gap, &key);
-        self.gap = None;
+        let n = rank_near(&self.slots, &self.places, self.near, &key);
+        self.near = n;
         self.places.insert(n, len);
         self.slots.push_back_reserved(Slot { key, begin, value });
         Ok(())
@@ -135,7 +141,7 @@ impl<K: Ord + Copy + Drop, T: Drop> SlotTable<K, T> for IndexSlots<K, T> {
         let Some(found) = look_up(&self.slots, &self.places, key) else {
             return None;
         };
-        self.gap = gap_without(self.gap, found.rank);
+        self.near = lowered(self.near, found.rank);
         self.places.take(found.rank, found.place);
         match self.slots.remove(found.place) {
             Some(slot) => Some(slot.value),
@@ -259,11 +265,34 @@ fn is_below<K: Ord, T>(slots: &VecDeque<Slot<K, T>>, places: &Places, n: usize, 
     }
 }
 
+/// The key's place, if its slot is the n-th in key order.
+fn found_at<K: Ord, T>(
+    slots: &VecDeque<Slot<K, T>>,
+    places: &Places,
+    n: usize,
+    key: &K,
+) -> Option<Found>
+    requires distinct { IsDistinct K.eq slots.now.items }
+    requires index { IsIndex K.cmp places.now.0 slots.now.items }
+    ensures { IfSome result (λ found. IsSearched K.eq K.cmp key.now slots.now.items (Ok found)) }
+{
+    if n >= places.len() {
+        return None;
+    }
+    match nth(slots, places, n).key.cmp(key) {
+        Ordering::Equal => Some(Found {
+            rank: n,
+            place: places.at(n),
+        }),
+        _ => None,
+    }
+}
+
 /// Whether all keys before this place are less, and all others greater.
 fn is_gap<K: Ord, T>(slots: &VecDeque<Slot<K, T>>, places: &Places, n: usize, key: &K) -> bool
     requires distinct { IsDistinct K.eq slots.now.items }
     requires index { IsIndex K.cmp places.now.0 slots.now.items }
-    ensures { result ≡ true → (n ≡ rank K.cmp key.now slots.now.items) × (n ≤ length slots.now.items) }
+    ensures { result ≡ true → IsSearched K.eq K.cmp key.now slots.now.items (Err n) }
 {
     if n > places.len() {
         return false;
@@ -274,11 +303,32 @@ fn is_gap<K: Ord, T>(slots: &VecDeque<Slot<K, T>>, places: &Places, n: usize, ke
     is_below(slots, places, n, key)
 }
 
-/// How many slots have a lesser key; a gap is tried first.
+/// Looks for a key, first near a place in key order.
+fn search_near<K: Ord, T>(
+    slots: &VecDeque<Slot<K, T>>,
+    places: &Places,
+    near: usize,
+    key: &K,
+) -> Result<Found, usize>
+    requires distinct { IsDistinct K.eq slots.now.items }
+    requires index { IsIndex K.cmp places.now.0 slots.now.items }
+    ensures { IsSearched K.eq K.cmp key.now slots.now.items result }
+{
+    if let Some(found) = found_at(slots, places, near, key) {
+        return Ok(found);
+    }
+    if is_gap(slots, places, near, key) {
+        return Err(near);
+    }
+    let mut count = Count { comparisons: 0 };
+    search(slots, places, key, &mut count)
+}
+
+/// How many slots have a lesser key; a place in key order is tried first.
 fn rank_near<K: Ord, T>(
     slots: &VecDeque<Slot<K, T>>,
     places: &Places,
-    gap: Option<usize>,
+    near: usize,
     key: &K,
 ) -> usize
     requires distinct { IsDistinct K.eq slots.now.items }
@@ -286,18 +336,8 @@ fn rank_near<K: Ord, T>(
     ensures rank { result ≡ rank K.cmp key.now slots.now.items }
     ensures within { result ≤ length slots.now.items }
 {
-    match gap {
-        Some(gap) if is_gap(slots, places, gap, key) => gap,
-        _ => rank_of(slots, places, key),
-    }
-}
-
-/// Where a gap is after the slot with this rank was removed.
-fn gap_without(gap: Option<usize>, rank: usize) -> Option<usize>
-    ensures { result ≡ option_map (lowered rank) gap }
-{
-    match gap {
-        Some(gap) => Some(lowered(gap, rank)),
-        None => None,
+    match search_near(slots, places, near, key) {
+        Ok(found) => found.rank,
+        Err(n) => n,
     }
 }

@@ -20,6 +20,7 @@ mod places;
 mod plain_slots;
 mod removing;
 mod ring;
+mod seeking;
 mod slot;
 mod slot_table;
 mod sweeping;
@@ -39,6 +40,7 @@ pub use laws::{
 };
 pub use plain_slots::PlainSlots;
 pub use removing::remove;
+pub use seeking::seek;
 pub use slot::Slot;
 pub use slot_table::{Count, SlotTable};
 pub use sweeping::{Test, count_passing, has_room_once_swept, sweep, sweep_oldest};

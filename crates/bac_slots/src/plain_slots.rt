@@ -74,6 +74,8 @@ impl<K: Ord + Copy + Drop, T: Drop> SlotTable<K, T> for PlainSlots<K, T> {
         Some((slot.key, slot.begin, &slot.value))
     }
 
+    fn seek(&mut self, _key: &K) {}
+
     fn get(&self, key: &K) -> Option<&T> {
         let Some(at) = place(&self.slots, key) else {
             return None;

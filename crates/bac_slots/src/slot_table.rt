@@ -63,6 +63,12 @@ pub trait SlotTable<K: Ord + Copy, T> {
         ensures { MatchOption result (slice_get (slots self.now) n ≡ None)
             (λ x. slice_get (slots self.now) n ≡ Some (record { key = x.0; begin = x.1; value = x.2.now })) };
 
+    /// Looks a key up, so that the next calls for the same key need few comparisons. Nothing else changes, and a table may do nothing: call it before several
+    /// calls for one key.
+    fn seek(&mut self, key: &K)
+        ensures slots { slots self.new ≡ slots self.old }
+        ensures same { capacity self.new ≡ capacity self.old };
+
     /// The value of a key; None if the key is absent.
     fn get(&self, key: &K) -> Option<&T>
         ensures { MatchOption result (value_at K.eq key.now (slots self.now) ≡ None) (λ x. value_at K.eq key.now (slots self.now) ≡ Some x.now) };

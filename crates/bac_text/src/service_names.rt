@@ -4,7 +4,7 @@ ghost use Rattle.std.specs.Option.{option_map};
 ghost use Rattle.bac_value_text.specs.Names.{name_in as name_of, plain};
 ghost use Rattle.bac_text.specs.ServiceNames.{CONFIRMED_SERVICES, NETWORK_MESSAGES, UNCONFIRMED_SERVICES};
 
-/// The confirmed services (BACnetConfirmedServiceChoice). Those that the standard has removed (13, 24 and 25) are not listed.
+/// The confirmed services (BACnetConfirmedServiceChoice), with those that the standard has removed since (13, 24 and 25).
 const CONFIRMED: &[(&str, u32)] = &[
     ("acknowledge-alarm", 0),
     ("confirmed-cov-notification", 1),
@@ -19,6 +19,7 @@ const CONFIRMED: &[(&str, u32)] = &[
     ("create-object", 10),
     ("delete-object", 11),
     ("read-property", 12),
+    ("read-property-conditional", 13),
     ("read-property-multiple", 14),
     ("write-property", 15),
     ("write-property-multiple", 16),
@@ -29,6 +30,8 @@ const CONFIRMED: &[(&str, u32)] = &[
     ("vt-open", 21),
     ("vt-close", 22),
     ("vt-data", 23),
+    ("authenticate", 24),
+    ("request-key", 25),
     ("read-range", 26),
     ("life-safety-operation", 27),
     ("subscribe-cov-property", 28),
@@ -113,7 +116,7 @@ fn name_in(rows: &[(&'static str, u32)], number: u32) -> Option<&'static str>
     None
 }
 
-/// The name of a confirmed service; None if the standard has none with this number.
+/// The name of a confirmed service; None if no edition of the standard has one with this number.
 pub fn confirmed_service_name(choice: u8) -> Option<&'static str>
     ensures { option_map (λ s. s.now) result ≡ name_of CONFIRMED_SERVICES choice }
 {

@@ -1,5 +1,5 @@
 -- One more number is settled.
-use Rattle.std.proofs.Common.{◌≡◌, ◌-◌, ◌∙◌, ℕ, List, length, ap, arith, get_or, set}
+use Rattle.std.proofs.Common.{◌-◌, ◌∙◌, ℕ, List, ap, arith, get_or, set}
 use Rattle.std.proofs.lemmas.List.{get_or_default}
 use Rattle.std.proofs.lemmas.List.Edits.{map_over_more}
 use Rattle.bac_slots.specs.Indexes.{lowered}

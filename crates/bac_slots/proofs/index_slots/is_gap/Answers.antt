@@ -10,4 +10,4 @@ returns g c = λ t.
     let within : c.args.n ≤ length c.args.slots.now.items = omega (arith, long, c.len.ensures, c.if-n-len.false) in
     let gone = not_found _ _ g.K.Ord.cmp g.met.K.Ord.total g.K.PartialEq.eq g.met.K.Ord.matches_eq
     c.args.key.now c.args.slots.now.items c.args.n c.requires.distinct within (c.is_above.ensures c.if-not-is_above.false) (c.is_below.ensures t) in
-    (gone.0, within)
+    (gone.0, within, gone.1)

@@ -1,5 +1,5 @@
 -- Behind the last cell is the first one.
-use Rattle.std.proofs.Common.{◌≡◌, ◌∙◌, ap, sym, refl, arith}
+use Rattle.std.proofs.Common.{◌≡◌, ◌∙◌, ap, sym, arith}
 use Rattle.bac_slots.specs.Indexes.{turned}
 use Rattle.bac_slots.proofs.Rings.{turned_all, turned_none}
 use Rattle.bac_slots.proofs.ring.before.Goals as goal

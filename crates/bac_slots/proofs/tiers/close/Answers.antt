@@ -1,7 +1,5 @@
 -- The last ring has become the tail.
-use Rattle.std.proofs.Common.{◌≡◌, ◌∙◌, ◌∷◌, [], ◌++◌, List, ℕ, length, ap, sym, subst, arith}
-use Rattle.std.specs.List.{concat}
-use Rattle.std.specs.Option.{option_to_list}
+use Rattle.std.proofs.Common.{◌∷◌, [], List, ℕ, subst, arith}
 use Rattle.bac_slots.specs.Indexes.{AreFull}
 use Rattle.bac_slots.proofs.Rings.{full_fewer, closed}
 use Rattle.bac_slots.proofs.tiers.close.Goals as goal

@@ -1,5 +1,5 @@
 -- The last number of the rings goes on to the tail, or the number enters the tail.
-use Rattle.std.proofs.Common.{◌≡◌, ◌∙◌, ◌++◌, List, ℕ, ap, sym, arith}
+use Rattle.std.proofs.Common.{◌∙◌, ◌++◌, List, ℕ, ap, sym, arith}
 use Rattle.std.specs.List.{concat}
 use Rattle.std.proofs.lemmas.List.Edits.{insert-append_right}
 use Rattle.bac_slots.proofs.Rings.{on_to_tail}

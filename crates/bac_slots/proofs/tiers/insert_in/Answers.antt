@@ -1,5 +1,5 @@
 -- The number enters this ring, and its last one goes on.
-use Rattle.std.proofs.Common.{◌/◌, ◌∙◌, ℕ, List, length, refl, arith}
+use Rattle.std.proofs.Common.{◌/◌, ◌∙◌, ℕ, List, refl, arith}
 use Rattle.std.proofs.lemmas.List.{length-set}
 use Rattle.std.proofs.lemmas.Option.{slice_get_read}
 use Rattle.bac_slots.proofs.Rings.{ring_within, cell_within, full_at, full_set, long_inserted, entered_in}

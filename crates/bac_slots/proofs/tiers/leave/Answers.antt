@@ -1,5 +1,5 @@
 -- The number leaves the tail.
-use Rattle.std.proofs.Common.{◌≡◌, ◌∙◌, ◌++◌, List, ℕ, ap, sym, arith}
+use Rattle.std.proofs.Common.{◌∙◌, ◌++◌, List, ℕ, ap, sym, arith}
 use Rattle.std.specs.List.{concat}
 use Rattle.std.proofs.lemmas.List.Edits.{remove-append_right}
 use Rattle.bac_slots.proofs.tiers.leave.Goals as goal

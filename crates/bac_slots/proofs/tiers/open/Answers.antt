@@ -1,5 +1,5 @@
 -- The tail has become the last ring.
-use Rattle.std.proofs.Common.{◌≡◌, ◌∙◌, ◌∷◌, [], ◌++◌, List, ℕ, length, ap, sym, subst, arith}
+use Rattle.std.proofs.Common.{◌∙◌, ◌∷◌, [], ◌++◌, List, ℕ, length, ap, sym, subst, arith}
 use Rattle.std.specs.List.{concat}
 use Rattle.bac_slots.specs.Indexes.{AreFull}
 use Rattle.bac_slots.proofs.Rings.{full_more, opened}

@@ -1,5 +1,5 @@
 -- One more ring passes a number on.
-use Rattle.std.proofs.Common.{◌+◌, ◌∙◌, ℕ, List, refl, arith}
+use Rattle.std.proofs.Common.{◌∙◌, ℕ, List, refl, arith}
 use Rattle.std.proofs.lemmas.List.{length-set}
 use Rattle.std.proofs.lemmas.Option.{slice_get_read}
 use Rattle.bac_slots.proofs.Rings.{full_at, full_set, long_front, pushed_on}

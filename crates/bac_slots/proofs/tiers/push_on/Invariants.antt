@@ -1,5 +1,5 @@
 -- The numbers of the rings, with the one that is carried between them.
-use Rattle.std.proofs.Common.{◌≡◌, ◌∷◌, [], ◌++◌, length, take, drop}
+use Rattle.std.proofs.Common.{◌≡◌, ◌∷◌, ◌++◌, length, take, drop}
 use Rattle.std.specs.List.{concat}
 use Rattle.bac_slots.specs.Indexes.{AreFull}
 use Rattle.bac_slots.proofs.tiers.push_on.Given as goal

@@ -1,5 +1,5 @@
 -- The number leaves this ring, and the one that came back enters.
-use Rattle.std.proofs.Common.{◌/◌, ◌∙◌, ℕ, List, length, refl, arith}
+use Rattle.std.proofs.Common.{◌/◌, ◌∙◌, ℕ, List, refl, arith}
 use Rattle.std.proofs.lemmas.Option.{slice_get_read}
 use Rattle.bac_slots.proofs.Rings.{ring_within, full_at, full_set, long_removed, left_in}
 use Rattle.bac_slots.proofs.tiers.remove_in.Goals as goal

@@ -3,6 +3,6 @@ use Rattle.std.proofs.Common.{◌∙◌, ap, sym, Some}
 use Rattle.bac_slots.proofs.Slots.{value_at-IsAt}
 use Rattle.bac_slots.proofs.index_slots.IndexSlotsSlotTable.get.Goals as goal
 
-pub returns : goal.returns
-returns g c = rw (← c.self.view_is) (value_at-IsAt g.K.PartialEq.eq c.args.key.now c.in-Some.found.place c.self.inside.slots.items c.index.result.now
-    c.in-Some.ensures.3 ∙ ap (λ s. Some s.value) (sym c.index.ensures))
+pub returns-in-Ok : goal.returns-in-Ok
+returns-in-Ok g c = rw (← c.self.view_is) (value_at-IsAt g.K.PartialEq.eq c.args.key.now c.in-Ok.found.place c.self.inside.slots.items c.index.result.now
+    c.in-Ok.ensures.3 ∙ ap (λ s. Some s.value) (sym c.index.ensures))

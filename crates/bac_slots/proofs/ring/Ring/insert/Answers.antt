@@ -1,5 +1,5 @@
 -- The number enters in the upper or the lower part of the cells.
-use Rattle.std.proofs.Common.{◌≡◌, ◌+◌, ◌-◌, ◌∙◌, ◌∷◌, [], ◌++◌, length, ap, sym, arith, get_or}
+use Rattle.std.proofs.Common.{◌+◌, ◌-◌, ◌∙◌, ◌∷◌, [], ◌++◌, ap, sym, arith, get_or}
 use Rattle.std.specs.List.{insert, remove}
 use Rattle.std.proofs.lemmas.Option.{slice_get-get_or}
 use Rattle.bac_slots.specs.Indexes.{turned}

@@ -1,5 +1,5 @@
 -- The number leaves the upper or the lower part of the cells.
-use Rattle.std.proofs.Common.{◌≡◌, ◌+◌, ◌-◌, ◌∙◌, ◌∷◌, [], ◌++◌, length, ap, sym, arith}
+use Rattle.std.proofs.Common.{◌+◌, ◌-◌, ◌∙◌, ap, sym, arith}
 use Rattle.std.specs.List.{insert, remove}
 use Rattle.bac_slots.specs.Indexes.{turned}
 use Rattle.bac_slots.proofs.Rings.{removed_low, removed_high, turned_length}

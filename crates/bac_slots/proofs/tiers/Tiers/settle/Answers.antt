@@ -1,7 +1,7 @@
 -- The numbers of the rings and those of the tail are settled.
 use Rattle.std.proofs.Common.{◌≡◌, ◌-◌, ◌∙◌, ◌++◌, ℕ, List, length, map, take, drop, ap, sym, subst, arith}
 use Rattle.std.specs.List.{concat}
-use Rattle.std.proofs.lemmas.List.{length-append, length-map, map-append}
+use Rattle.std.proofs.lemmas.List.{length-map, map-append}
 use Rattle.bac_slots.specs.Indexes.{lowered, AreFull}
 use Rattle.bac_slots.proofs.Rings.{full_map, concat_map, all_written}
 use Rattle.bac_slots.proofs.tiers.Tiers.settle.Goals as goal
