@@ -7,7 +7,8 @@ use Rattle.bac_text.specs.declared.status.Status.{Status}
 use Rattle.bac_text.specs.declared.status.Status.TheVariants as status
 use Rattle.bac_command_line.specs.Files.{OfFile}
 use Rattle.bac_command_line.specs.FileWords.{AreDigitsOf, IsBefore, file_of, with_octets}
-use Rattle.bac_command_line.specs.Online.{Asks, Clocks, IsAsked, IsAskedFrom, IsAskedOf, Links}
+use Rattle.bac_command_line.specs.AskedOne.{Asks, IsAsked, IsAskedFrom, IsAskedOf}
+use Rattle.bac_command_line.specs.Online.{Clocks, Links}
 use Rattle.bac_command_line.specs.declared.asking.Asking.{Asking}
 use Rattle.bac_command_line.proofs.Statuses.{lifted}
 

@@ -1,5 +1,5 @@
 -- What was printed of an ask as a record.
-use Rattle.std.proofs.Common.{◌≡◌, ◌-◌, ◌++◌, [], ℕ, Bool, Option, Some, None, List, length, take, ap, sym, ◌∙◌, arith, length-append, subst}
+use Rattle.std.proofs.Common.{◌≡◌, ◌-◌, ◌++◌, [], ℕ, Bool, Option, Some, List, length, take, ap, sym, ◌∙◌, arith, length-append, subst}
 use Rattle.std.proofs.KnownBytes.{Appends-kept}
 use Rattle.std.proofs.Math.Seq.{take-append_seam}
 use Rattle.std.specs.Io.KnownBytes.{Keeps}
@@ -7,15 +7,11 @@ use Rattle.bac_ask_report.specs.Records.{AskRecord, Outcome}
 use Rattle.bac_commands.specs.AskEnds.{PrintsWords}
 use Rattle.bac_commands.specs.Words.{AreEndWords}
 use Rattle.bac_driver.specs.Asking.{Question}
-use Rattle.bac_driver.specs.Runs.{Timed}
 use Rattle.bac_driver.specs.declared.question.AskEnd.{AskEnd}
 use Rattle.bac_service.specs.Values.{Request}
 use Rattle.bac_text.specs.Texts.{AppendsText, line_end}
-use Rattle.bac_command_line.specs.Clients.{AsksFrom}
-use Rattle.bac_command_line.specs.Online.{AsksRecorded}
-use Rattle.bac_lists.specs.QuestionLines.{Asker, no_line}
+use Rattle.bac_lists.specs.QuestionLines.{Asker}
 use Rattle.bac_command_line.specs.Recording.{AreWordsOf, IsRecordText, PrintsRecord, outcome_of, without_end}
-use Rattle.bac_command_line.specs.declared.asking.Asking.{Asking}
 use Rattle.bac_command_line.specs.declared.recording.RecordForm.{RecordForm}
 
 -- ---- the line of words, without its end
@@ -59,9 +55,3 @@ record_printed form strict asker time round q end succeeded words request how sh
       printed = Appends-kept a b c p.0 p.1.1 keeps;
       is = told.is;
     }
-
--- that of the one ask of a command line
-pub one_recorded : (form : RecordForm) (asking : Asking) (q : Question) (end : AskEnd) (succeeded : Bool) (before after : Timed) (old new : Option (List ℕ))
-    → AsksFrom asking q end before after → PrintsRecord form asking.output_format.strict no_line q end succeeded old new
-    → AsksRecorded form asking q succeeded before after old new
-one_recorded form asking q end succeeded before after old new asks told = record { start = asks.start; end = end; ends = asks.ends; told = told }

@@ -11,7 +11,8 @@ use Rattle.bac_lists.specs.QuestionLines.{have_names, line_view}
 use Rattle.bac_command_line.specs.AskedLines.{AreRead}
 use Rattle.bac_command_line.specs.Files.{OfFile}
 use Rattle.bac_command_line.specs.InFlight.{AsksLines}
-use Rattle.bac_command_line.specs.Online.{AsksOnce, ByClient, Clocks, Links}
+use Rattle.bac_command_line.specs.AskedOne.{AsksOnce}
+use Rattle.bac_command_line.specs.Online.{ByClient, Clocks, Links}
 use Rattle.bac_command_line.specs.Rounds.{Doing}
 use Rattle.bac_text.specs.declared.status.Status.TheVariants as status
 use Rattle.bac_command_line.specs.declared.asking.Asking.{Asking}
@@ -23,7 +24,7 @@ use Rattle.bac_command_line.specs.declared.rounds.Asked.TheVariants as asked
 
 -- it was asked once
 abbrev pub AsksAll : Links → Asking → Asked → Doing
-AsksAll IsOn asking (asked.One q) = AsksOnce asking (question_view q)
+AsksAll IsOn asking (asked.One q) = AsksOnce IsOn asking (question_view q)
 AsksAll IsOn asking (asked.Lines lines) = AsksLines IsOn asking lines.items
 
 -- that was done; whether all succeeded is printed by the status

@@ -14,6 +14,7 @@ pub mod ClientPairs
 pub mod Looking
 pub mod Online
 pub mod Clients
+pub mod AskedOne
 pub mod AskedLines
 pub mod InFlight
 pub mod Asked

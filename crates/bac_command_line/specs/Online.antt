@@ -1,6 +1,6 @@
 -- What `serve`, `ask` and `pair` print, and their statuses: over links that the machine bound to the address of the command, and beside a clock that it made,
 -- bac_commands' promise holds.
-use Rattle.std.specs.Prelude.{◌≡◌, ℕ, Bool, true, false, List, Option, None, Some, IfSome, Result, Ok, Err, ⊤}
+use Rattle.std.specs.Prelude.{◌≡◌, ℕ, Bool, true, false, List, Option}
 use Rattle.std.specs.Io.KnownBytes.{Keeps}
 use Rattle.bac_protocol.specs.Service.{Octets}
 use Rattle.bac_node.specs.declared.reuse.Reuse.{Reuse}
@@ -9,35 +9,17 @@ use Rattle.bac_driver.specs.Calls.{Calls}
 use Rattle.bac_driver.specs.Moments.{Told, with_moment}
 use Rattle.bac_driver.specs.Udp.{LOCAL_HOST}
 use Rattle.bac_node.specs.Fresh.{large_slots_fit}
-use Rattle.bac_npdu.specs.Peers.{PeerView}
-use Rattle.bac_service.specs.Values.{Request}
-use Rattle.bac_service_text.specs.Dispatch.{request_of}
-use Rattle.bac_service_text.specs.declared.form_fault.FormFault.{FormFault}
-use Rattle.bac_service_text.specs.declared.form_fault.FormFault.TheVariants.{NoForm, NoMemory}
 use Rattle.bac_store.specs.Stores.{Store}
 use Rattle.bac_text.specs.declared.status.Status.{Status}
-use Rattle.bac_driver.specs.Asking.{AskingEnds, Question}
 use Rattle.bac_driver.specs.Pairs.{Pair}
-use Rattle.bac_driver.specs.Runs.{Timed, timed}
+use Rattle.bac_driver.specs.Runs.{Timed}
 use Rattle.bac_driver.specs.BoundNodes.{BoundNode}
-use Rattle.bac_driver.specs.Views.{question_view}
-use Rattle.bac_driver.specs.declared.question.AskEnd.{AskEnd}
-use Rattle.bac_driver.specs.declared.question.Question as code
 use Rattle.bac_world.specs.Node.{Node}
-use Rattle.bac_service_text.specs.Dispatch.{reads_file}
 use Rattle.bac_commands.specs.Houses.{client_node, house_node, server_node}
 use Rattle.bac_commands.specs.Pairs.{TwoTexts}
-use Rattle.bac_commands.specs.Questions.{IsQuestion}
 use Rattle.bac_commands.specs.Reports.{ServedText}
 use Rattle.bac_commands.specs.Statuses.{ByStatus}
-use Rattle.bac_commands.specs.AskEnds.{Asked}
-use Rattle.bac_commands.specs.declared.online.output_format.Style.{Style}
-use Rattle.bac_commands.specs.declared.online.output_format.Style.TheVariants as style
-use Rattle.bac_command_line.specs.Asking.{patience_for}
-use Rattle.bac_command_line.specs.Files.{OfFile}
-use Rattle.bac_command_line.specs.FileWords.{file_of, with_octets}
-use Rattle.bac_lists.specs.QuestionLines.{no_line}
-use Rattle.bac_command_line.specs.Recording.{PrintsHeader, PrintsRecord}
+use Rattle.bac_command_line.specs.Recording.{PrintsHeader}
 use Rattle.bac_command_line.specs.Rounds.{AreRounds, Doing}
 use Rattle.bac_command_line.specs.Serving.{patience_of, restart_of, turns_of}
 use Rattle.bac_command_line.specs.declared.asking.Asking.{Asking}
@@ -122,43 +104,6 @@ IsServedBy store IsOn IsClock s serving old new = ByStatus s (Serves store IsOn 
 
 -- ---- asking
 
--- octets of a file are there only for a request that reads one
-abbrev pub is_printed_by : Style → Request → Bool
-is_printed_by style.Numbers r = true
-is_printed_by style.Words r = true
-is_printed_by style.Octets r = reads_file r
-
-abbrev pub is_request_for : Style → Option Request → Bool
-is_request_for style None = false
-is_request_for style (Some r) = is_printed_by style r
-
--- it is read, or there is a fault: the words are no such request, or memory was refused
-abbrev pub ReadsAsked : Style → PeerView → (words : List (List ℕ)) → Result code.Question FormFault → Type 0
-ReadsAsked style peer words (Ok q) = IsQuestion peer words (question_view q)
-ReadsAsked style peer words (Err NoForm) = is_request_for style (request_of words) ≡ false
-ReadsAsked style peer words (Err NoMemory) = ⊤
-
--- a question was asked from a moment on that the clock printed, and how that ended was printed
-pub record AsksPlain (asking : Asking) (q : Question) (succeeded : Bool) (before after : Timed) (old new : Option (List ℕ)) : Type 0 where
-  pub start : ℕ
-  pub asked :
-      Asked asking.output_format succeeded q (patience_for asking.timeout start) (timed before.bound_node (with_moment before.told start)) after old new
-
--- the same, and it was printed as a record
-pub record AsksRecorded (form : RecordForm) (asking : Asking) (q : Question) (succeeded : Bool) (before after : Timed) (old new : Option (List ℕ)) : Type 0 where
-  pub start : ℕ
-  pub end : AskEnd
-  pub ends : AskingEnds q end (patience_for asking.timeout start) 100000 (timed before.bound_node (with_moment before.told start)) after
-  pub told : PrintsRecord form asking.output_format.strict no_line q end succeeded old new
-
-abbrev pub AsksOnceBy : Option RecordForm → Asking → Question → Doing
-AsksOnceBy None asking q succeeded before after old new = AsksPlain asking q succeeded before after old new
-AsksOnceBy (Some form) asking q succeeded before after old new = AsksRecorded form asking q succeeded before after old new
-
--- so, as is wanted
-abbrev pub AsksOnce : Asking → Question → Doing
-AsksOnce asking q succeeded before after old new = AsksOnceBy asking.records asking q succeeded before after old new
-
 -- below what stands above records, that was done
 pub record IsHeaded (records : Option RecordForm) (has_names : Bool) (Does : Doing) (all : Bool) (before after : Timed) (old new : Option (List ℕ)) : Type 0 where
   pub begun : Option (List ℕ)
@@ -172,40 +117,6 @@ pub record ByClient (IsOn : Links) (IsClock : Clocks) (asking : Asking) (Round :
   pub client : IsClient IsOn asking.host before.bound_node
   pub clock : IsClock before.told
   pub rounds : IsHeaded asking.records asking.has_names (AreRounds asking.rounds Round) all before after old new
-
--- the question that some words are was asked
-pub record Asks (IsOn : Links) (IsClock : Clocks) (asking : Asking) (peer : PeerView) (succeeded : Bool) (words : List (List ℕ)) (old new : Option (List ℕ)) : Type 0 where
-  pub question : Question
-  pub is : IsQuestion peer words question
-  pub asks : ByClient IsOn IsClock asking (AsksOnce asking question) succeeded old new
-
--- the words are no request that can be printed so, and nothing was printed
-pub record IsNoRequest (asking : Asking) (words : List (List ℕ)) (old new : Option (List ℕ)) : Type 0 where
-  pub none : is_request_for asking.output_format.style (request_of words) ≡ false
-  pub keeps : Keeps old new
-
-abbrev pub IsAsked : Links → Clocks → Status → Asking → PeerView → (words : List (List ℕ)) → (old new : Option (List ℕ)) → Type 0
-IsAsked IsOn IsClock s asking peer words old new =
-    ByStatus s (Asks IsOn IsClock asking peer true words old new) (Asks IsOn IsClock asking peer false words old new) (IsNoRequest asking words old new)
-
--- the same where octets stand in hexadecimal in the place of the last word: those of a file, where they are known
-pub record AsksWith (IsOn : Links) (IsClock : Clocks) (asking : Asking) (peer : PeerView) (succeeded : Bool) (words : List (List ℕ))
-    (old new : Option (List ℕ)) (content : Option (List ℕ)) : Type 0 where
-  pub octets : List ℕ
-  pub known : IfSome content (λ file. octets ≡ file)
-  pub asks : Asks IsOn IsClock asking peer succeeded (with_octets octets words) old new
-
-abbrev pub IsAskedOf : (IsFile : (path : List ℕ) → (content : Option (List ℕ)) → Type 0) → (file : Option (List ℕ)) → Links → Clocks → Status → Asking
-    → PeerView → (words : List (List ℕ)) → (old new : Option (List ℕ)) → Type 0
-IsAskedOf IsFile None IsOn IsClock s asking peer words old new = IsAsked IsOn IsClock s asking peer words old new
-IsAskedOf IsFile (Some path) IsOn IsClock s asking peer words old new =
-    ByStatus s (OfFile IsFile path (AsksWith IsOn IsClock asking peer true words old new)) (OfFile IsFile path (AsksWith IsOn IsClock asking peer false words old new))
-    (Keeps old new)
-
--- where the last word names a file, its octets stand there
-abbrev pub IsAskedFrom : (IsFile : (path : List ℕ) → (content : Option (List ℕ)) → Type 0) → Links → Clocks → Status → Asking → PeerView
-    → (words : List (List ℕ)) → (old new : Option (List ℕ)) → Type 0
-IsAskedFrom IsFile IsOn IsClock s asking peer words old new = IsAskedOf IsFile (file_of words) IsOn IsClock s asking peer words old new
 
 -- ---- two nodes
 

@@ -13,7 +13,8 @@ use Rattle.bac_command_line.specs.Keeping.{Databases, IsListed, IsServedKept}
 use Rattle.bac_command_line.specs.Lines.{AreCheckedLines, IsDecodedFrom}
 use Rattle.bac_command_line.specs.Looking.{IsServedLooking}
 use Rattle.bac_command_line.specs.Stores.{IsAnsweredFrom, IsServedFrom}
-use Rattle.bac_command_line.specs.Online.{Clocks, IsAskedFrom, IsPair, Links}
+use Rattle.bac_command_line.specs.AskedOne.{IsAskedFrom}
+use Rattle.bac_command_line.specs.Online.{Clocks, IsPair, Links}
 use Rattle.bac_command_line.specs.WholeFiles.{IsFiled}
 use Rattle.bac_command_line.specs.declared.task.Task.{Task}
 use Rattle.bac_command_line.specs.declared.task.Task.TheVariants as task

@@ -19,7 +19,7 @@ use crate::environment::Environment;
 use crate::files::{OpenFiles, opened};
 use crate::objects::octets_of;
 use crate::online::Machine;
-use crate::recording::{Printer, print_ask, print_unasked_record};
+use crate::recording::{Printer, RecordForm, print_ask, print_unasked_record};
 use crate::rounds::{Asked, ask_by_client};
 use crate::station::Station;
 use bac_commands::{AskCommand, ask_unprinted, is_spent};
@@ -32,7 +32,7 @@ use std::io;
 use std::io::Write;
 
 /// A node asks from the moment of the clock on. Answers how that ended.
-pub(crate) fn ask_from<L: Link, C: Clock, E: Write>(
+fn ask_from<L: Link, C: Clock, E: Write>(
     asking: &Asking,
     station: &mut Station<L, C>,
     question: &Question,
@@ -85,6 +85,17 @@ pub(crate) fn ask_on<M: Machine, E: Write>(
     ask_from(asking, &mut client.station, question, err)
 }
 
+/// The record of a line says that there is no link from which it could be asked.
+fn print_unasked_line<O: Write>(
+    printer: &Printer<'_>,
+    form: RecordForm,
+    line: &LineQuestion,
+    out: &mut O,
+) -> io::Result<()> {
+    let asker = line.asker(printer.asking.has_names);
+    print_unasked_record(printer, form, asker, &line.question, out)
+}
+
 /// The line says that there is no link from which it could be asked.
 pub(crate) fn print_unasked<O: Write>(
     printer: &Printer<'_>,
@@ -92,7 +103,7 @@ pub(crate) fn print_unasked<O: Write>(
     out: &mut O,
 ) -> io::Result<()> {
     if let Some(form) = printer.asking.records {
-        return print_unasked_record(printer, form, line, out);
+        return print_unasked_line(printer, form, line, out);
     }
     write_front(line, out)?;
     out.writeln("link fault")?;
@@ -107,7 +118,7 @@ fn print_stranded<O: Write>(
     out: &mut O,
 ) -> io::Result<()> {
     match printer.asking.records {
-        Some(form) => print_unasked_record(printer, form, line, out)?,
+        Some(form) => print_unasked_line(printer, form, line, out)?,
         None => {
             writeln!(out, "link fault")?;
             out.flush()?;

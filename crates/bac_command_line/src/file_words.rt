@@ -5,7 +5,8 @@ ghost use Rattle.bac_npdu.specs.Views.{peer_view};
 ghost use Rattle.bac_text.specs.Statuses.{IsStop};
 ghost use Rattle.bac_command_line.specs.Files.{OfFile, OnFile};
 ghost use Rattle.bac_command_line.specs.FileWords.{AreDigitsOf, IsBefore, file_of, path_of};
-ghost use Rattle.bac_command_line.specs.Online.{IsAskedFrom, OnClock, OnPort};
+ghost use Rattle.bac_command_line.specs.AskedOne.{IsAskedFrom};
+ghost use Rattle.bac_command_line.specs.Online.{OnClock, OnPort};
 
 use crate::asking::Asking;
 use crate::environment::Environment;

@@ -1,11 +1,10 @@
 //! Nodes on links of the machine: what `serve`, `ask` and `pair` do.
-ghost use Rattle.std.specs.Prelude.{◌≡◌, ℕ, Bool, List, map, IfErr, IfOk, IfSome};
+ghost use Rattle.std.specs.Prelude.{◌≡◌, ℕ, Bool, List, map, IfOk, IfSome};
 ghost use Rattle.bac_npdu.specs.Views.{peer_view};
 ghost use Rattle.bac_protocol.specs.Service.{Octets};
 ghost use Rattle.bac_commands.specs.Questions.{ReadsQuestion};
-ghost use Rattle.bac_text.specs.Statuses.{IsFailure};
-ghost use Rattle.bac_command_line.specs.Online.{AsksPlain, IsAsked, IsPair, IsServedBy, OnClock, OnPort, ReadsAsked, is_printed_by};
-ghost use Rattle.bac_driver.specs.Runs.{timed};
+ghost use Rattle.bac_command_line.specs.AskedOne.{IsAsked, ReadsAsked, is_printed_by};
+ghost use Rattle.bac_command_line.specs.Online.{IsPair, IsServedBy, OnClock, OnPort};
 ghost use Rattle.bac_driver.specs.Views.{question_view};
 
 use crate::asking::Asking;
@@ -15,9 +14,7 @@ use crate::files::OpenFiles;
 use crate::rounds::{Asked, ask_by_client};
 use crate::serving::{Serving, Start, epoch_of, print_listening, print_not_bound, serve_from};
 use crate::station::Station;
-use bac_commands::{
-    AskCommand, Style, bound_house, bound_server, clock_fault, link_fault, read_question,
-};
+use bac_commands::{Style, bound_house, bound_server, clock_fault, link_fault, read_question};
 use bac_driver::{Clock, Link, Question};
 use bac_keep_file::OpenFault;
 use bac_lists::{LOCAL_HOST, print_bad_words};
@@ -158,42 +155,6 @@ fn asked_in(alloc: Global, style: Style, peer: Peer, words: &[&str]) -> Result<Q
         Ok(question)
     } else {
         Err(FormFault::NoForm)
-    }
-}
-
-/// A node asks from the moment of the clock on; how that ended is printed as is wanted. Answers whether it succeeded.
-pub(crate) fn ask_once<L: Link, C: Clock, O: Write, E: Write>(
-    asking: &Asking,
-    station: &mut Station<L, C>,
-    question: &Question,
-    out: &mut O,
-    err: &mut E,
-) -> Result<bool, Status>
-    ensures asked { IfOk result (λ succeeded. AsksPlain asking.now (question_view question.now) succeeded
-        (timed station.old.bound_node (C.told station.old.clock)) (timed station.new.bound_node (C.told station.new.clock))
-        (O.contents out.old) (O.contents out.new)) }
-    ensures failed { IfErr result IsFailure }
-{
-    let command = AskCommand {
-        question,
-        wait_limit: asking.wait_limit(station.clock.now()),
-        output_format: asking.output_format,
-        shows_progress: asking.shows_progress,
-    };
-    let status = bac_commands::ask(
-        station.alloc,
-        &mut station.bound_node,
-        &mut station.clock,
-        &command,
-        out,
-        err,
-    );
-    match status {
-        Status::Done => Ok(true),
-        Status::Faulty => Ok(false),
-        Status::CommandLine => Err(Status::CommandLine),
-        Status::Output => Err(Status::Output),
-        Status::Memory => Err(Status::Memory),
     }
 }
 

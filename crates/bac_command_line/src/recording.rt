@@ -12,7 +12,7 @@ use crate::asking::Asking;
 use bac_ask_report::{AskRecord, Outcome, print_ask_object, print_csv_header, print_csv_row};
 use bac_commands::{OutputFormat, Style, print_ask_end};
 use bac_driver::{AskEnd, Question};
-use bac_lists::{Asker, LineQuestion};
+use bac_lists::Asker;
 use bac_requester::Ending;
 use bac_service::OwnedRequest;
 use bac_text::{Status, output_failed};
@@ -127,7 +127,7 @@ fn print_in<O: Write>(
 }
 
 /// Prints as a record how an ask of a line, or of none, ended. Answers whether it succeeded.
-pub(crate) fn print_record<O: Write>(
+fn print_record<O: Write>(
     printer: &Printer<'_>,
     form: RecordForm,
     asker: Asker<'_>,
@@ -195,21 +195,21 @@ pub(crate) fn print_ask<O: Write, E: Write>(
     }
 }
 
-/// Prints as a record that there was no link from which a line could be asked.
+/// Prints as a record that there was no link from which a line, or none, could be asked.
 pub(crate) fn print_unasked_record<O: Write>(
     printer: &Printer<'_>,
     form: RecordForm,
-    line: &LineQuestion,
+    asker: Asker<'_>,
+    question: &Question,
     out: &mut O,
 ) -> io::Result<()> {
-    let asker = line.asker(printer.asking.has_names);
     let ask = AskRecord {
         time: printer.stamp.time,
         line: asker.line,
         name: asker.name,
         round: printer.stamp.round,
-        peer: line.question.peer,
-        request: line.question.request.as_request(),
+        peer: question.peer,
+        request: question.request.as_request(),
         outcome: Outcome::NoLink,
         words: b"link fault",
     };

@@ -4,24 +4,26 @@ ghost use Rattle.bac_driver.specs.Runs.{timed};
 ghost use Rattle.bac_driver.specs.Views.{question_view};
 ghost use Rattle.bac_text.specs.Statuses.{IsFailure};
 ghost use Rattle.bac_command_line.specs.Asked.{AsksAll, ReportsClient, ReportsDoing};
+ghost use Rattle.bac_command_line.specs.AskedOne.{AsksOnce};
 ghost use Rattle.bac_command_line.specs.InFlight.{AsksLines};
-ghost use Rattle.bac_command_line.specs.Online.{AsksOnce, AsksRecorded, IsHeaded, OnClock, OnPort};
+ghost use Rattle.bac_command_line.specs.Online.{IsHeaded, OnClock, OnPort};
 ghost use Rattle.bac_command_line.specs.Rounds.{AreRounds, AreRoundsFrom, BeginsRound, Rests};
 ghost use Rattle.bac_command_line.specs.Serving.{turns_of};
 
 use crate::asking::{Asking, Rounds};
-use crate::asking_lines::{ask_each, ask_from, both};
+use crate::asking_lines::{ask_each, ask_on, both};
 use crate::client::Client;
-use crate::online::{Machine, ask_once};
+use crate::online::Machine;
 use crate::pace::{is_behind, print_late};
-use crate::recording::{Printer, RecordForm, print_header, print_record};
+use crate::recording::{Printer, print_ask, print_header, print_unasked_record};
 use crate::station::Station;
 use crate::window::ask_ahead;
-use bac_commands::CommandError;
+use bac_commands::{CommandError, Style};
 use bac_driver::{Clock, Link, Question, RunLimit, WaitLimit};
 use bac_lists::{LineQuestion, NO_LINE};
-use bac_text::{Status, output_failed};
+use bac_text::Status;
 use std::alloc::Global;
+use std::io;
 use std::io::Write;
 
 /// What a client asks.
@@ -53,35 +55,26 @@ fn ask_lines<M: Machine, O: Write, E: Write>(
     }
 }
 
-/// A node asks from the moment of the clock on; how that ended is printed as a record. Answers whether it succeeded.
-#[tactic(auto, using(crate::proofs::Recorded::one_recorded))]
-fn ask_recorded<M: Machine, O: Write, E: Write>(
-    asking: &Asking,
-    form: RecordForm,
-    client: &mut Client<'_, M>,
+/// The one request says that there is no link from which it could be asked; not where octets of a file are printed alone.
+fn print_stranded<O: Write>(
+    printer: &Printer<'_>,
     question: &Question,
     out: &mut O,
-    err: &mut E,
-) -> Result<bool, Status>
-    ensures asked { IfOk result (λ succeeded. AsksRecorded form asking.now (question_view question.now) succeeded
-        (timed client.old.station.bound_node (M.Timer.told client.old.station.clock))
-        (timed client.new.station.bound_node (M.Timer.told client.new.station.clock))
-        (O.contents out.old) (O.contents out.new)) }
-    ensures failed { IfErr result IsFailure }
-{
-    let end = ask_from(asking, &mut client.station, question, err)?;
-    let printer = Printer {
-        alloc: client.station.alloc,
-        asking,
-        stamp: client.stamp(),
-    };
-    match print_record(&printer, form, NO_LINE, question, &end, out) {
-        Ok(succeeded) => Ok(succeeded),
-        Err(error) => Err(output_failed(err, &error)),
+) -> io::Result<()> {
+    if let Some(form) = printer.asking.records {
+        return print_unasked_record(printer, form, NO_LINE, question, out);
+    }
+    match printer.asking.output_format.style {
+        Style::Numbers | Style::Words => {
+            out.writeln("link fault")?;
+            out.flush()
+        }
+        Style::Octets => Ok(()),
     }
 }
 
-/// A node asks from the moment of the clock on; how that ended is printed as is wanted. Answers whether it succeeded.
+/// A client asks; where its node has nothing left for that, the next one does. How that ended is printed as is wanted. Answers whether it succeeded. Where there
+/// is no link for the next node, the request says so.
 fn ask_one<M: Machine, O: Write, E: Write>(
     asking: &Asking,
     client: &mut Client<'_, M>,
@@ -89,16 +82,28 @@ fn ask_one<M: Machine, O: Write, E: Write>(
     out: &mut O,
     err: &mut E,
 ) -> Result<bool, Status>
-    ensures asked { IfOk result (λ succeeded. AsksOnce asking.now (question_view question.now) succeeded
+    ensures asked { IfOk result (λ succeeded. AsksOnce (OnPort M.is_bound M.Link.failures M.Link.calls) asking.now (question_view question.now) succeeded
         (timed client.old.station.bound_node (M.Timer.told client.old.station.clock))
         (timed client.new.station.bound_node (M.Timer.told client.new.station.clock))
         (O.contents out.old) (O.contents out.new)) }
     ensures failed { IfErr result IsFailure }
 {
-    match asking.records {
-        Some(form) => ask_recorded(asking, form, client, question, out, err),
-        None => ask_once(asking, &mut client.station, question, out, err),
-    }
+    let end = match ask_on(asking, client, question, err) {
+        Ok(end) => end,
+        Err(status) => {
+            if client.is_stranded {
+                // if that fails too, only the status is left
+                let _ = print_stranded(&client.printer(asking), question, out);
+            }
+            return Err(status);
+        }
+    };
+    let printer = Printer {
+        alloc: client.station.alloc,
+        asking,
+        stamp: client.stamp(),
+    };
+    print_ask(&printer, NO_LINE, question, &end, out, err)
 }
 
 /// A node asks all that, once. Answers whether all succeeded.
