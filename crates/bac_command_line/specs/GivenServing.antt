@@ -151,6 +151,7 @@ pub record IsServing (given : ArgMatches) (s : Serving) : Type 0 where
   pub memory : memory_given (words_text given (codes "memory")) ≡ Some s.memory
   pub log : IsFlag given (codes "log") s.log
   pub level : s.level ≡ level_given (words_text given (codes "log-level"))
+  pub json : IsFlag given (codes "json") s.json
   pub follow : IsFlag given (codes "follow") s.follow
   pub until_eof : IsFlag given (codes "until-eof") s.until_eof
 

@@ -2,13 +2,15 @@
 ghost use Rattle.bac_command_line.specs.Looking.{IsChanged};
 
 use crate::files::OpenFiles;
-use crate::listing::{file_line, values_line};
+use crate::listing::kept_words;
 use crate::part_words::print_about;
 use crate::reasons::print_document_fault;
 use crate::station::Station;
 use bac_commands::LevelLog;
 use bac_driver::{BoundNode, Clock, Link};
 use bac_follow::{Documents, FollowFault, changes_between};
+use bac_keep_json::KeptPart;
+use bac_log_json::LogEvent;
 use bac_objects::{DocumentFault, read_object_list, read_objects};
 use bac_store::{Change, ChangeFault, Store};
 use bac_text::no_memory;
@@ -95,20 +97,23 @@ fn print_unfit<E: Write>(alloc: Global, path: &str, fault: FollowFault, err: &mu
     }
 }
 
-/// The line of a log for a change: what the document gave.
-fn change_line(alloc: Global, moment: u64, change: &Change) -> Result<Vec<u8>, NoMemory> {
-    let head = format!(in alloc; "{moment} document ")?;
-    let what = match change {
+/// What the document gave to a property or a file.
+fn part_of(change: &Change) -> KeptPart<'_> {
+    match change {
         Change::Value {
             object,
             property,
             octets,
-        } => values_line(alloc, *object, *property, octets)?,
-        Change::File { object, octets } => file_line(alloc, *object, octets.len() as u64)?,
-    };
-    let mut line = head.into_bytes();
-    line.extend_from_slice(what.as_slice())?;
-    Ok(line)
+        } => KeptPart::Values {
+            object: *object,
+            property: *property,
+            octets: octets.as_slice(),
+        },
+        Change::File { object, octets } => KeptPart::File {
+            object: *object,
+            length: octets.len() as u64,
+        },
+    }
 }
 
 /// The node makes a change, and the log tells it.
@@ -122,13 +127,15 @@ fn make<L: Link, E: Write>(
 ) -> Result<(), ChangeFault>
     ensures { IsChanged bound_node.old bound_node.new }
 {
-    let line = if log.is_on() {
-        change_line(alloc, moment, change)?
+    let part = part_of(change);
+    let words = if log.is_on() {
+        kept_words(alloc, part)?
     } else {
         Vec::new(alloc)
     };
     bound_node.change(change)?;
-    log.write_line(&line, err);
+    let words = words.as_slice();
+    log.write_event(moment, LogEvent::Document { part, words }, err);
     Ok(())
 }
 

@@ -15,7 +15,7 @@ use crate::files::OpenFiles;
 use crate::objects::document_of;
 use crate::online::Machine;
 use crate::part_words::print_about;
-use crate::serving::{Serving, print_listening, print_not_bound, serve_kept_from};
+use crate::serving::{Serving, Start, epoch_of, print_listening, print_not_bound, serve_kept_from};
 use bac_commands::{KeptServer, bound_server, clock_fault};
 use bac_driver::{Clock, Round};
 use bac_keep::{CellKeeper, KeepFault, Keeper, Part};
@@ -182,13 +182,17 @@ fn serve_round<M: Machine, K: Keeper, O: Write, E: Write>(
         Err(_) => return no_memory(err),
     };
     serving.set(&mut bound_node);
-    print_listening(serving, address, objects, start, err);
+    let began = Start {
+        moment: start,
+        epoch: epoch_of(start, machine.time_of_day()),
+    };
+    print_listening(alloc, serving, address, objects, began, err);
     let mut server = KeptServer {
         bound_node,
         clock: timer,
         round,
     };
-    serve_kept_from(alloc, serving, start, &mut server, out, err)
+    serve_kept_from(alloc, serving, began, &mut server, out, err)
 }
 
 /// A node serves with the store that a database, which may be new, makes over a document.

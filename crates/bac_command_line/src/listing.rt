@@ -29,39 +29,46 @@ fn octets_in(cells: &[Cell], object: ObjectIdentifier, count: u8) -> u64 {
     octets
 }
 
-/// The line of the values of a property: the object, the property, and the values by their kinds; in hexadecimal where they are no values.
-pub(crate) fn values_line(
+/// The values of a property in words: the object, the property, and the values by their kinds; in hexadecimal where they are no values.
+fn values_words(
     alloc: Global,
     object: ObjectIdentifier,
     property: u32,
     octets: &[u8],
 ) -> Result<Vec<u8>, NoMemory> {
-    let mut line = part_words(alloc, object, Some(property))?;
-    line.push(b' ')?;
+    let mut words = part_words(alloc, object, Some(property))?;
+    words.push(b' ')?;
     match read_data(octets) {
         Ok((values, _)) => {
             let text = data_text(alloc, values)?;
-            line.extend_from_slice(text.as_slice())?;
+            words.extend_from_slice(text.as_slice())?;
         }
         Err(_) => {
             let text = hex::encode_upper(alloc, octets)?;
-            line.extend_from_slice(text.as_bytes())?;
+            words.extend_from_slice(text.as_bytes())?;
         }
     }
-    line.push(b'\n')?;
-    Ok(line)
+    Ok(words)
 }
 
-/// The line of a file: its number of octets.
-pub(crate) fn file_line(
-    alloc: Global,
-    object: ObjectIdentifier,
-    octets: u64,
-) -> Result<Vec<u8>, NoMemory> {
-    let mut line = part_words(alloc, object, None)?;
-    let tail = format!(in alloc; " {octets} octets\n")?;
-    line.extend_from_slice(tail.as_bytes())?;
-    Ok(line)
+/// A file in words: its number of octets.
+fn file_words(alloc: Global, object: ObjectIdentifier, octets: u64) -> Result<Vec<u8>, NoMemory> {
+    let mut words = part_words(alloc, object, None)?;
+    let tail = format!(in alloc; " {octets} octets")?;
+    words.extend_from_slice(tail.as_bytes())?;
+    Ok(words)
+}
+
+/// A property with its values, or a file with its number of octets, in words.
+pub(crate) fn kept_words(alloc: Global, part: KeptPart<'_>) -> Result<Vec<u8>, NoMemory> {
+    match part {
+        KeptPart::Values {
+            object,
+            property,
+            octets,
+        } => values_words(alloc, object, property, octets),
+        KeptPart::File { object, length } => file_words(alloc, object, length),
+    }
 }
 
 /// What the cell at this place in the list begins: the values of a property, or a file; None of a chunk.
@@ -87,14 +94,9 @@ fn part_at(cells: &[Cell], at: usize) -> Option<KeptPart<'_>> {
 
 /// The line of what is kept of a property, or of a file.
 fn line_of(alloc: Global, part: KeptPart<'_>) -> Result<Vec<u8>, NoMemory> {
-    match part {
-        KeptPart::Values {
-            object,
-            property,
-            octets,
-        } => values_line(alloc, object, property, octets),
-        KeptPart::File { object, length } => file_line(alloc, object, length),
-    }
+    let mut line = kept_words(alloc, part)?;
+    line.push(b'\n')?;
+    Ok(line)
 }
 
 /// The form of a list of what is kept.

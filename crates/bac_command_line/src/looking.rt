@@ -18,7 +18,7 @@ use crate::files::{OpenFiles, opened};
 use crate::followed::Followed;
 use crate::objects::{document_of, octets_of, store_in};
 use crate::online::Machine;
-use crate::serving::{Serving, print_listening, print_not_bound};
+use crate::serving::{Serving, Start, epoch_of, print_listening, print_not_bound};
 use crate::station::Station;
 use bac_commands::{LevelLog, bound_server, clock_fault, print_served, serve_stretch};
 use bac_driver::{Clock, RunLimit, WaitLimit};
@@ -158,14 +158,14 @@ fn served_document<'p, F: OpenFiles, M: Machine, E: Write>(
     }
 }
 
-/// A node with a store on its link, which begins at the moment that is returned.
+/// A node with a store on its link, and when it begins.
 fn station_of<F: OpenFiles, M: Machine, E: Write>(
     environment: &Environment<'_, F, M>,
     serving: &Serving,
     store: Store,
     err: &mut E,
-) -> Result<(Station<M::Link, M::Timer>, u64), Status>
-    ensures server { IfOk result (λ r. IsServer (OnPort M.is_bound M.Link.failures M.Link.calls) (OnClock M.is_made M.Timer.told) serving.now store r.1
+) -> Result<(Station<M::Link, M::Timer>, Start), Status>
+    ensures server { IfOk result (λ r. IsServer (OnPort M.is_bound M.Link.failures M.Link.calls) (OnClock M.is_made M.Timer.told) serving.now store r.1.moment
         (timed r.0.bound_node (M.Timer.told r.0.clock))) }
     ensures told { IfErr result IsStop }
 {
@@ -189,13 +189,17 @@ fn station_of<F: OpenFiles, M: Machine, E: Write>(
         Err(_) => return Err(no_memory(err)),
     };
     serving.set(&mut bound_node);
-    print_listening(serving, address, objects, start, err);
+    let began = Start {
+        moment: start,
+        epoch: epoch_of(start, environment.machine.time_of_day()),
+    };
+    print_listening(alloc, serving, address, objects, began, err);
     let station = Station {
         alloc,
         bound_node,
         clock,
     };
-    Ok((station, start))
+    Ok((station, began))
 }
 
 /// Looks at what a server looks at. Returns whether it stops with standard input, which has ended.
@@ -291,7 +295,7 @@ fn serve_store<F: OpenFiles, M: Machine, O: Write, E: Write>(
         followed,
         log: serving.log_from(environment.alloc, start),
     };
-    let stop = Stop::of(serving, start);
+    let stop = Stop::of(serving, start.moment);
     let effects = serve_stretches(environment, stop, &mut looker, &mut station, err)?;
     print_served(effects, out, err)?;
     looker.log.end(err);

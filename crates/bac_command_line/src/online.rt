@@ -12,7 +12,7 @@ use crate::client_pair::ClientPair;
 use crate::environment::Environment;
 use crate::files::OpenFiles;
 use crate::rounds::{Asked, ask_by_client};
-use crate::serving::{Serving, print_listening, print_not_bound, serve_from};
+use crate::serving::{Serving, Start, epoch_of, print_listening, print_not_bound, serve_from};
 use crate::station::Station;
 use bac_commands::{Style, bound_house, bound_server, clock_fault, link_fault, read_question};
 use bac_driver::{Clock, Link, Question};
@@ -109,13 +109,17 @@ pub(crate) fn serve<M: Machine, O: Write, E: Write>(
         Err(_) => return no_memory(err),
     };
     serving.set(&mut bound_node);
-    print_listening(serving, address, objects, start, err);
+    let began = Start {
+        moment: start,
+        epoch: epoch_of(start, machine.time_of_day()),
+    };
+    print_listening(alloc, serving, address, objects, began, err);
     let mut station = Station {
         alloc,
         bound_node,
         clock: timer,
     };
-    serve_from(serving, start, &mut station, out, err)
+    serve_from(serving, began, &mut station, out, err)
 }
 
 /// The question for a peer that some words are.

@@ -12,14 +12,16 @@ ghost use Rattle.bac_command_line.specs.Serving.{patience_of, restart_of, turns_
 
 use crate::station::Station;
 use bac_commands::{
-    KeptServer, LevelLog, LogLevel, OctetStyle, ServeCommand, link_fault, serve_kept_logged,
+    KeptServer, LevelLog, LogFormat, LogLevel, LogSettings, OctetStyle, ServeCommand, link_fault,
+    print_event, serve_kept_logged,
 };
 use bac_driver::{BoundNode, Clock, Link, NoObserver, RunLimit, WaitLimit};
 use bac_keep::Keeper;
+use bac_log_json::LogEvent;
 use bac_node::Reuse;
 use bac_npdu::LinkAddress;
 use bac_text::Status;
-use std::alloc::Global;
+use std::alloc::{AllocError, Global};
 use std::io;
 use std::io::Write;
 
@@ -49,10 +51,29 @@ pub(crate) struct Serving {
     pub log: bool,
     /// Which of its turns are logged, with long octets by their first ones.
     pub level: Option<LogLevel>,
+    /// Whether its log, and what it says at its start, are objects of JSON.
+    pub json: bool,
     /// Whether it follows its document.
     pub follow: bool,
     /// Whether it ends when standard input does.
     pub until_eof: bool,
+}
+
+/// When a server begins.
+#[derive(Clone, Copy, Debug, PartialEq, Eq)]
+pub(crate) struct Start {
+    /// The moment of its clock, in milliseconds.
+    pub moment: u64,
+    /// The time of day at moment 0 of that clock, in milliseconds since 1970 began in UTC; None where it cannot be read.
+    pub epoch: Option<u64>,
+}
+
+/// The time of day at moment 0 of a clock that shows this moment at that time of day.
+pub(crate) fn epoch_of(moment: u64, time: Option<u64>) -> Option<u64> {
+    match time {
+        Some(time) => Some(time.saturating_sub(moment)),
+        None => None,
+    }
 }
 
 impl Serving {
@@ -109,14 +130,27 @@ impl Serving {
         }
     }
 
-    /// Its log, where it begins at that moment.
-    pub(crate) fn log_from(&self, alloc: Global, start: u64) -> LevelLog {
+    /// Its log, where it begins then.
+    pub(crate) fn log_from(&self, alloc: Global, start: Start) -> LevelLog {
         let (level, octet_style) = if self.log {
             (Some(LogLevel::All), OctetStyle::Whole)
         } else {
             (self.level, OctetStyle::Short)
         };
-        LevelLog::new(alloc, self.serves_from(start), level, octet_style)
+        LevelLog::new(alloc, self.log_settings(start), level, octet_style)
+    }
+
+    /// How its log is written, where it begins then.
+    fn log_settings(&self, start: Start) -> LogSettings {
+        let format = if self.json {
+            LogFormat::Objects { epoch: start.epoch }
+        } else {
+            LogFormat::Lines
+        };
+        LogSettings {
+            format,
+            serves_from: self.serves_from(start.moment),
+        }
     }
 
     /// The first moment at which it performs requests, where it begins at that one.
@@ -143,44 +177,62 @@ pub(crate) fn print_not_bound<E: Write>(serving: &Serving, error: &io::Error, er
     Status::Output
 }
 
-/// Prints on `err` where a node listens that begins at that moment, and how many objects and slots it has; and from when on it serves, where it restarted.
+/// Prints on `err` where a node listens that begins then, and how many objects and slots it has; and from when on it serves, where it restarted.
 pub(crate) fn print_listening<E: Write>(
+    alloc: Global,
     serving: &Serving,
     link: LinkAddress,
     objects: usize,
-    start: u64,
+    start: Start,
     err: &mut E,
 ) {
     let [a, b, c, d, high, low] = link;
     let port = u16::from_be_bytes([high, low]);
     let slots = serving.slots;
-    // if that fails too, nothing is printed
     if serving.turns.is_none() {
-        let _ = writeln!(
-            err,
+        let words = format!(in alloc;
             "listening {a}.{b}.{c}.{d}:{port}, {objects} objects, {slots} slots"
         );
+        print_started(alloc, serving, start, words, err);
     }
     if serving.restarted {
-        let from = serving.serves_from(start);
-        let _ = writeln!(err, "serving from {from}");
+        let from = serving.serves_from(start.moment);
+        let words = format!(in alloc; "serving from {from}");
+        print_started(alloc, serving, start, words, err);
     }
 }
 
-/// A node serves from that moment on, and its turns are logged on `err` where that is wanted; where a line of the log could not be written, `log fault` ends it.
+/// Prints how a server began, in words or as an object. If that fails, nothing is printed.
+fn print_started<E: Write>(
+    alloc: Global,
+    serving: &Serving,
+    start: Start,
+    words: Result<String, AllocError>,
+    err: &mut E,
+) {
+    if let Ok(words) = words {
+        let event = LogEvent::Started {
+            words: words.as_bytes(),
+        };
+        let format = serving.log_settings(start).format;
+        let _ = print_event(alloc, format, start.moment, event, err);
+    }
+}
+
+/// A node serves from then on, and its turns are logged on `err` where that is wanted; where a line of the log could not be written, `log fault` ends it.
 pub(crate) fn serve_from<L: Link, C: Clock, O: Write, E: Write>(
     serving: &Serving,
-    start: u64,
+    start: Start,
     station: &mut Station<L, C>,
     out: &mut O,
     err: &mut E,
 ) -> Status
-    ensures { ReportsServing result (patience_of serving.now start) (turns_of serving.now.turns) (timed station.old.bound_node (C.told station.old.clock))
+    ensures { ReportsServing result (patience_of serving.now start.moment) (turns_of serving.now.turns) (timed station.old.bound_node (C.told station.old.clock))
         (timed station.new.bound_node (C.told station.new.clock)) (O.contents out.old) (O.contents out.new) }
 {
     let limit = RunLimit {
         turns: serving.most_turns(),
-        wait_limit: serving.wait_limit(start),
+        wait_limit: serving.wait_limit(start.moment),
     };
     if serving.level.is_some() {
         let mut log = serving.log_from(station.alloc, start);
@@ -207,7 +259,7 @@ pub(crate) fn serve_from<L: Link, C: Clock, O: Write, E: Write>(
     }
     let command = ServeCommand {
         limit,
-        serves_from: serving.serves_from(start),
+        settings: serving.log_settings(start),
     };
     let logged = bac_commands::serve_logged(
         station.alloc,
@@ -228,24 +280,24 @@ pub(crate) fn serve_from<L: Link, C: Clock, O: Write, E: Write>(
 pub(crate) fn serve_kept_from<L: Link, C: Clock, K: Keeper, O: Write, E: Write>(
     alloc: Global,
     serving: &Serving,
-    start: u64,
+    start: Start,
     server: &mut KeptServer<L, C, K>,
     out: &mut O,
     err: &mut E,
 ) -> Status
     requires { K.IsHonest (keeper_of server.old.round) → IsKept K.IsOpen K.kept K.noted (keeper_of server.old.round) server.old.bound_node.node.store }
-    ensures printed { ByStatus result (RoundsText (patience_of serving.now start) (turns_of serving.now.turns) (timed server.old.bound_node (C.told server.old.clock))
+    ensures printed { ByStatus result (RoundsText (patience_of serving.now start.moment) (turns_of serving.now.turns) (timed server.old.bound_node (C.told server.old.clock))
         (timed server.new.bound_node (C.told server.new.clock)) (O.contents out.old) (O.contents out.new)) ⊥ ⊥ }
     ensures all { IsKeptByStatus result K.IsHonest K.IsOpen K.kept K.noted (keeper_of server.new.round) server.new.bound_node.node.store }
     ensures honest { K.IsHonest (keeper_of server.new.round) → K.IsHonest (keeper_of server.old.round) }
     ensures base { K.base (keeper_of server.new.round) ≡ K.base (keeper_of server.old.round) }
-    ensures kept { EndsKept Unseen (patience_of serving.now start) (turns_of serving.now.turns) K.IsHonest K.IsOpen K.kept K.noted K.may_find
+    ensures kept { EndsKept Unseen (patience_of serving.now start.moment) (turns_of serving.now.turns) K.IsHonest K.IsOpen K.kept K.noted K.may_find
         (keeper_of server.new.round) (unwatched (timed server.old.bound_node (C.told server.old.clock)))
         (unwatched (timed server.new.bound_node (C.told server.new.clock))) }
 {
     let limit = RunLimit {
         turns: serving.most_turns(),
-        wait_limit: serving.wait_limit(start),
+        wait_limit: serving.wait_limit(start.moment),
     };
     if serving.level.is_some() {
         let mut log = serving.log_from(alloc, start);
@@ -258,7 +310,7 @@ pub(crate) fn serve_kept_from<L: Link, C: Clock, K: Keeper, O: Write, E: Write>(
     }
     let command = ServeCommand {
         limit,
-        serves_from: serving.serves_from(start),
+        settings: serving.log_settings(start),
     };
     let logged = serve_kept_logged(alloc, server, &command, out, err);
     if !logged.whole {

@@ -231,6 +231,7 @@ pub(crate) fn serving_of(given: &ArgMatches<'_>) -> Option<Serving>
         memory,
         log: flag_of(given, "log"),
         level: level_of(given),
+        json: flag_of(given, "json"),
         follow: flag_of(given, "follow"),
         until_eof: flag_of(given, "until-eof"),
     })

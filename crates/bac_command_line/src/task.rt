@@ -127,6 +127,8 @@ fn view_of(given: &ArgMatches<'_>) -> Option<View> {
         Some(View::Capture)
     } else if given.get_flag("text") {
         Some(View::Text)
+    } else if given.get_flag("json") {
+        Some(View::Objects)
     } else {
         None
     }

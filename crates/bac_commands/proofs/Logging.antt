@@ -7,11 +7,12 @@ use Rattle.bac_driver.specs.Seen.{Seen, Watches, WatchesTurns, goes_on}
 use Rattle.bac_driver.specs.declared.wait_limit.WaitLimit.{WaitLimit}
 use Rattle.bac_commands.specs.Reports.{ServingIsWatched}
 use Rattle.bac_commands.specs.Logs.{Log, Logs, Prints, written_in}
+use Rattle.bac_commands.specs.declared.log_settings.LogSettings.{LogSettings}
 
--- what is known of a log that became whole out of another one: it serves from the same moment on, and the lines of these turns were written
+-- what is known of a log that became whole out of another one: it has the same settings, and the lines of these turns were written
 pub record IsWhole (taken : List Seen) (old new : Log) : Type 0 where
-  pub same : new.serves_from ≡ old.serves_from
-  pub told : Run (goes_on (Prints old.serves_from)) taken (written_in old) (written_in new)
+  pub same : new.settings ≡ old.settings
+  pub told : Run (goes_on (Prints old.settings)) taken (written_in old) (written_in new)
 
 whole_of : (taken : List Seen) (old new : Log) → Run (goes_on Logs) taken old new → new.whole ≡ true → IsWhole taken old new
 whole_of [] old new run whole =
@@ -25,12 +26,12 @@ whole_of (s ∷ before) old new run whole =
           record {
             middle = written_in run.middle;
             so_far = front.told;
-            last = subst (λ (n : ℕ). Prints n s (written_in run.middle) (written_in new)) front.same written.prints;
+            last = subst (λ (n : LogSettings). Prints n s (written_in run.middle) (written_in new)) front.same written.prints;
           };
     }
 
 turns_of : (p : WaitLimit) (from to : Log) (turns effects : ℕ) (old new : Timed) → to.whole ≡ true → WatchesTurns Logs p from to turns effects old new
-    → WatchesTurns (Prints from.serves_from) p (written_in from) (written_in to) turns effects old new
+    → WatchesTurns (Prints from.settings) p (written_in from) (written_in to) turns effects old new
 turns_of p from to turns effects old new whole w =
     record {
       taken = w.taken;
@@ -41,7 +42,7 @@ turns_of p from to turns effects old new whole w =
     }
 
 watches_of : (p : WaitLimit) (from to : Log) (turns effects : ℕ) (old new : Timed) → to.whole ≡ true → Watches Logs p from to turns effects old new
-    → Watches (Prints from.serves_from) p (written_in from) (written_in to) turns effects old new
+    → Watches (Prints from.settings) p (written_in from) (written_in to) turns effects old new
 watches_of p from to turns effects old new whole (inl w) = inl (turns_of p from to turns effects old new whole w)
 watches_of p from to turns effects old new whole (inr s) =
     inr (record {
@@ -54,7 +55,7 @@ watches_of p from to turns effects old new whole (inr s) =
 
 -- whatever the status
 pub logged : (s : Status) (p : WaitLimit) (turns : ℕ) (from to : Log) (before after : Timed) → to.whole ≡ true
-    → ServingIsWatched s Logs p turns before after from to → ServingIsWatched s (Prints from.serves_from) p turns before after (written_in from) (written_in to)
+    → ServingIsWatched s Logs p turns before after from to → ServingIsWatched s (Prints from.settings) p turns before after (written_in from) (written_in to)
 logged status.Done p turns from to before after whole w =
     record { effects = w.effects; watches = watches_of p from to turns w.effects before after whole w.watches }
 logged status.Faulty p turns from to before after whole w = w

@@ -8,6 +8,7 @@ use Rattle.bac_driver.specs.Rounds.{BreaksOff, IsKept, ServesRounds}
 use Rattle.bac_driver.specs.Runs.{Timed}
 use Rattle.bac_driver.specs.Seen.{Watcher}
 use Rattle.bac_driver.specs.declared.wait_limit.WaitLimit.{WaitLimit}
+use Rattle.bac_commands.specs.declared.log_settings.LogSettings.{LogSettings}
 use Rattle.bac_commands.specs.Logs.{Log, Logs, NONE_AWAY}
 use Rattle.bac_commands.specs.Reports.{served_line}
 use Rattle.bac_commands.specs.Statuses.{ByStatus}
@@ -55,8 +56,8 @@ abbrev pub IsKeptByStatus : {K : Type 0} → Status → (IsHonest IsOpen : K →
 IsKeptByStatus s IsHonest IsOpen kept noted keeper store = ByStatus s (AllIsKept IsHonest IsOpen kept noted keeper store) ⊥ ⊥
 
 -- a log that is whole so far
-abbrev pub whole_log : (serves_from : ℕ) → (text : Option (List ℕ)) → Log
-whole_log serves_from text = record { serves_from = serves_from; whole = true; tally = NONE_AWAY; text = text }
+abbrev pub whole_log : LogSettings → (text : Option (List ℕ)) → Log
+whole_log settings text = record { settings = settings; whole = true; tally = NONE_AWAY; text = text }
 
 -- the same, with a log that is so afterwards
 pub record LogsKept {K : Type 0} (s : Status) (p : WaitLimit) (rounds : ℕ) (IsHonest IsOpen : K → Type 0) (kept noted : K → Store)
@@ -65,10 +66,10 @@ pub record LogsKept {K : Type 0} (s : Status) (p : WaitLimit) (rounds : ℕ) (Is
   pub all : IsKeptByStatus s IsHonest IsOpen kept noted keeper after.bound_node.node.store
   pub ends : EndsKept Unseen p rounds IsHonest IsOpen kept noted may_find keeper (unwatched before) (unwatched after)
 
--- whatever its first moment to serve is then, and how many were turned away, which no one reads
-pub record IsLogged {K : Type 0} (s : Status) (whole : Bool) (serves_from : ℕ) (p : WaitLimit) (rounds : ℕ) (IsHonest IsOpen : K → Type 0)
+-- whatever its settings are then, and how many were turned away, which no one reads
+pub record IsLogged {K : Type 0} (s : Status) (whole : Bool) (settings : LogSettings) (p : WaitLimit) (rounds : ℕ) (IsHonest IsOpen : K → Type 0)
     (kept noted : K → Store) (may_find : K → Store → Type 0) (keeper : K) (before after : Timed) (from to old new : Option (List ℕ)) : Type 0 where
   pub last : Log
   pub whole_is : last.whole ≡ whole
   pub text : last.text ≡ to
-  pub served : LogsKept s p rounds IsHonest IsOpen kept noted may_find keeper before after (whole_log serves_from from) last old new
+  pub served : LogsKept s p rounds IsHonest IsOpen kept noted may_find keeper before after (whole_log settings from) last old new

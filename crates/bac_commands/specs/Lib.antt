@@ -8,11 +8,13 @@ pub mod Questions
 pub mod Reports
 pub mod Pairs
 pub mod CommandErrors
+pub mod FaultWords
 pub mod Words
 pub mod FileOctets
 pub mod AskEnds
 pub mod Frames
 pub mod LogWords
+pub mod EventTexts
 pub mod Lines
 pub mod Logs
 pub mod Kept

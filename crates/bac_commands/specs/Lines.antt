@@ -1,6 +1,7 @@
 -- The lines of a turn.
 use Rattle.std.specs.Prelude.{◌≡◌, ◌==◌, ℕ, ◌+◌, ◌-◌, ◌≤◌, ◌<◌, min, nat_le, nat_lt, count_by, Bool, true, false, ◌&&◌, not, List, [], ◌∷◌, ◌++◌, codes, decimal, length, take}
 use Rattle.std.specs.Prelude.{Option, Some, None, if◌then◌else◌}
+use Rattle.std.specs.Option.{option_map}
 use Rattle.bac_protocol.specs.Service.{Octets}
 use Rattle.bac_protocol.specs.Own.{invoke_id_of}
 use Rattle.bac_apdu.specs.Apdu.{Abort, Apdu, UnconfirmedRequest}
@@ -13,10 +14,14 @@ use Rattle.bac_world.specs.Services.{Performed}
 use Rattle.bac_requester.specs.Timers.{LAST_MOMENT}
 use Rattle.bac_driver.specs.Seen.{Seen}
 use Rattle.bac_driver.specs.Turns.{Turn, dropped_of, performed_of, sends_of, skipped_in}
-use Rattle.bac_text.specs.Peers.{link_text, peer_text}
-use Rattle.bac_text.specs.Texts.{line_end}
+use Rattle.bac_log_json.specs.Logs.{Dropped, Heard, LogEvent, NotDone, NotSent, SentAgain, TableFull}
+use Rattle.bac_service.specs.Replies.{Reply}
+use Rattle.bac_service.specs.Values.{Request}
+use Rattle.bac_commands.specs.EventTexts.{IsEventText, IsTextWhere}
 use Rattle.bac_commands.specs.Frames.{apdu_in, contents_of, npdu_in}
 use Rattle.bac_commands.specs.LogWords.{AreAskingWords, AreDoneWords, cause_words}
+use Rattle.bac_commands.specs.declared.log_settings.LogFormat.{LogFormat}
+use Rattle.bac_commands.specs.declared.log_settings.LogSettings.{LogSettings}
 
 -- ---- a datagram
 
@@ -28,62 +33,63 @@ abbrev pub away_words : (serves_from now : ℕ) → ServerEnd → List ℕ
 away_words from now e = if nat_lt now from then codes ", restarted" else (if is_full now e then codes ", table full" else [])
 
 -- an Unconfirmed-Request has no invoke ID
-abbrev pub id_text : Apdu → List ℕ
-id_text (UnconfirmedRequest choice service) = []
-id_text a = codes " id " ++ decimal (invoke_id_of a)
+abbrev pub id_of : Apdu → Option ℕ
+id_of (UnconfirmedRequest choice service) = None
+id_of a = Some (invoke_id_of a)
 
--- a moment, in milliseconds, and the other end
-abbrev pub head_text : (at : ℕ) → PeerView → Apdu → List ℕ
-head_text at peer a = decimal at ++ (codes " " ++ (peer_text peer ++ (id_text a ++ codes " ")))
+abbrev pub request_and_reply : Performed → Request × Reply
+request_and_reply p = (p.request, p.reply)
 
--- what came, and what was done
-pub record IsHeardLine (away : List ℕ) (turn : Turn) (peer : PeerView) (a : Apdu) (text : List ℕ) : Type 0 where
+-- what came, what was performed for it, and what was done
+pub record IsHeardText (f : LogFormat) (away : List ℕ) (turn : Turn) (peer : PeerView) (a : Apdu) (text : List ℕ) : Type 0 where
   pub asking : List ℕ
   pub are_asking : AreAskingWords (performed_of turn.heard) a asking
   pub done : List ℕ
   pub are_done : AreDoneWords away (performed_of turn.heard) (sends_of turn.heard) done
-  pub is : text ≡ (((head_text turn.at peer a ++ asking) ++ codes ": ") ++ done) ++ line_end
+  pub is : IsEventText f turn.at (Heard peer (id_of a) (option_map request_and_reply (performed_of turn.heard)) asking done) text
 
-abbrev pub IsApduText : (away : List ℕ) → Turn → PeerView → Option Apdu → List ℕ → Type 0
-IsApduText away turn peer None text = text ≡ []
-IsApduText away turn peer (Some a) text = IsHeardLine away turn peer a text
+abbrev pub IsApduText : LogFormat → (away : List ℕ) → Turn → PeerView → Option Apdu → List ℕ → Type 0
+IsApduText f away turn peer None text = text ≡ []
+IsApduText f away turn peer (Some a) text = IsHeardText f away turn peer a text
 
 -- the sender is the link, or stands behind it
-abbrev pub IsNpduText : (away : List ℕ) → Turn → (from : Octets) → Option NpduView → List ℕ → Type 0
-IsNpduText away turn from None text = text ≡ []
-IsNpduText away turn from (Some n) text = IsApduText away turn (record { link = from; route = n.source }) (contents_of (Some n)) text
-
-abbrev pub dropped_line : (at : ℕ) → (from : Octets) → Cause → List ℕ
-dropped_line at from cause = decimal at ++ (codes " " ++ (link_text from ++ (codes " dropped: " ++ (cause_words cause ++ codes "\n"))))
+abbrev pub IsNpduText : LogFormat → (away : List ℕ) → Turn → (from : Octets) → Option NpduView → List ℕ → Type 0
+IsNpduText f away turn from None text = text ≡ []
+IsNpduText f away turn from (Some n) text = IsApduText f away turn (record { link = from; route = n.source }) (contents_of (Some n)) text
 
 -- a datagram is dropped, or heard
-abbrev pub IsCameText : (away : List ℕ) → Turn → (from octets : Octets) → Option Cause → List ℕ → Type 0
-IsCameText away turn from octets (Some cause) text = text ≡ dropped_line turn.at from cause
-IsCameText away turn from octets None text = IsNpduText away turn from (npdu_in octets) text
+abbrev pub IsCameText : LogFormat → (away : List ℕ) → Turn → (from octets : Octets) → Option Cause → List ℕ → Type 0
+IsCameText f away turn from octets (Some cause) text = IsEventText f turn.at (Dropped from (cause_words cause)) text
+IsCameText f away turn from octets None text = IsNpduText f away turn from (npdu_in octets) text
 
 -- where one came
-abbrev pub IsReceivedText : (away : List ℕ) → Turn → (buffer : Octets) → Option (Octets × ℕ) → List ℕ → Type 0
-IsReceivedText away turn buffer None text = text ≡ []
-IsReceivedText away turn buffer (Some d) text = IsCameText away turn d.0 (take d.1 buffer) (dropped_of turn.heard) text
+abbrev pub IsReceivedText : LogFormat → (away : List ℕ) → Turn → (buffer : Octets) → Option (Octets × ℕ) → List ℕ → Type 0
+IsReceivedText f away turn buffer None text = text ≡ []
+IsReceivedText f away turn buffer (Some d) text = IsCameText f away turn d.0 (take d.1 buffer) (dropped_of turn.heard) text
 
 -- ---- what else a turn gave
 
 -- so many datagrams or steps, where there are any
-abbrev pub count_line : (at : ℕ) → (front : List ℕ) → (count : ℕ) → (name : List ℕ) → List ℕ
-count_line at front count name = if count == 0 then [] else decimal at ++ (codes " " ++ (front ++ (decimal count ++ (name ++ codes "\n"))))
+abbrev pub IsCountText : LogFormat → (at count : ℕ) → LogEvent → List ℕ → Type 0
+IsCountText f at count event text = IsTextWhere (not (count == 0)) f at event text
 
-abbrev pub rest_text : Turn → List ℕ
-rest_text turn =
-    (count_line turn.at (codes "timer: ") (length (sends_of turn.ticked)) (codes " sent again")
-    ++ count_line turn.at (codes "link: ") turn.lost (codes " not sent"))
-    ++ count_line turn.at (codes "no memory: ") (skipped_in turn) (codes " not done")
+pub record IsRestText (f : LogFormat) (turn : Turn) (text : List ℕ) : Type 0 where
+  pub again : List ℕ
+  pub is_again : IsCountText f turn.at (length (sends_of turn.ticked)) (SentAgain (length (sends_of turn.ticked))) again
+  pub lost : List ℕ
+  pub is_lost : IsCountText f turn.at turn.lost (NotSent turn.lost) lost
+  pub undone : List ℕ
+  pub is_undone : IsCountText f turn.at (skipped_in turn) (NotDone (skipped_in turn)) undone
+  pub is : text ≡ (again ++ lost) ++ undone
 
 -- ---- all of a turn, of a server that serves from a moment on
 
-pub record AreTurnLines (serves_from : ℕ) (s : Seen) (text : List ℕ) : Type 0 where
+pub record AreTurnLines (settings : LogSettings) (s : Seen) (text : List ℕ) : Type 0 where
   pub came : List ℕ
-  pub is_came : IsReceivedText (away_words serves_from s.turn.at s.node.servers) s.turn s.buffer s.turn.received came
-  pub is : text ≡ came ++ rest_text s.turn
+  pub is_came : IsReceivedText settings.format (away_words settings.serves_from s.turn.at s.node.servers) s.turn s.buffer s.turn.received came
+  pub rest : List ℕ
+  pub is_rest : IsRestText settings.format s.turn rest
+  pub is : text ≡ came ++ rest
 
 -- ---- requests that are turned away since the table is full
 
@@ -117,28 +123,21 @@ pub record IsNextFree (now : ℕ) (e : ServerEnd) (next : ℕ) : Type 0 where
   pub full : (moment : ℕ) → now ≤ moment → moment < next → e.capacity ≤ count_by (is_slot_live moment) e.slots
   pub free : next < LAST_MOMENT → count_by (is_slot_live next) e.slots < e.capacity
 
-abbrev pub away_text : (away : ℕ) → List ℕ
-away_text away = if away == 1 then codes " request turned away" else codes " requests turned away"
-
 -- how many were turned away, and in how many milliseconds a slot gets free
-abbrev pub full_line : (at away wait : ℕ) → List ℕ
-full_line at away wait =
-    decimal at ++ (codes " table full: " ++ (decimal away ++ (away_text away ++ (codes ", next slot free in " ++ (decimal wait ++ codes " ms\n")))))
-
-pub record IsFullLine (at away : ℕ) (e : ServerEnd) (text : List ℕ) : Type 0 where
+pub record IsFullLine (f : LogFormat) (at away : ℕ) (e : ServerEnd) (text : List ℕ) : Type 0 where
   pub next : ℕ
   pub is_next : IsNextFree at e next
-  pub is : text ≡ full_line at away (next - at)
+  pub is : IsEventText f at (TableFull away (next - at)) text
 
 -- if it is said
-abbrev pub IsFullText : (says : Bool) → (at away : ℕ) → ServerEnd → List ℕ → Type 0
-IsFullText true at away e text = IsFullLine at away e text
-IsFullText false at away e text = text ≡ []
+abbrev pub IsFullText : (says : Bool) → LogFormat → (at away : ℕ) → ServerEnd → List ℕ → Type 0
+IsFullText true f at away e text = IsFullLine f at away e text
+IsFullText false f at away e text = text ≡ []
 
 -- the lines of a turn, and then how many were turned away so far
-pub record AreLogLines (serves_from : ℕ) (s : Seen) (away : ℕ) (said : Option ℕ) (text : List ℕ) : Type 0 where
+pub record AreLogLines (settings : LogSettings) (s : Seen) (away : ℕ) (said : Option ℕ) (text : List ℕ) : Type 0 where
   pub lines : List ℕ
-  pub are : AreTurnLines serves_from s lines
+  pub are : AreTurnLines settings s lines
   pub full : List ℕ
-  pub is_full_text : IsFullText (is_said s.turn.at away said) s.turn.at away s.node.servers full
+  pub is_full_text : IsFullText (is_said s.turn.at away said) settings.format s.turn.at away s.node.servers full
   pub is : text ≡ lines ++ full

@@ -8,6 +8,7 @@ use Rattle.bac_driver.specs.declared.wait_limit.WaitLimit.{WaitLimit}
 use Rattle.bac_commands.specs.Lines.{AreLogLines, counts_away, is_said, is_turned_away}
 use Rattle.bac_commands.specs.Reports.{ServingIsWatched}
 use Rattle.bac_commands.specs.declared.log.Tally.{Tally}
+use Rattle.bac_commands.specs.declared.log_settings.LogSettings.{LogSettings}
 
 -- no request was turned away so far
 abbrev pub NONE_AWAY : Tally
@@ -21,9 +22,9 @@ counted from s t = counts_away (is_turned_away from s.turn s.node.servers) t.awa
 abbrev pub told_at : (at away : ℕ) → Tally → Tally
 told_at at away t = if is_said at away t.said then record { away = 0; said = Some at } else record { away = away; said = t.said }
 
--- from when on the server serves, whether each line was written, how many were turned away, and what the output has
+-- how it is written, whether each line was, how many were turned away, and what the output has
 pub record Log : Type 0 where
-  pub serves_from : ℕ
+  pub settings : LogSettings
   pub whole : Bool
   pub tally : Tally
   pub text : Option (List ℕ)
@@ -37,21 +38,21 @@ abbrev pub written_in : Log → Written
 written_in l = record { tally = l.tally; text = l.text }
 
 -- the lines of a turn were written
-pub record Prints (serves_from : ℕ) (s : Seen) (old new : Written) : Type 0 where
-  pub tally : new.tally ≡ told_at s.turn.at (counted serves_from s old.tally) old.tally
-  pub tells : AppendsText old.text new.text (AreLogLines serves_from s (counted serves_from s old.tally) old.tally.said)
+pub record Prints (settings : LogSettings) (s : Seen) (old new : Written) : Type 0 where
+  pub tally : new.tally ≡ told_at s.turn.at (counted settings.serves_from s old.tally) old.tally
+  pub tells : AppendsText old.text new.text (AreLogLines settings s (counted settings.serves_from s old.tally) old.tally.said)
 
 -- while the log is whole
 pub record IsWritten (s : Seen) (old new : Log) : Type 0 where
   pub before : old.whole ≡ true
-  pub prints : Prints old.serves_from s (written_in old) (written_in new)
+  pub prints : Prints old.settings s (written_in old) (written_in new)
 
 pub record Logs (s : Seen) (old new : Log) : Type 0 where
-  pub same : new.serves_from ≡ old.serves_from
+  pub same : new.settings ≡ old.settings
   pub written : new.whole ≡ true → IsWritten s old new
 
 -- a node served, and the lines of each turn were written: from a text to another one
-pub record ServingIsLogged (s : Status) (serves_from : ℕ) (p : WaitLimit) (turns : ℕ) (before after : Timed) (from to : Option (List ℕ)) : Type 0 where
+pub record ServingIsLogged (s : Status) (settings : LogSettings) (p : WaitLimit) (turns : ℕ) (before after : Timed) (from to : Option (List ℕ)) : Type 0 where
   pub last : Written
   pub text : last.text ≡ to
-  pub watched : ServingIsWatched s (Prints serves_from) p turns before after (record { tally = NONE_AWAY; text = from }) last
+  pub watched : ServingIsWatched s (Prints settings) p turns before after (record { tally = NONE_AWAY; text = from }) last

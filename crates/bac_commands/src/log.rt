@@ -7,6 +7,7 @@ ghost use Rattle.bac_commands.specs.Lines.{AreLogLines, counts_away, is_turned_a
 ghost use Rattle.bac_commands.specs.Logs.{NONE_AWAY, told_at};
 
 use crate::lines::turn_lines;
+use crate::log_settings::LogSettings;
 use crate::turned_away::{counts_away, full_text, is_said, is_turned_away};
 use bac_driver::{Observer, Turn};
 use bac_node::Node;
@@ -51,8 +52,7 @@ impl Tally {
 #[derive(Drop)]
 pub(crate) struct Log {
     pub(crate) alloc: Global,
-    /// From when on the server serves, in milliseconds; 0 where it did not restart.
-    pub(crate) serves_from: u64,
+    pub(crate) settings: LogSettings,
     /// Whether each line was written.
     pub(crate) whole: bool,
     pub(crate) tally: Tally,
@@ -61,10 +61,10 @@ pub(crate) struct Log {
 impl Log {
     /// How many were turned away, with what a turn did.
     fn counted(&self, node: &Node, turn: &Turn) -> u64
-        ensures { result ≡ counts_away (is_turned_away self.now.serves_from (turn_view turn.now) node.now.servers) self.now.tally.away }
+        ensures { result ≡ counts_away (is_turned_away self.now.settings.serves_from (turn_view turn.now) node.now.servers) self.now.tally.away }
     {
         counts_away(
-            is_turned_away(self.serves_from, node, turn),
+            is_turned_away(self.settings.serves_from, node, turn),
             self.tally.away,
         )
     }
@@ -80,10 +80,11 @@ fn write_turn<W: Write>(
     out: &mut W,
 ) -> io::Result<()>
     ensures { OnOk result (AppendsText (W.contents out.old) (W.contents out.new)
-        (AreLogLines log.now.serves_from (seen node.now buffer.now (turn_view turn.now)) away log.now.tally.said)) }
+        (AreLogLines log.now.settings (seen node.now buffer.now (turn_view turn.now)) away log.now.tally.said)) }
 {
-    let mut lines = turn_lines(log.alloc, log.serves_from, node, buffer, turn)?;
-    let full = full_text(log.alloc, turn.at, away, log.tally.said, node)?;
+    let tally = Tally { away, ..log.tally };
+    let mut lines = turn_lines(log.alloc, log.settings, node, buffer, turn)?;
+    let full = full_text(log.alloc, log.settings.format, turn.at, tally, node)?;
     lines.extend_from_slice(full.as_slice())?;
     out.write_all(lines.as_slice())
 }
@@ -93,7 +94,7 @@ impl<W: Write> Observer<W> for Log {
 
     ghost State = { logs.Log };
 
-    ghost state = { λ l out. record { serves_from = l.serves_from; whole = l.whole; tally = l.tally; text = W.contents out } };
+    ghost state = { λ l out. record { settings = l.settings; whole = l.whole; tally = l.tally; text = W.contents out } };
 
     ghost Sees = { logs.Logs };
 

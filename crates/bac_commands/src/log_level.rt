@@ -1,9 +1,12 @@
 //! A log that tells of some turns, and shows long octets by their first ones.
 ghost use Rattle.std.specs.Prelude.{⊤};
 
+use crate::event_text::print_event;
 use crate::lines::turn_lines;
+use crate::log_settings::LogSettings;
 use crate::shortening::shortened;
 use bac_driver::{Observer, Turn};
+use bac_log_json::LogEvent;
 use bac_node::Node;
 use std::alloc::Global;
 use std::io;
@@ -48,7 +51,7 @@ pub enum OctetStyle {
 #[derive(Drop)]
 pub struct LevelLog {
     alloc: Global,
-    serves_from: u64,
+    settings: LogSettings,
     level: Option<LogLevel>,
     octet_style: OctetStyle,
     is_whole: bool,
@@ -56,24 +59,24 @@ pub struct LevelLog {
 
 /// The lines of a turn, with long octets as the log shows them.
 fn lines_of(log: &LevelLog, node: &Node, buffer: &[u8], turn: &Turn) -> io::Result<Vec<u8>> {
-    let lines = turn_lines(log.alloc, log.serves_from, node, buffer, turn)?;
+    let lines = turn_lines(log.alloc, log.settings, node, buffer, turn)?;
     match log.octet_style {
         OctetStyle::Whole => Ok(lines),
-        OctetStyle::Short => Ok(shortened(log.alloc, &lines)?),
+        OctetStyle::Short => Ok(shortened(log.alloc, log.settings.format, &lines)?),
     }
 }
 
 impl LevelLog {
-    /// A log of a server that performs requests from a moment on, in milliseconds; 0 where it did not restart. Without a level it tells of nothing.
+    /// A log of a server. Without a level it tells of nothing.
     pub fn new(
         alloc: Global,
-        serves_from: u64,
+        settings: LogSettings,
         level: Option<LogLevel>,
         octet_style: OctetStyle,
     ) -> LevelLog {
         LevelLog {
             alloc,
-            serves_from,
+            settings,
             level,
             octet_style,
             is_whole: true,
@@ -90,10 +93,10 @@ impl LevelLog {
         self.is_whole && self.level.is_some()
     }
 
-    /// Writes a line of something that is no turn. None is written where nothing is told, or the log is no longer whole.
-    pub fn write_line<W: Write>(&mut self, line: &[u8], out: &mut W) {
+    /// Writes the line of an event that is of no turn, at a moment. None is written where nothing is told, or the log is no longer whole.
+    pub fn write_event<W: Write>(&mut self, at: u64, event: LogEvent<'_>, out: &mut W) {
         if self.is_on() {
-            self.is_whole = out.write_all(line).is_ok();
+            self.is_whole = print_event(self.alloc, self.settings.format, at, event, out).is_ok();
         }
     }
 

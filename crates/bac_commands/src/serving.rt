@@ -8,6 +8,7 @@ ghost use Rattle.bac_commands.specs.Reports.{ReportsServing};
 ghost use Rattle.bac_commands.specs.Logs.{ServingIsLogged};
 
 use crate::log::{Log, Tally};
+use crate::log_settings::LogSettings;
 use crate::online::KeptServer;
 use bac_driver::{BoundNode, Clock, Link, RunLimit};
 use bac_keep::Keeper;
@@ -15,13 +16,13 @@ use bac_text::Status;
 use std::alloc::Global;
 use std::io::Write;
 
-/// For how long a node serves, and from which moment on it performs requests.
+/// For how long a node serves, and how its log is written.
 #[derive(Clone, Copy, Debug, PartialEq, Eq)]
 pub struct ServeCommand {
     /// How many turns it takes, and how long each waits.
     pub limit: RunLimit,
-    /// The first moment at which it performs requests, in milliseconds: 0 where it did not restart.
-    pub serves_from: u64,
+    /// How its log is written.
+    pub settings: LogSettings,
 }
 
 /// How serving ended, and whether its log is whole.
@@ -46,12 +47,12 @@ pub fn serve_logged<L: Link, C: Clock, O: Write, E: Write>(
 ) -> Logged
     ensures printed { ReportsServing result.status command.now.limit.wait_limit command.now.limit.turns
         (timed bound_node.old (C.told clock.old)) (timed bound_node.new (C.told clock.new)) (O.contents out.old) (O.contents out.new) }
-    ensures logged { IsTrue result.whole → ServingIsLogged result.status command.now.serves_from command.now.limit.wait_limit command.now.limit.turns
+    ensures logged { IsTrue result.whole → ServingIsLogged result.status command.now.settings command.now.limit.wait_limit command.now.limit.turns
         (timed bound_node.old (C.told clock.old)) (timed bound_node.new (C.told clock.new)) (E.contents err.old) (E.contents err.new) }
 {
     let mut log = Log {
         alloc,
-        serves_from: command.serves_from,
+        settings: command.settings,
         whole: true,
         tally: Tally::NONE_AWAY,
     };
@@ -73,14 +74,14 @@ pub fn serve_kept_logged<L: Link, C: Clock, K: Keeper, O: Write, E: Write>(
     requires { K.IsHonest (keeper_of server.old.round) → IsKept K.IsOpen K.kept K.noted (keeper_of server.old.round) server.old.bound_node.node.store }
     ensures honest { K.IsHonest (keeper_of server.new.round) → K.IsHonest (keeper_of server.old.round) }
     ensures base { K.base (keeper_of server.new.round) ≡ K.base (keeper_of server.old.round) }
-    ensures logged { IsLogged result.status result.whole command.now.serves_from command.now.limit.wait_limit command.now.limit.turns
+    ensures logged { IsLogged result.status result.whole command.now.settings command.now.limit.wait_limit command.now.limit.turns
         K.IsHonest K.IsOpen K.kept K.noted K.may_find (keeper_of server.new.round)
         (timed server.old.bound_node (C.told server.old.clock)) (timed server.new.bound_node (C.told server.new.clock))
         (E.contents err.old) (E.contents err.new) (O.contents out.old) (O.contents out.new) }
 {
     let mut log = Log {
         alloc,
-        serves_from: command.serves_from,
+        settings: command.settings,
         whole: true,
         tally: Tally::NONE_AWAY,
     };

@@ -1,6 +1,7 @@
-//! Lines in which long octets are shown by their first ones, and long lines by their front.
+//! Lines in which long octets are shown by their first ones, and long lines by their front. Objects of JSON stay objects.
 ghost use Rattle.std.specs.Prelude.{◌≤◌, length};
 
+use crate::log_settings::LogFormat;
 use std::alloc::{AllocError, Global};
 
 /// How many digits of octets are shown at most: those of 32 octets.
@@ -38,22 +39,61 @@ fn add_digits(alloc: Global, digits: &[u8], short: &mut Vec<u8>) -> Result<(), A
 
 /// Whether what stands behind a text may be digits of a text or of bits, which are no octets.
 fn has_kind_of_digits(text: &[u8]) -> bool {
-    text.ends_with(b" text ") || text.ends_with(b" bits ")
+    text.ends_with(b" text ")
+        || text.ends_with(b" bits ")
+        || text.ends_with(b"\"text\",\"value\":\"")
+        || text.ends_with(b"\"bits\",\"value\":\"")
 }
 
-/// A line in which more than 64 hexadecimal digits in a row, in capitals, are the first 64, `..` and in brackets how many octets they all are. Those behind
-/// `text` or `bits` stay as they are.
-fn with_short_octets(alloc: Global, line: &[u8]) -> Result<Vec<u8>, AllocError> {
+/// How many octets stand before the end of a string of JSON.
+fn string_len(text: &[u8]) -> usize
+    ensures { result ≤ length text.now }
+{
+    let mut is_escaped = false;
+    for place in 0..text.len() {
+        match text[place] {
+            b'"' if !is_escaped => return place,
+            b'\\' => is_escaped = !is_escaped,
+            _ => is_escaped = false,
+        }
+    }
+    text.len()
+}
+
+/// How many octets stay as they are behind the kind of a value: to the end of a line, or of the string of an object.
+fn kept_len(format: LogFormat, rest: &[u8]) -> usize
+    ensures { result ≤ length rest.now }
+{
+    match format {
+        LogFormat::Lines => rest.len(),
+        LogFormat::Objects { .. } => string_len(rest),
+    }
+}
+
+/// Appends the front of a text up to an octet that is no digit: digits, or what stays as it is. Returns what is behind it.
+fn add_front<'t>(
+    alloc: Global,
+    format: LogFormat,
+    rest: &'t [u8],
+    short: &mut Vec<u8>,
+) -> Result<&'t [u8], AllocError> {
+    if has_kind_of_digits(short) {
+        let (kept, after) = rest.split_at(kept_len(format, rest));
+        short.extend_from_slice(kept)?;
+        return Ok(after);
+    }
+    let (digits, after) = rest.split_at(digits_in(rest));
+    add_digits(alloc, digits, short)?;
+    Ok(after)
+}
+
+/// A line in which more than 64 hexadecimal digits in a row, in capitals, are the first 64, `..` and in brackets how many octets they all are. Those of a text
+/// or of bits stay as they are.
+fn with_short_octets(alloc: Global, format: LogFormat, line: &[u8]) -> Result<Vec<u8>, AllocError> {
     let mut short = Vec::new(alloc);
     let mut rest = line;
     for _ in 0..line.len() {
-        if has_kind_of_digits(&short) {
-            short.extend_from_slice(rest)?;
-            return Ok(short);
-        }
-        let count = digits_in(rest);
-        let (digits, after) = rest.split_at(count);
-        add_digits(alloc, digits, &mut short)?;
+        let after = add_front(alloc, format, rest, &mut short)?;
         let Some((octet, more)) = after.split_first() else {
             return Ok(short);
         };
@@ -77,9 +117,22 @@ fn shown_of(line: &[u8]) -> usize
     0
 }
 
-/// Appends a line, without its end; of one that is longer than 480 octets its front, `..`, and in brackets how many octets it has.
-fn add_line(alloc: Global, line: &[u8], short: &mut Vec<u8>) -> Result<(), AllocError> {
-    if line.len() <= MOST_OF_LINE {
+/// Whether a line is shown whole. An object of JSON always is.
+fn is_shown_whole(format: LogFormat, line: &[u8]) -> bool {
+    match format {
+        LogFormat::Lines => line.len() <= MOST_OF_LINE,
+        LogFormat::Objects { .. } => true,
+    }
+}
+
+/// Appends a line, without its end; of one of words that is longer than 480 octets its front, `..`, and in brackets how many octets it has.
+fn add_line(
+    alloc: Global,
+    format: LogFormat,
+    line: &[u8],
+    short: &mut Vec<u8>,
+) -> Result<(), AllocError> {
+    if is_shown_whole(format, line) {
         return short.extend_from_slice(line);
     }
     let (front, _) = line.split_at(shown_of(line));
@@ -89,16 +142,20 @@ fn add_line(alloc: Global, line: &[u8], short: &mut Vec<u8>) -> Result<(), Alloc
     short.extend_from_slice(more.as_bytes())
 }
 
-/// Lines of a log in which long octets are shown by their first 32, and long lines by their front.
-pub(crate) fn shortened(alloc: Global, text: &[u8]) -> Result<Vec<u8>, AllocError> {
+/// Lines of a log in which long octets are shown by their first 32, and long lines of words by their front.
+pub(crate) fn shortened(
+    alloc: Global,
+    format: LogFormat,
+    text: &[u8],
+) -> Result<Vec<u8>, AllocError> {
     let mut short = Vec::new(alloc);
     if text.is_empty() {
         return Ok(short);
     }
     let text = text.strip_suffix(b"\n").unwrap_or(text);
     for line in text.split(|octet| *octet == b'\n') {
-        let line = with_short_octets(alloc, line)?;
-        add_line(alloc, &line, &mut short)?;
+        let line = with_short_octets(alloc, format, line)?;
+        add_line(alloc, format, &line, &mut short)?;
         short.push(b'\n')?;
     }
     Ok(short)

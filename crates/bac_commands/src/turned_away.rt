@@ -4,16 +4,21 @@ ghost use Rattle.std.specs.Option.{option_map};
 ghost use Rattle.bac_apdu.specs.Views.{apdu_view};
 ghost use Rattle.bac_node.specs.Views.{performed_view};
 ghost use Rattle.bac_driver.specs.Views.{turn_view};
-ghost use Rattle.bac_commands.specs.Lines.{IsFullLine, IsFullText, away_text, counts_away, full_line, is_refusal, is_refused, is_said, is_turned_away};
+ghost use Rattle.bac_commands.specs.Lines.{IsFullLine, IsFullText, counts_away, is_refusal, is_refused, is_said, is_turned_away};
 
+use crate::event_text::event_text;
 use crate::frames::apdu_in;
 use crate::lines::is_full;
+use crate::log::Tally;
+use crate::log_settings::LogFormat;
 use bac_apdu::Apdu;
 use bac_driver::{Turn, sends_of};
+use bac_log_json::LogEvent;
 use bac_node::Node;
 use bac_responder::Act;
 use bac_transaction::Datagram;
-use std::alloc::{AllocError, Global};
+use std::alloc::Global;
+use std::io;
 
 /// How long no line says again how many were turned away, in milliseconds.
 const PAUSE: u64 = 1_000;
@@ -66,40 +71,32 @@ pub(crate) fn is_said(at: u64, away: u64, said: Option<u64>) -> bool
     }
 }
 
-fn away_text(away: u64) -> &'static str
-    ensures { result.now ≡ away_text away }
-{
-    if away == 1 {
-        " request turned away"
-    } else {
-        " requests turned away"
-    }
-}
-
 /// How many were turned away, and in how many milliseconds a slot gets free.
-fn full_line(alloc: Global, at: u64, away: u64, node: &Node) -> Result<Vec<u8>, AllocError>
-    ensures { IfOk result (λ t. IsFullLine at away node.now.servers t.items) }
+fn full_line(
+    alloc: Global,
+    format: LogFormat,
+    at: u64,
+    away: u64,
+    node: &Node,
+) -> io::Result<Vec<u8>>
+    ensures { IfOk result (λ t. IsFullLine format at away node.now.servers t.items) }
 {
     let wait = node.next_free(at).saturating_sub(at);
-    let requests = away_text(away);
-    let text = format!(in alloc;
-        "{at} table full: {away}{requests}, next slot free in {wait} ms\n"
-    )?;
-    Ok(text.into_bytes())
+    event_text(alloc, format, at, LogEvent::TableFull { count: away, wait })
 }
 
 /// The same, if it is said.
 pub(crate) fn full_text(
     alloc: Global,
+    format: LogFormat,
     at: u64,
-    away: u64,
-    said: Option<u64>,
+    tally: Tally,
     node: &Node,
-) -> Result<Vec<u8>, AllocError>
-    ensures { IfOk result (λ t. IsFullText (is_said at away said) at away node.now.servers t.items) }
+) -> io::Result<Vec<u8>>
+    ensures { IfOk result (λ t. IsFullText (is_said at tally.away tally.said) format at tally.away node.now.servers t.items) }
 {
-    if is_said(at, away, said) {
-        full_line(alloc, at, away, node)
+    if is_said(at, tally.away, tally.said) {
+        full_line(alloc, format, at, tally.away, node)
     } else {
         Ok(Vec::new(alloc))
     }

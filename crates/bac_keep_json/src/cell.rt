@@ -109,7 +109,8 @@ fn file_object(alloc: Global, object: ObjectIdentifier, length: u64) -> Result<J
     cell_object(alloc, object, cell)
 }
 
-fn part_object(alloc: Global, part: KeptPart<'_>) -> Result<Json, NoMemory>
+/// What is kept of a property, or of a file, as an object of JSON. An Err is out of memory.
+pub fn cell_json(alloc: Global, part: KeptPart<'_>) -> Result<Json, NoMemory>
     ensures { IfOk result (λ v. IsCellForm (part_view part.entry) (view v)) }
 {
     match part {
@@ -126,7 +127,7 @@ fn part_object(alloc: Global, part: KeptPart<'_>) -> Result<Json, NoMemory>
 pub fn print_cell_object<W: Write>(alloc: Global, part: KeptPart<'_>, out: &mut W) -> io::Result<()>
     ensures { OnOk result (AppendsText (W.contents out.old) (W.contents out.new) (IsLineOf (IsCellForm (part_view part.entry)))) }
 {
-    let Ok(object) = part_object(alloc, part) else {
+    let Ok(object) = cell_json(alloc, part) else {
         return Err(io::Error::from(ErrorKind::OutOfMemory));
     };
     print_json(alloc, &object, out)

@@ -3,4 +3,4 @@
 
 mod cell;
 
-pub use cell::{KeptPart, print_cell_object};
+pub use cell::{KeptPart, cell_json, print_cell_object};

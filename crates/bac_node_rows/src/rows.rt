@@ -44,6 +44,8 @@ const KINDS: &[(&str, Kind)] = &[
     ("mermaid", Kind::Script(Way::Shown(View::Mermaid))),
     ("text", Kind::Script(Way::Shown(View::Text))),
     ("texts", Kind::Scripts(Way::Shown(View::Text))),
+    ("json", Kind::Script(Way::Shown(View::Objects))),
+    ("jsons", Kind::Scripts(Way::Shown(View::Objects))),
 ];
 
 fn kind_of(word: &str) -> Option<Kind> {

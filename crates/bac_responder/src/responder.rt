@@ -31,7 +31,7 @@ use crate::{ServerTransaction, reusing};
 use bac_apdu::Apdu;
 use bac_npdu::Peer;
 use bac_slots::{
-    AgedTable, SlotTable, count_alive, each_slot, empty_table, remove_dead, same_tables, tick,
+    AgedTable, SlotTable, count_alive, each_slot, empty_table, remove_dead, same_tables, seek, tick,
 };
 use bac_store::Store;
 use bac_transaction::{Context, Datagram, PeerKey, Settings, invoke_id_of};
@@ -278,6 +278,7 @@ impl<S: SlotTable<PeerKey, ServerTransaction> + Drop> Responder<S> {
             key,
             moment: now,
         };
+        seek(&mut self.aged, &key);
         // that no two entries have one key
         let _entries = self.aged.table.len();
         let before = key_octets(&self.aged.table, &key);
@@ -319,6 +320,7 @@ impl<S: SlotTable<PeerKey, ServerTransaction> + Drop> Responder<S> {
             },
             remember: rules.remember,
         };
+        seek(&mut self.aged, &key);
         // that no two entries have one key
         let _entries = self.aged.table.len();
         let before = key_octets(&self.aged.table, &key);

@@ -1,5 +1,4 @@
 pub mod Appending
-pub mod InWords
 pub mod Limits
 pub mod Making
 pub mod News
@@ -10,5 +9,6 @@ mod Separated
 pub mod Settings
 pub mod Stepping
 pub mod Showing
+pub mod ToldTexts
 pub mod Tracing
 pub mod Starting

@@ -12,13 +12,14 @@ use Rattle.bac_text.specs.Statuses.{IsFailure}
 use Rattle.bac_text.specs.Texts.{AppendsText}
 use Rattle.bac_text.specs.declared.status.Status.{Status}
 use Rattle.bac_text.specs.declared.status.Status.TheVariants as status
-use Rattle.bac_simulate.specs.Drawn.{in_marks, rest_of, shown_text, IsDrawn, IsRead, IsShown, IsWorded, Shows, ShowsAs, ShowsScript}
+use Rattle.bac_simulate.specs.Drawn.{in_marks, rest_of, shown_text, IsDrawn, IsRead, IsShown, IsTold, Shows, ShowsAs, ShowsScript}
 use Rattle.bac_simulate.specs.Houses.{script_world, world_set}
 use Rattle.bac_simulate.specs.Runs.{IsEnd, IsUnread, Runs, status_for, status_of}
 use Rattle.bac_simulate.specs.Scripts.{IsNotRead, Script, ScriptLine, limits_in, most_limits, said_from, script_of, with_setting}
 use Rattle.bac_simulate.specs.Traces.{AppendsMarks}
 use Rattle.bac_simulate.specs.Views.{line_view}
-use Rattle.bac_simulate.specs.Worded.{in_words}
+use Rattle.bac_simulate.specs.Told.{told_in}
+use Rattle.bac_simulate.specs.declared.event_style.EventStyle.{EventStyle}
 use Rattle.bac_simulate.specs.declared.script.ScriptFault.{ScriptFault}
 use Rattle.bac_simulate.specs.declared.script.ScriptFault.TheVariants as fault
 use Rattle.bac_simulate.specs.declared.script.FirstLine.{FirstLine}
@@ -155,10 +156,11 @@ run_shown v nodes first lines all world last marks a b traced printed = (
   ),
 )
 
--- ---- a run that is printed in words
+-- ---- a run that is told
 
-pub run_told : {E : Type 0} (run : Result Bool E) (first : ℕ) (held lines : List ScriptLine) (world last : WorldView) (a b : Option (List ℕ)) → held ≡ lines
-    → IfOk run (λ all. AppendsText a b (Runs in_words first held all world last)) → IfOk run (λ all. AppendsText a b (IsWorded first lines all world))
-run_told (Ok all) first held lines world last a b same told =
-    (told.0, ((last, subst (λ (l : List ScriptLine). Runs in_words first l all world last told.0) same told.1.0), told.1.1))
-run_told (Err e) first held lines world last a b same told = tt
+pub run_told : {E : Type 0} (s : EventStyle) (run : Result Bool E) (first : ℕ) (held lines : List ScriptLine) (world last : WorldView)
+    → (a b : Option (List ℕ)) → held ≡ lines → IfOk run (λ all. AppendsText a b (Runs (told_in s) first held all world last))
+    → IfOk run (λ all. AppendsText a b (IsTold s first lines all world))
+run_told s (Ok all) first held lines world last a b same told =
+    (told.0, ((last, subst (λ (l : List ScriptLine). Runs (told_in s) first l all world last told.0) same told.1.0), told.1.1))
+run_told s (Err e) first held lines world last a b same told = tt

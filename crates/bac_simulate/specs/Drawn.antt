@@ -17,7 +17,9 @@ use Rattle.bac_simulate.specs.Runs.{IsUnread, Runs, Printing}
 use Rattle.bac_simulate.specs.Scripts.{Script, ScriptLine, most_limits, said_from, script_of, with_setting}
 use Rattle.bac_simulate.specs.Traces.{change_marks, event_marks, paced_mark}
 use Rattle.bac_simulate.specs.Views.{line_view}
-use Rattle.bac_simulate.specs.Worded.{in_words}
+use Rattle.bac_simulate.specs.Told.{told_in}
+use Rattle.bac_simulate.specs.declared.event_style.EventStyle.{EventStyle}
+use Rattle.bac_simulate.specs.declared.event_style.EventStyle.TheVariants as style
 use Rattle.bac_simulate.specs.declared.script.FirstLine.{FirstLine}
 use Rattle.bac_simulate.specs.declared.read_script.ReadScript.{ReadScript}
 use Rattle.bac_simulate.specs.declared.view.View.{View}
@@ -38,6 +40,7 @@ in_marks =
 -- drawing
 abbrev pub shown_text : View → (nodes : ℕ) → List Mark → (last : WorldView) → List ℕ
 shown_text view.Text nodes marks last = []
+shown_text view.Objects nodes marks last = []
 shown_text view.Chart nodes marks last = drawing_text form.Chart nodes marks
 shown_text view.Mermaid nodes marks last = drawing_text form.Mermaid nodes marks
 shown_text view.Capture nodes marks last = capture_of (parts_in last) last.copies
@@ -49,12 +52,13 @@ pub record IsDrawn (v : View) (nodes first : ℕ) (lines : List ScriptLine) (all
   pub ran : Runs in_marks first lines all world last marks
   pub is : text ≡ shown_text v nodes marks last
 
--- likewise, and that is printed in words
-abbrev pub IsWorded : (first : ℕ) → List ScriptLine → (all : Bool) → (world : WorldView) → (text : List ℕ) → Type 0
-IsWorded first lines all world text = (last : WorldView) × Runs in_words first lines all world last text
+-- likewise, and that is printed in words, or as objects of JSON
+abbrev pub IsTold : EventStyle → (first : ℕ) → List ScriptLine → (all : Bool) → (world : WorldView) → (text : List ℕ) → Type 0
+IsTold s first lines all world text = (last : WorldView) × Runs (told_in s) first lines all world last text
 
 abbrev pub IsShown : View → (nodes first : ℕ) → List ScriptLine → (all : Bool) → (world : WorldView) → (text : List ℕ) → Type 0
-IsShown view.Text nodes first lines all world text = IsWorded first lines all world text
+IsShown view.Text nodes first lines all world text = IsTold style.Words first lines all world text
+IsShown view.Objects nodes first lines all world text = IsTold style.Objects first lines all world text
 IsShown view.Chart nodes first lines all world text = IsDrawn view.Chart nodes first lines all world text
 IsShown view.Mermaid nodes first lines all world text = IsDrawn view.Mermaid nodes first lines all world text
 IsShown view.Capture nodes first lines all world text = IsDrawn view.Capture nodes first lines all world text

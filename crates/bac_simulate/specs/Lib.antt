@@ -8,6 +8,9 @@ pub mod Lines
 pub mod Scripts
 pub mod Printed
 pub mod Traces
+pub mod FaultWords
 pub mod Worded
+pub mod Objects
+pub mod Told
 pub mod Drawn
 pub mod Views

@@ -1,21 +1,17 @@
 -- What is printed in words of what comes of a script's lines.
-use Rattle.std.specs.Prelude.{◌≡◌, ℕ, codes, decimal, ◌+◌, ◌-◌, nat_le, Bool, true, false, List, [], ◌∷◌, ◌++◌, length, drop, reverse, Option, Some, None}
+use Rattle.std.specs.Prelude.{◌≡◌, ℕ, codes, decimal, ◌-◌, nat_le, Bool, true, false, List, ◌++◌, Option, Some, None}
 use Rattle.std.specs.Prelude.{slice_get}
 use Rattle.bac_chart.specs.Labels.{datagram_words}
-use Rattle.bac_commands.specs.Facts.{fault_line}
+use Rattle.bac_commands.specs.FaultWords.{numbered_words}
 use Rattle.bac_commands.specs.Words.{AreEndingWords}
 use Rattle.bac_transaction.specs.Meanings.{Ending}
 use Rattle.bac_service_text.specs.Answers.{AreReplyWords}
 use Rattle.bac_service_text.specs.Dispatch.{AreRequestWords}
 use Rattle.bac_network.specs.Histories.{WorldView}
 use Rattle.bac_npdu.specs.Peers.{PeerView}
-use Rattle.bac_requester.specs.Faults.{ask_fault_number}
-use Rattle.bac_requester.specs.declared.ask_fault.AskFault.{AskFault}
 use Rattle.bac_service.specs.Replies.{Reply}
 use Rattle.bac_service.specs.Values.{Request}
 use Rattle.bac_store.specs.AtNode as at_node
-use Rattle.bac_store.specs.AtNode.{change_fault_number}
-use Rattle.bac_store.specs.declared.change_fault.ChangeFault.{ChangeFault}
 use Rattle.bac_text.specs.Peers.{link_text, peer_text}
 use Rattle.bac_text.specs.Texts.{line_end}
 use Rattle.bac_value_text.specs.Texts.{object_text, property_text}
@@ -24,9 +20,7 @@ use Rattle.bac_world.specs.Once.Fact.{Asked, Performed, Ended, Changed, Restarte
 use Rattle.bac_world.specs.World.{Copy, later}
 use Rattle.bac_simulate.specs.Happenings.{Happening}
 use Rattle.bac_simulate.specs.Happenings.Happening.{Ask, Deliver, Noise, Tick, Advance, Change, Restart, Stranger, AskStranger}
-use Rattle.bac_simulate.specs.Moments.{ms_now}
-use Rattle.bac_simulate.specs.Runs.{Printing}
-use Rattle.bac_simulate.specs.Printed.{is_as_before, pace_text}
+use Rattle.bac_simulate.specs.Printed.{pace_text}
 use Rattle.bac_simulate.specs.Traces.{life_in}
 use Rattle.bac_simulate.specs.declared.nothing.Why.{Why}
 use Rattle.bac_simulate.specs.declared.nothing.Why.TheVariants as why
@@ -100,19 +94,15 @@ AreFactWords (Served peer node invoke_id begin request reply) words = AreServedW
 AreFactWords (AskedAway ask client peer request) words = words ≡ codes "asked " ++ (decimal ask ++ (codes " " ++ peer_text peer))
 AreFactWords (EndedAway ask how) words = AreEndedWords ask how words
 
--- one line for each
-abbrev pub AreFactLines : List Fact → List ℕ → Type 0
-AreFactLines [] text = text ≡ []
-AreFactLines (f ∷ facts) text = (words : List ℕ) × (rest : List ℕ) × AreFactWords f words × AreFactLines facts rest × (text ≡ news_line words ++ rest)
+-- in a line
+pub record IsFactLine (f : Fact) (text : List ℕ) : Type 0 where
+  pub words : List ℕ
+  pub are : AreFactWords f words
+  pub is : text ≡ news_line words
 
 abbrev pub sent_words : (number : ℕ) → Copy → List ℕ
 sent_words number c =
     (codes "sent " ++ (decimal number ++ (codes " " ++ (decimal c.from ++ (codes ">" ++ (decimal c.to ++ codes " ")))))) ++ datagram_words c.octets
-
--- copies that were sent, numbered from this number on
-abbrev pub sent_lines : (number : ℕ) → List Copy → List ℕ
-sent_lines number [] = []
-sent_lines number (c ∷ copies) = news_line (sent_words number c) ++ sent_lines (number + 1) copies
 
 -- ---- why nothing came
 
@@ -147,39 +137,11 @@ why_words why.Idle = codes "idle"
 why_words why.Passed = codes "time passed"
 why_words why.HeardStranger = codes "heard"
 
--- ---- all that came of an event
+-- ---- what was refused, lost or paced
 
--- by its number
-abbrev pub refused_news : (fault : ℕ) → List ℕ
-refused_news fault = news_line (codes "refused " ++ decimal fault)
-
--- the facts after so many, oldest first, and then the copies after so many
-pub record AreNews (facts copies : ℕ) (w : WorldView) (text : List ℕ) : Type 0 where
-  pub told : List ℕ
-  pub are : AreFactLines (drop facts (reverse w.log)) told
-  pub is : text ≡ told ++ sent_lines copies (drop copies w.copies)
-
-abbrev pub AreNewsOrWhy : (as_before : Bool) → Why → (facts copies : ℕ) → WorldView → List ℕ → Type 0
-AreNewsOrWhy true reason facts copies w text = text ≡ news_line (why_words reason)
-AreNewsOrWhy false reason facts copies w text = AreNews facts copies w text
-
--- a refused ask; or what is new in a world that had so many facts and copies, or why nothing is
-abbrev pub IsOutcome : Option AskFault → Why → (facts copies : ℕ) → WorldView → List ℕ → Type 0
-IsOutcome (Some fault) reason facts copies w text = text ≡ refused_news (ask_fault_number fault)
-IsOutcome None reason facts copies w text = AreNewsOrWhy (is_as_before facts copies w) reason facts copies w text
-
-pub record IsEventText (told : Option AskFault) (event : Happening) (old new : WorldView) (text : List ℕ) : Type 0 where
-  pub head : List ℕ
-  pub is_head : IsEventLine (ms_now old) event head
-  pub outcome : List ℕ
-  pub is_outcome : IsOutcome told (why_nothing old event) (length old.log) (length old.copies) new outcome
-  pub is : text ≡ head ++ outcome
-
--- a change that its node's store refused
-pub record IsRefusedText (fault : ChangeFault) (event : Happening) (old : WorldView) (text : List ℕ) : Type 0 where
-  pub head : List ℕ
-  pub is_head : IsEventLine (ms_now old) event head
-  pub is : text ≡ head ++ refused_news (change_fault_number fault)
+-- an ask or a change, by the number of its fault
+abbrev pub refused_news : (fault : ℕ) → (words : List ℕ) → List ℕ
+refused_news fault words = news_line (codes "refused " ++ numbered_words fault words)
 
 -- a copy that counts as lost
 abbrev pub lose_text : (now copy : ℕ) → List ℕ
@@ -189,19 +151,3 @@ lose_text now copy = decimal now ++ (codes " lose " ++ (decimal copy ++ codes "\
 abbrev pub pace_line_text : (now node rate : ℕ) → List ℕ
 pace_line_text now node rate =
     (decimal now ++ (codes " pace " ++ (decimal node ++ codes " "))) ++ (pace_text rate ++ codes "\n  paced\n")
-
--- ---- runs
-
-abbrev pub in_words : Printing ℕ
-in_words =
-    record {
-      went = IsEventText;
-      refused = IsRefusedText;
-      lost = λ old copy text. text ≡ lose_text (ms_now old) copy;
-      clock = λ old node rate text. text ≡ pace_line_text (ms_now old) node rate;
-      ended = λ line fault text. text ≡ fault_line line fault;
-    }
-
--- these octets were added
-abbrev pub Adds : (old new : List ℕ) → (IsText : List ℕ → Type 0) → Type 0
-Adds old new IsText = (text : List ℕ) × (IsText text × (new ≡ old ++ text))

@@ -4,6 +4,8 @@
 mod bad_line;
 mod capture;
 mod clock_words;
+mod event_style;
+mod fault_words;
 mod line;
 mod line_reading;
 mod line_words;
@@ -11,14 +13,16 @@ mod link_words;
 mod marks;
 mod moments;
 mod nothing;
+mod objects;
 mod printing;
 mod read_script;
 mod script;
 mod script_reading;
 mod simulate;
+mod telling;
+mod told;
 mod trace;
 mod view;
-mod wording;
 mod words;
 mod world_of;
 

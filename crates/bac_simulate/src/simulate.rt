@@ -3,11 +3,10 @@ ghost use Rattle.std.specs.Prelude.{◌≡◌, ◌+◌, ◌<◌, ◌^◌, length
 ghost use Rattle.bac_network.specs.Histories.{WorldView};
 ghost use Rattle.bac_text.specs.Lines.{lines_of};
 ghost use Rattle.bac_text.specs.Texts.{AppendsText};
-ghost use Rattle.bac_simulate.specs.Runs.{Goes, IsEnd, IsRun, IsStep, IsUnread, Reports, Simulates, SimulatesAs, SimulatesIn, Steps, change_fault_in, in_text};
+ghost use Rattle.bac_simulate.specs.Runs.{Goes, IsEnd, IsRun, IsStep, IsUnread, Reports, Simulates, SimulatesAs, SimulatesIn, change_fault_in};
 ghost use Rattle.bac_simulate.specs.Runs.{pace_fault_number, status_for, status_of};
 ghost use Rattle.bac_simulate.specs.Scripts.{Began, Happens, Lost, Paced, limits_in, said_from, script_of};
 ghost use Rattle.bac_simulate.specs.Views.{happening_view, line_view};
-ghost use Rattle.bac_simulate.specs.Worded.{in_words};
 
 use crate::line::{ClockPace, ClockStart};
 use crate::printing::{Seen, print_lost, print_outcome, print_paced};
@@ -83,16 +82,14 @@ fn count_lost<W: Write>(world: &World, line: u64, copy: u64, out: &mut W) -> io:
 }
 
 /// That a node's clock began so, with the script: nothing is printed of it, or that there is no such node; nothing changes. Answers whether there is one.
-pub(crate) fn pass_start<W: Write>(
+fn pass_start<W: Write>(
     world: &World,
     line: u64,
     clock: &ClockStart,
     out: &mut W,
 ) -> io::Result<bool>
-    ensures lines { IfOk result (λ passed. AppendsText (W.contents out.old) (W.contents out.new)
-        (Steps in_text line passed (Began clock.now.node clock.now.start) world.now world.now)) }
-    ensures words { IfOk result (λ passed. AppendsText (W.contents out.old) (W.contents out.new)
-        (Steps in_words line passed (Began clock.now.node clock.now.start) world.now world.now)) }
+    ensures { IfOk result (λ passed. AppendsText (W.contents out.old) (W.contents out.new)
+        (IsStep line passed (Began clock.now.node clock.now.start) world.now world.now)) }
 {
     if clock.node < world.nodes().len() as u64 {
         Ok(true)

@@ -2,7 +2,7 @@
 ghost use Rattle.std.specs.Prelude.{◌≡◌, ◌+◌, map, IfOk, OnOk};
 ghost use Rattle.std.specs.Io.KnownBytes.{Appends};
 ghost use Rattle.bac_chart.specs.Views.{mark_view};
-ghost use Rattle.bac_simulate.specs.Drawn.{shown_text, IsDrawn, IsShown, IsWorded, Shows, ShowsAs};
+ghost use Rattle.bac_simulate.specs.Drawn.{shown_text, IsDrawn, IsShown, IsTold, Shows, ShowsAs};
 ghost use Rattle.bac_simulate.specs.Runs.{status_for};
 ghost use Rattle.bac_simulate.specs.Scripts.{script_of};
 ghost use Rattle.bac_simulate.specs.Views.{line_view};
@@ -11,13 +11,14 @@ ghost use Rattle.bac_text.specs.Texts.{AppendsText};
 
 use crate::bad_line::print_bad_line;
 use crate::capture::print_capture;
+use crate::event_style::EventStyle;
 use crate::moments::parts_in;
 use crate::read_script::ReadScript;
 use crate::script::ScriptFault;
 use crate::script_reading::read_script;
 use crate::simulate::{ended, no_script, octets_of, unread};
+use crate::telling::print_lines;
 use crate::trace::trace_lines;
-use crate::wording::print_lines;
 use bac_chart::{ChartFormat, Mark, print_drawing};
 use bac_network::World;
 use bac_text::Status;
@@ -30,6 +31,8 @@ use std::io::{Read, Write};
 pub enum View {
     /// Lines of text: each event at its moment, and below it what came of it, or why nothing did.
     Text,
+    /// Objects of JSON, one a line: what came of each event.
+    Objects,
     /// A sequence chart in text, for a terminal.
     Chart,
     /// A `sequenceDiagram` of Mermaid.
@@ -38,7 +41,8 @@ pub enum View {
     Capture,
 }
 
-/// Prints what a run is drawn as, by what came of its lines and the world in which it ended; what is printed in words is no drawing.
+/// Prints what a run is drawn as, by what came of its lines and the world in which it ended; what is printed in words, or as objects, is no
+/// drawing.
 fn print_view<W: Write>(
     alloc: Global,
     view: View,
@@ -52,16 +56,22 @@ fn print_view<W: Write>(
     let nodes = u64::from(nodes);
     match view {
         View::Text => Ok(()),
+        View::Objects => Ok(()),
         View::Chart => print_drawing(alloc, ChartFormat::Chart, nodes, marks, out),
         View::Mermaid => print_drawing(alloc, ChartFormat::Mermaid, nodes, marks, out),
         View::Capture => print_capture(alloc, parts_in(world), world.copies(), out),
     }
 }
 
-/// Runs a script, and prints each event in words. Answers whether all lines passed.
-fn run_in_words<O: Write>(alloc: Global, script: ReadScript, out: &mut O) -> io::Result<bool>
+/// Runs a script, and tells what came of each event. Answers whether all lines passed.
+fn run_and_tell<O: Write>(
+    alloc: Global,
+    style: EventStyle,
+    script: ReadScript,
+    out: &mut O,
+) -> io::Result<bool>
     ensures { IfOk result (λ all. AppendsText (O.contents out.old) (O.contents out.new)
-        (IsWorded (script.before + 1) (map line_view script.lines.items) all script.world)) }
+        (IsTold style (script.before + 1) (map line_view script.lines.items) all script.world)) }
 {
     let ReadScript {
         mut world,
@@ -69,7 +79,7 @@ fn run_in_words<O: Write>(alloc: Global, script: ReadScript, out: &mut O) -> io:
         lines,
         ..
     } = script;
-    print_lines(alloc, &mut world, before, &lines, out)
+    print_lines(alloc, style, &mut world, before, &lines, out)
 }
 
 /// Runs a script, and then prints what its run is drawn as. Answers whether all lines passed; `err` says which did not.
@@ -108,7 +118,8 @@ fn run_and_show<O: Write, E: Write>(
         (IsShown view script.nodes (script.before + 1) (map line_view script.lines.items) all script.world)) }
 {
     match view {
-        View::Text => run_in_words(alloc, script, out),
+        View::Text => run_and_tell(alloc, EventStyle::Words, script, out),
+        View::Objects => run_and_tell(alloc, EventStyle::Objects, script, out),
         View::Chart => run_and_draw(alloc, View::Chart, script, out, err),
         View::Mermaid => run_and_draw(alloc, View::Mermaid, script, out, err),
         View::Capture => run_and_draw(alloc, View::Capture, script, out, err),
@@ -134,7 +145,7 @@ fn refuse<E: Write>(
             print_bad_line(alloc, notes, text, number, err);
             Status::CommandLine
         }
-        View::Chart | View::Mermaid | View::Capture => no_script(fault, err),
+        View::Objects | View::Chart | View::Mermaid | View::Capture => no_script(fault, err),
     }
 }
 
@@ -161,7 +172,7 @@ fn show<O: Write, E: Write>(
 
 /// Runs a script of events in a network of nodes, as [`simulate_lines_over`](crate::simulate_lines_over) does, and prints what its run is shown as in place of
 /// what comes of each event. It answers what that does; what ends the run stands on `err`, behind the events before it in what is shown, and where it is printed in
-/// words on `out`.
+/// words, or as objects, on `out`.
 pub fn show_over<R: Read, O: Write, E: Write>(
     alloc: Global,
     view: View,

@@ -1,5 +1,5 @@
 //! An event, and what came of it, in words.
-ghost use Rattle.std.specs.Prelude.{◌≡◌, ◌++◌, decimal, drop, map, IfOk, OnOk};
+ghost use Rattle.std.specs.Prelude.{◌≡◌, decimal, IfOk};
 ghost use Rattle.bac_journal.specs.Views.{copy_view};
 ghost use Rattle.bac_network.specs.Views.{fact_view};
 ghost use Rattle.bac_npdu.specs.Views.{peer_view};
@@ -8,18 +8,16 @@ ghost use Rattle.bac_text.specs.Peers.{peer_text};
 ghost use Rattle.bac_service.specs.Views.{owned_reply_view, owned_request_view};
 ghost use Rattle.bac_store.specs.Views.{change_view};
 ghost use Rattle.bac_requester.specs.TransactionViews.{ending_view};
-ghost use Rattle.bac_simulate.specs.Worded.{AreAskWords, AreEndedWords, AreEventWords, AreFactLines, AreFactWords, AreNews, ArePerformedWords};
-ghost use Rattle.bac_simulate.specs.Worded.{AreServedWords, IsEventLine, IsOutcome};
-ghost use Rattle.bac_simulate.specs.Worded.{Adds, change_words, news_line, refused_news, sent_lines, sent_words, stranger_words};
+ghost use Rattle.bac_simulate.specs.Worded.{AreAskWords, AreEndedWords, AreEventWords, AreFactWords, ArePerformedWords, AreServedWords, IsEventLine, IsFactLine};
+ghost use Rattle.bac_simulate.specs.Worded.{change_words, lose_text, news_line, pace_line_text, refused_news, sent_words, stranger_words};
 
-use crate::nothing::{Why, why_words};
-use crate::printing::{Seen, is_as_before};
+use crate::printing::pace_text;
 use bac_chart::datagram_words;
 use bac_commands::ending_words;
 use bac_journal::Copy;
-use bac_network::{Event, Fact, World};
+use bac_network::{Event, Fact};
 use bac_npdu::{LinkAddress, Peer};
-use bac_requester::{AskFault, Ending};
+use bac_requester::Ending;
 use bac_service::{OwnedReply, OwnedRequest};
 use bac_service_text::{reply_words, request_words};
 use bac_store::Change;
@@ -219,77 +217,58 @@ fn sent_words(alloc: Global, number: usize, copy: &Copy) -> Result<Vec<u8>, Allo
     Ok(words)
 }
 
-/// Adds a line below an event's.
-fn add_line(words: &[u8], text: &mut Vec<u8>) -> Result<(), AllocError>
-    ensures { OnOk result (text.new.items ≡ text.old.items ++ news_line words.now) }
+/// A line below an event's.
+pub(crate) fn news_line(alloc: Global, words: &[u8]) -> Result<Vec<u8>, AllocError>
+    ensures { IfOk result (λ t. t.items ≡ news_line words.now) }
 {
-    text.extend_from_slice(b"  ")?;
+    let mut text = Vec::from_slice(alloc, b"  ")?;
     text.extend_from_slice(words)?;
     text.push(b'\n')?;
-    Ok(())
+    Ok(text)
 }
 
-/// Adds the facts after so many.
-fn add_facts(alloc: Global, log: &[Fact], before: usize, text: &mut Vec<u8>) -> io::Result<()>
-    ensures { OnOk result (Adds text.old.items text.new.items (AreFactLines (drop before (map fact_view log.now)))) }
+/// A fact.
+pub(crate) fn fact_line(alloc: Global, fact: &Fact) -> io::Result<Vec<u8>>
+    ensures { IfOk result (λ t. IsFactLine (fact_view fact.now) t.items) }
 {
-    for number in before..log.len() {
-        let words = fact_words(alloc, &log[number])?;
-        add_line(words.as_slice(), text)?;
-    }
-    Ok(())
+    let words = fact_words(alloc, fact)?;
+    Ok(news_line(alloc, words.as_slice())?)
 }
 
-/// Adds the copies after so many.
-fn add_copies(
+/// A copy that was sent.
+pub(crate) fn sent_line(alloc: Global, number: usize, copy: &Copy) -> io::Result<Vec<u8>>
+    ensures { IfOk result (λ t. t.items ≡ news_line (sent_words number (copy_view copy.now))) }
+{
+    let words = sent_words(alloc, number, copy)?;
+    Ok(news_line(alloc, words.as_slice())?)
+}
+
+/// That an ask or a change was refused, by the number of the fault, and why in words.
+pub(crate) fn refused_line(alloc: Global, fault: u8, why: &str) -> Result<Vec<u8>, AllocError>
+    ensures { IfOk result (λ t. t.items ≡ refused_news fault why.now) }
+{
+    let words = format!(in alloc; "refused {fault}: {why}")?;
+    news_line(alloc, words.as_bytes())
+}
+
+/// That a copy counts as lost.
+pub(crate) fn lose_text(alloc: Global, now: u64, copy: u64) -> Result<Vec<u8>, AllocError>
+    ensures { IfOk result (λ t. t.items ≡ lose_text now copy) }
+{
+    let text = format!(in alloc; "{now} lose {copy}\n  lost: the script says so\n")?;
+    Ok(text.into_bytes())
+}
+
+/// That a node's clock goes so fast from then on.
+pub(crate) fn pace_line(
     alloc: Global,
-    copies: &[Copy],
-    before: usize,
-    text: &mut Vec<u8>,
-) -> Result<(), AllocError>
-    ensures { OnOk result (text.new.items ≡ text.old.items ++ sent_lines before (drop before (map copy_view copies.now))) }
+    now: u64,
+    node: u64,
+    rate: u32,
+) -> Result<Vec<u8>, AllocError>
+    ensures { IfOk result (λ t. t.items ≡ pace_line_text now node rate) }
 {
-    for number in before..copies.len() {
-        let words = sent_words(alloc, number, &copies[number])?;
-        add_line(words.as_slice(), text)?;
-    }
-    Ok(())
-}
-
-fn add_news(alloc: Global, world: &World, before: Seen, text: &mut Vec<u8>) -> io::Result<()>
-    ensures { OnOk result (Adds text.old.items text.new.items (AreNews before.facts before.copies world.now)) }
-{
-    add_facts(alloc, world.log(), before.facts, text)?;
-    add_copies(alloc, world.copies(), before.copies, text)?;
-    Ok(())
-}
-
-/// Adds that an event was refused, by the number of the fault.
-pub(crate) fn add_refused(alloc: Global, fault: u8, text: &mut Vec<u8>) -> Result<(), AllocError>
-    ensures { OnOk result (text.new.items ≡ text.old.items ++ refused_news fault) }
-{
-    let words = format!(in alloc; "refused {fault}")?;
-    add_line(words.as_bytes(), text)
-}
-
-/// Adds what came of an event: that the ask was refused, what is new in the world, or why nothing is.
-pub(crate) fn add_outcome(
-    alloc: Global,
-    world: &World,
-    before: Seen,
-    why: Why,
-    refused: Option<AskFault>,
-    text: &mut Vec<u8>,
-) -> io::Result<()>
-    ensures { OnOk result (Adds text.old.items text.new.items (IsOutcome refused why before.facts before.copies world.now)) }
-{
-    if let Some(fault) = refused {
-        add_refused(alloc, fault.number(), text)?;
-        return Ok(());
-    }
-    if is_as_before(world, before) {
-        add_line(why_words(why).as_bytes(), text)?;
-        return Ok(());
-    }
-    add_news(alloc, world, before, text)
+    let pace = pace_text(alloc, rate)?;
+    let text = format!(in alloc; "{now} pace {node} {pace}\n  paced\n")?;
+    Ok(text.into_bytes())
 }

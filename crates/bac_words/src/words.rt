@@ -357,6 +357,13 @@ const SIMULATE: &[Word] = &[
         against: &["chart", "mermaid", "pcap"],
         help: "Prints each event with its moment and what it did, or why it did nothing",
     },
+    Word {
+        name: "json",
+        form: WordForm::Flag,
+        need: Need::Never,
+        against: &["chart", "mermaid", "pcap", "text"],
+        help: "Prints each line as an object of JSON",
+    },
 ];
 
 /// Examples for `serve`.
@@ -467,6 +474,13 @@ const SERVE: &[Word] = &[
         need: Need::Never,
         against: &["log"],
         help: "Logs on standard error what changed the store (changes), each request that was performed (requests), or each datagram (all); of more than 32 octets it shows the first 32, and how many they are",
+    },
+    Word {
+        name: "json",
+        form: WordForm::Flag,
+        need: Need::Never,
+        against: &[],
+        help: "Each line of the log is an object of JSON, and each one that is printed at the start",
     },
     Word {
         name: "follow",

@@ -1,17 +1,20 @@
 //! How the end of an ask is printed.
-ghost use Rattle.std.specs.Prelude.{◌≡◌, ◌++◌, codes, decimal, IfOk, OnOk};
+ghost use Rattle.std.specs.Prelude.{◌≡◌, ◌++◌, IfOk, OnOk};
 ghost use Rattle.std.specs.Io.KnownBytes.{Appends};
 ghost use Rattle.bac_service.specs.Views.{owned_request_view};
 ghost use Rattle.bac_text.specs.Texts.{line_end};
 ghost use Rattle.bac_commands.specs.Reports.{end_line};
 ghost use Rattle.bac_commands.specs.AskEnds.{PrintsEnd, PrintsNumbers, PrintsWords};
+ghost use Rattle.bac_commands.specs.FaultWords.{refused_words};
 ghost use Rattle.bac_commands.specs.Words.{AreEndWords};
 
 use super::file_octets::print_file_octets;
 use super::output_format::{OutputFormat, Style};
 use super::success::is_success;
 use crate::facts::{print_ending_line, print_refused, ticket_words};
+use crate::fault_words::ask_fault_words;
 use bac_driver::AskEnd;
+use bac_requester::AskFault;
 use bac_service::OwnedRequest;
 use bac_service_text::property_read;
 use bac_value::NoMemory;
@@ -44,10 +47,12 @@ fn print_numbers<W: Write>(
     Ok(is_success(strict, request, end))
 }
 
-fn refused_words(alloc: Global, fault: u8) -> Result<Vec<u8>, NoMemory>
-    ensures { IfOk result (λ t. t.items ≡ codes "refused " ++ decimal fault) }
+fn refused_words(alloc: Global, fault: AskFault) -> Result<Vec<u8>, NoMemory>
+    ensures { IfOk result (λ t. t.items ≡ refused_words fault) }
 {
-    let words = format!(in alloc; "refused {fault}")?;
+    let number = fault.number();
+    let why = ask_fault_words(fault);
+    let words = format!(in alloc; "refused {number}: {why}")?;
     Ok(words.into_bytes())
 }
 
@@ -57,7 +62,7 @@ fn end_words(alloc: Global, request: &OwnedRequest, end: &AskEnd) -> Result<Vec<
 {
     match end {
         AskEnd::Ended(ending) => ticket_words(alloc, property_read(request.as_request()), ending),
-        AskEnd::Refused(fault) => refused_words(alloc, fault.number()),
+        AskEnd::Refused(fault) => refused_words(alloc, *fault),
         AskEnd::NoEnding => Ok(Vec::from_slice(alloc, b"no ending")?),
     }
 }

@@ -6,7 +6,7 @@ use Rattle.bac_commands.proofs.serving.serve_kept_logged.Goals as goal
 pub returns-clause-logged : goal.returns-clause-logged
 returns-clause-logged g c =
     let last : Log = record {
-      serves_from = c.serve_kept-status.new.watch.serves_from;
+      settings = c.serve_kept-status.new.watch.settings;
       whole = c.serve_kept-status.new.watch.whole;
       tally = c.serve_kept-status.new.watch.tally;
       text = g.E.Write.contents c.serve_kept-status.new.err;

@@ -6,9 +6,9 @@ use Rattle.bac_commands.proofs.serving.serve_logged.Goals as goal
 
 pub returns-clause-logged : goal.returns-clause-logged
 returns-clause-logged g c whole =
-    let from : Log = record { serves_from = c.args.command.now.serves_from; whole = true; tally = NONE_AWAY; text = g.E.Write.contents c.args.err.now } in
+    let from : Log = record { settings = c.args.command.now.settings; whole = true; tally = NONE_AWAY; text = g.E.Write.contents c.args.err.now } in
     let to : Log = record {
-      serves_from = c.serve-status.new.watch.serves_from;
+      settings = c.serve-status.new.watch.settings;
       whole = c.serve-status.new.watch.whole;
       tally = c.serve-status.new.watch.tally;
       text = g.E.Write.contents c.serve-status.new.err;

@@ -1,6 +1,7 @@
 -- How many, and when a slot gets free.
-use Rattle.std.proofs.Common.{◌∙◌, ap}
-use Rattle.bac_commands.proofs.FullTables.{full_told}
+use Rattle.std.proofs.Common.{ℕ, subst}
+use Rattle.bac_log_json.specs.Logs.{TableFull}
+use Rattle.bac_commands.specs.EventTexts.{IsEventText}
 use Rattle.bac_commands.proofs.turned_away.full_line.Goals as goal
 
 pub returns : goal.returns
@@ -8,6 +9,5 @@ returns c = record {
   next = c.next_free.result;
   is_next = record { from = c.next_free.ensures.from; full = c.next_free.ensures.full; free = c.next_free.ensures.free };
   is =
-      full_told c.args.at c.args.away c.saturating_sub-wait.result c.next_free.result c.away_text-requests.result.now c.into_bytes.result.items
-      c.away_text-requests.ensures c.saturating_sub-wait.ensures (ap (λ v. v.items) c.into_bytes.ensures.value ∙ c.in_ok-text.ensures.ok);
+      subst (λ (wait : ℕ). IsEventText c.args.format c.args.at (TableFull c.args.away wait) _) c.saturating_sub-wait.ensures c.event_text.ensures;
 }

@@ -1,7 +1,7 @@
 use Rattle.std.proofs.Common.{◌+◌, ◌<◌, length, refl, arith}
 use Rattle.std.proofs.lemmas.List.{take_rest}
 use Rattle.std.proofs.lemmas.Option.{slice_get_read}
-use Rattle.bac_simulate.proofs.InWords.{why_is}
+use Rattle.bac_simulate.proofs.ToldTexts.{why_is}
 use Rattle.bac_simulate.proofs.nothing.why_delivered.Goals as goal
 
 pub returns : goal.returns

@@ -1,5 +1,6 @@
 -- What the entry of its key keeps more or less, all keep.
-use Rattle.std.proofs.Common.{List}
+use Rattle.std.proofs.Common.{◌≤◌, List, sym, subst}
+use Rattle.std.specs.Prelude.{IfSome}
 use Rattle.bac_apdu.specs.Views.{apdu_view}
 use Rattle.bac_slots.specs.declared.slot.Slot.{Slot}
 use Rattle.bac_slots.specs.Slots.{value_at}
@@ -15,11 +16,13 @@ pub invariant_of-self-2 : goal.invariant_of-self-2
 invariant_of-self-2 g c =
     let key : PeerKey = record { peer = c.args.peer.now; invoke_id = c.invoke_id_of.result } in
     let context : Context = record { settings = c.args.settings.now; key = key; moment = c.args.now } in
-    let old : List (Slot PeerKey ServerTransaction) = g.S.SlotTable.slots c.self.inside.aged.table in
-    let new : List (Slot PeerKey ServerTransaction) = g.S.SlotTable.slots c.on_apdu.new.aged.table in (
+    let old : List (Slot PeerKey ServerTransaction) = g.S.SlotTable.slots c.seek.new.aged.table in
+    let new : List (Slot PeerKey ServerTransaction) = g.S.SlotTable.slots c.on_apdu.new.aged.table in
+    let kept = subst (λ (l : List (Slot PeerKey ServerTransaction)). IfSome c.self.inside.kept (λ k. kept_octets (slots_view l) ≤ k))
+    (sym c.seek.ensures.slots) c.self.invariant.1 in (
       c.on_apdu.ensures.aged,
       c.moved-self-inside.ensures (kept_octets (slots_view old)) (kept_octets (slots_view new)) (octets_of (value_at code_same_key key old))
-          (octets_of (value_at code_same_key key new)) c.self.invariant.1 c.key_octets-before.ensures c.key_octets.ensures
-          (on_moved context c.args.store.now (apdu_view c.args.apdu.now) old new (g.S.SlotTable.capacity c.self.inside.aged.table)
+          (octets_of (value_at code_same_key key new)) kept c.key_octets-before.ensures c.key_octets.ensures
+          (on_moved context c.args.store.now (apdu_view c.args.apdu.now) old new (g.S.SlotTable.capacity c.seek.new.aged.table)
           (g.S.SlotTable.capacity c.on_apdu.new.aged.table) c.self.inside.restart c.len-entries.ensures.distinct c.in_ok-served.ensures.turn.end),
     )

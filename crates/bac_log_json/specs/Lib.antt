@@ -1,0 +1,4 @@
+pub mod Logs
+pub mod LogMembers
+pub mod Events
+pub mod EventMembers
