@@ -30,8 +30,15 @@ impl Tally {
         said: None,
     };
 
+    /// How many were turned away, with what a turn did, of a server that serves from a moment on.
+    pub(crate) fn counted(&self, serves_from: u64, node: &Node, turn: &Turn) -> u64
+        ensures { result ≡ counts_away (is_turned_away serves_from (turn_view turn.now) node.now.servers) self.now.away }
+    {
+        counts_away(is_turned_away(serves_from, node, turn), self.away)
+    }
+
     /// So many were turned away, and once that is said, if it is.
-    fn told_at(&self, at: u64, away: u64) -> Tally
+    pub(crate) fn told_at(&self, at: u64, away: u64) -> Tally
         ensures { result ≡ told_at at away self.now }
     {
         if is_said(at, away, self.said) {
@@ -56,18 +63,6 @@ pub(crate) struct Log {
     /// Whether each line was written.
     pub(crate) whole: bool,
     pub(crate) tally: Tally,
-}
-
-impl Log {
-    /// How many were turned away, with what a turn did.
-    fn counted(&self, node: &Node, turn: &Turn) -> u64
-        ensures { result ≡ counts_away (is_turned_away self.now.settings.serves_from (turn_view turn.now) node.now.servers) self.now.tally.away }
-    {
-        counts_away(
-            is_turned_away(self.settings.serves_from, node, turn),
-            self.tally.away,
-        )
-    }
 }
 
 /// Writes the lines of a turn, and then how many were turned away so far.
@@ -100,7 +95,7 @@ impl<W: Write> Observer<W> for Log {
 
     fn on_turn(&mut self, node: &Node, buffer: &[u8], turn: &Turn, out: &mut W) {
         if self.whole {
-            let away = self.counted(node, turn);
+            let away = self.tally.counted(self.settings.serves_from, node, turn);
             self.whole = write_turn(self, away, node, buffer, turn, out).is_ok();
             self.tally = self.tally.told_at(turn.at, away);
         }

@@ -1,10 +1,12 @@
-//! A log that tells of some turns, and shows long octets by their first ones.
+//! A log that tells of some turns, and how many requests were turned away since the table was full; it shows long octets by their first ones.
 ghost use Rattle.std.specs.Prelude.{⊤};
 
 use crate::event_text::print_event;
 use crate::lines::turn_lines;
+use crate::log::Tally;
 use crate::log_settings::LogSettings;
 use crate::shortening::shortened;
+use crate::turned_away::full_text;
 use bac_driver::{Observer, Turn};
 use bac_log_json::LogEvent;
 use bac_node::Node;
@@ -12,7 +14,8 @@ use std::alloc::Global;
 use std::io;
 use std::io::Write;
 
-/// Which turns a log tells of. Each tells of turns in which something could not be sent, or found no memory, too.
+/// Which turns a log tells of. Each tells of turns in which something could not be sent, or found no memory, too, and of requests that were turned away since
+/// the table was full.
 #[derive(Clone, Copy, Debug, PartialEq, Eq)]
 pub enum LogLevel {
     /// Those that changed the store.
@@ -46,8 +49,9 @@ pub enum OctetStyle {
     Short,
 }
 
-/// The log of a server: the lines of the turns that its level tells of, those of a turn in one write. Where a line cannot be written, or finds no memory, no
-/// further one is: it is no longer whole.
+/// The log of a server: the lines of the turns that its level tells of, those of a turn in one write. At most once in 1,000 ms it also says how many requests
+/// were turned away since the table was full, and when the next slot gets free. Where a line cannot be written, or finds no memory, no further one is: it is no
+/// longer whole.
 #[derive(Drop)]
 pub struct LevelLog {
     alloc: Global,
@@ -55,15 +59,28 @@ pub struct LevelLog {
     level: Option<LogLevel>,
     octet_style: OctetStyle,
     is_whole: bool,
+    tally: Tally,
 }
 
 /// The lines of a turn, with long octets as the log shows them.
-fn lines_of(log: &LevelLog, node: &Node, buffer: &[u8], turn: &Turn) -> io::Result<Vec<u8>> {
+fn shown_lines(log: &LevelLog, node: &Node, buffer: &[u8], turn: &Turn) -> io::Result<Vec<u8>> {
     let lines = turn_lines(log.alloc, log.settings, node, buffer, turn)?;
     match log.octet_style {
         OctetStyle::Whole => Ok(lines),
         OctetStyle::Short => Ok(shortened(log.alloc, log.settings.format, &lines)?),
     }
+}
+
+/// The lines of a turn, where the log tells of it, and then how many requests were turned away, where that is said.
+fn lines_of(log: &LevelLog, node: &Node, buffer: &[u8], turn: &Turn) -> io::Result<Vec<u8>> {
+    let mut lines = if log.tells(turn) {
+        shown_lines(log, node, buffer, turn)?
+    } else {
+        Vec::new(log.alloc)
+    };
+    let full = full_text(log.alloc, log.settings.format, turn.at, log.tally, node)?;
+    lines.extend_from_slice(full.as_slice())?;
+    Ok(lines)
 }
 
 impl LevelLog {
@@ -80,6 +97,7 @@ impl LevelLog {
             level,
             octet_style,
             is_whole: true,
+            tally: Tally::NONE_AWAY,
         }
     }
 
@@ -108,7 +126,15 @@ impl LevelLog {
         }
     }
 
-    /// Writes the lines of a turn.
+    /// Whether it tells of a turn.
+    fn tells(&self, turn: &Turn) -> bool {
+        match self.level {
+            Some(level) => level.tells(turn),
+            None => false,
+        }
+    }
+
+    /// Writes the lines of a turn, and then how many were turned away so far.
     fn write_turn<W: Write>(
         &self,
         node: &Node,
@@ -129,13 +155,11 @@ impl<W: Write> Observer<W> for LevelLog {
     ghost Sees = { λ _ _ _. ⊤ };
 
     fn on_turn(&mut self, node: &Node, buffer: &[u8], turn: &Turn, out: &mut W) {
-        if !self.is_whole {
-            return;
-        }
-        if let Some(level) = self.level {
-            if level.tells(turn) {
-                self.is_whole = self.write_turn(node, buffer, turn, out).is_ok();
-            }
+        if self.is_on() {
+            let away = self.tally.counted(self.settings.serves_from, node, turn);
+            self.tally.away = away;
+            self.is_whole = self.write_turn(node, buffer, turn, out).is_ok();
+            self.tally = self.tally.told_at(turn.at, away);
         }
     }
 }

@@ -1,4 +1,4 @@
-//! Requests that a server turns away since its reply table is full: how many, and when a slot gets free. `Log` calls it.
+//! Requests that a server turns away since its reply table is full: how many, and when a slot gets free. `Log` and `LevelLog` call it.
 ghost use Rattle.std.specs.Prelude.{◌≡◌, IfOk};
 ghost use Rattle.std.specs.Option.{option_map};
 ghost use Rattle.bac_apdu.specs.Views.{apdu_view};
