@@ -1,26 +1,34 @@
 //! Collecting all faults of a document, where its objects are not read.
 use crate::described::is_described;
 use crate::described_property::described_property;
-use crate::document::read_objects;
-use crate::fault::{DocumentFault, Place, Refusal, ValueFault};
+use crate::fault::{Place, ValueFault};
 use crate::finding::{Finding, Wrong};
 use crate::found::{found_words, unknown_key};
 use crate::held::member;
 use crate::identifier::{the_instance, the_type};
 use crate::known_keys::{DESCRIBED_KEYS, DOCUMENT_KEYS, OBJECT_KEYS, nearest, nearest_of_value};
+use crate::mended::{Mended, read_mended};
 use crate::object::{file_of, is_reserved, kind_in, name_in};
 use crate::outline::Outline;
 use crate::problem::{Given, Problem, Wanted};
 use crate::property::own_property;
+use crate::refusals::{refusals, right_id};
 use crate::scalars::{array, table};
-use bac_store::Property;
+use bac_store::{DescriptionFault, DescriptionFlaw, Property};
 use bac_value::{NoMemory, ObjectIdentifier};
-use bac_value_text::property_name;
+use bac_value_text::{property_in, property_name};
 use std::alloc::Global;
+use toml::value::Array;
 use toml::{Table, Value};
+
+/// The object type device.
+const DEVICE: u16 = 8;
 
 /// The object type file.
 const FILE: u16 = 10;
+
+/// An object type whose properties may have any values.
+const VENDORS: u16 = 128;
 
 /// The place of a key in a document.
 #[derive(Clone, Copy, Debug)]
@@ -30,6 +38,14 @@ struct At<'a> {
     key: &'a str,
 }
 
+/// An object of a document: its number, and its type and its identifier, where they are allowed.
+#[derive(Clone, Copy, Debug)]
+struct Whose {
+    object: usize,
+    kind: Option<u16>,
+    id: Option<ObjectIdentifier>,
+}
+
 /// What was found so far.
 #[derive(Drop)]
 struct Collecting<'t> {
@@ -37,6 +53,10 @@ struct Collecting<'t> {
     text: &'t str,
     outline: Outline,
     is_described: bool,
+    /// Whether each line is TOML: if not, what is missing may stand in one that is none.
+    is_whole: bool,
+    /// Whether an object is a device, or may be one.
+    has_device: bool,
     ids: Vec<ObjectIdentifier>,
     findings: Vec<Finding>,
 }
@@ -75,6 +95,9 @@ impl Collecting<'_> {
         if let Some(key) = unknown_key(value, problem) {
             let near = nearest_of_value(self.alloc, key)?;
             return self.note_unknown(at, key, near);
+        }
+        if value.is_none() && problem.given == Given::Nothing && !self.is_whole {
+            return Ok(());
         }
         let found = found_words(self.alloc, value, problem)?;
         let wanted = problem.wanted;
@@ -132,18 +155,8 @@ impl Collecting<'_> {
         }
     }
 
-    /// The identifier of an object, where it is allowed.
-    fn identifier_of(
-        &mut self,
-        object: usize,
-        table: &Table,
-    ) -> Result<Option<ObjectIdentifier>, NoMemory> {
-        let (Some(kind), Some(instance)) = self.halves_of(object, table)? else {
-            return Ok(None);
-        };
-        let Some(id) = ObjectIdentifier::new(kind, instance) else {
-            return Ok(None);
-        };
+    /// Notes that an earlier object has an identifier, where one has.
+    fn note_again(&mut self, object: usize, id: ObjectIdentifier) -> Result<(), NoMemory> {
         if self
             .ids
             .iter()
@@ -160,49 +173,53 @@ impl Collecting<'_> {
             };
             self.note_value(at, None, problem)?;
         }
-        self.ids.push(id)?;
-        Ok(Some(id))
+        Ok(self.ids.push(id)?)
     }
 
-    /// Notes what is wrong with the name and the file of an object.
-    fn read_name_and_file(
-        &mut self,
-        object: usize,
-        id: Option<ObjectIdentifier>,
-        table: &Table,
-    ) -> Result<(), NoMemory> {
+    /// Notes what is wrong with the type and the instance of an object; what is known of it.
+    fn read_halves(&mut self, object: usize, table: &Table) -> Result<Whose, NoMemory> {
+        let (kind, instance) = self.halves_of(object, table)?;
+        self.has_device |= kind.is_none_or(|kind| kind == DEVICE);
+        let id = match (kind, instance) {
+            (Some(kind), Some(instance)) => ObjectIdentifier::new(kind, instance),
+            _ => None,
+        };
+        if let Some(id) = id {
+            self.note_again(object, id)?;
+        }
+        Ok(Whose { object, kind, id })
+    }
+
+    /// Notes what is wrong with the name and the file of an object. Where its type is not known, a file is read if it has one.
+    fn read_name_and_file(&mut self, whose: Whose, table: &Table) -> Result<(), NoMemory> {
+        let Whose { object, kind, id } = whose;
         if let Err(fault) = name_in(self.alloc, table) {
             let key = "name";
             self.note_fault(At { object, id, key }, member(table, key), fault)?;
         }
-        let Some(id) = id else {
+        let key = "file";
+        let file = member(table, key);
+        if kind.is_none() && file.is_none() {
             return Ok(());
-        };
-        if let Err(fault) = file_of(self.alloc, id.kind, table) {
-            let at = At {
-                object,
-                id: Some(id),
-                key: "file",
-            };
-            self.note_fault(at, member(table, "file"), fault)?;
         }
-        Ok(())
+        match file_of(self.alloc, kind.unwrap_or(FILE), table) {
+            Ok(_) => Ok(()),
+            Err(fault) => self.note_fault(At { object, id, key }, file, fault),
+        }
     }
 
-    /// Reads one property of an object. The value of one is not looked at where the type of its object is unknown.
+    /// Reads one property of an object. Where its type is not known, any values are allowed.
     fn property_of(
         &self,
-        id: Option<ObjectIdentifier>,
+        kind: Option<u16>,
         done: &[Property],
         key: &str,
         value: &Value,
-    ) -> Result<Option<Property>, ValueFault> {
+    ) -> Result<Property, ValueFault> {
         if self.is_described {
-            return Ok(Some(described_property(self.alloc, key, value)?));
-        }
-        match id {
-            Some(id) => Ok(Some(own_property(self.alloc, id.kind, done, key, value)?)),
-            None => Ok(None),
+            described_property(self.alloc, key, value)
+        } else {
+            own_property(self.alloc, kind.unwrap_or(VENDORS), done, key, value)
         }
     }
 
@@ -219,26 +236,17 @@ impl Collecting<'_> {
     }
 
     /// Notes what is wrong with the properties of an object.
-    fn read_properties(
-        &mut self,
-        object: usize,
-        id: Option<ObjectIdentifier>,
-        table: &Table,
-    ) -> Result<(), NoMemory> {
-        let kind = match id {
-            Some(id) => id.kind,
-            None => FILE,
-        };
+    fn read_properties(&mut self, whose: Whose, table: &Table) -> Result<(), NoMemory> {
+        let Whose { object, kind, id } = whose;
         let mut done = Vec::new(self.alloc);
         for (key, value) in table.iter() {
             let key = key.as_str();
-            if is_reserved(kind, key) {
+            if is_reserved(kind.unwrap_or(FILE), key) {
                 continue;
             }
             let at = At { object, id, key };
-            match self.property_of(id, &done, key, value) {
-                Ok(Some(property)) => done.push(property)?,
-                Ok(None) => {}
+            match self.property_of(kind, &done, key, value) {
+                Ok(property) => done.push(property)?,
                 Err(ValueFault::Wrong(problem)) if is_no_property(problem) => {
                     self.note_no_property(at)?;
                 }
@@ -258,12 +266,13 @@ impl Collecting<'_> {
                     id: None,
                     key: "",
                 };
+                self.has_device = true;
                 return self.note_value(at, Some(value), problem);
             }
         };
-        let id = self.identifier_of(object, table)?;
-        self.read_name_and_file(object, id, table)?;
-        self.read_properties(object, id, table)
+        let whose = self.read_halves(object, table)?;
+        self.read_name_and_file(whose, table)?;
+        self.read_properties(whose, table)
     }
 
     /// Notes the keys outside of objects that have no meaning.
@@ -310,30 +319,91 @@ impl Collecting<'_> {
                 for (place, object) in list.iter().enumerate() {
                     self.read_object(place.saturating_add(1), object)?;
                 }
-                Ok(())
+                self.note_refusals(list)
             }
             Err(problem) => self.note_value(at, Some(value), problem),
         }
     }
 
-    /// Notes why the objects together are no store.
-    fn note_refusal(&mut self, refusal: Refusal) -> Result<(), NoMemory> {
-        let object = match refusal.fault.object {
-            Some(object) => object.saturating_add(1),
-            None => 0,
+    /// Notes why an object of a list, or all of them, are refused.
+    fn note_refusal(&mut self, list: &Array, fault: DescriptionFault) -> Result<(), NoMemory> {
+        let DescriptionFault {
+            object,
+            property,
+            why,
+        } = fault;
+        let (number, table) = match object {
+            Some(place) => (place.saturating_add(1), table_at(list, place)),
+            None => (0, None),
         };
-        let key = match refusal.fault.property {
-            Some(number) => property_name(number).unwrap_or(""),
-            None => "",
+        let line_key = match (property, table) {
+            (Some(property), Some(table)) => key_of(property, table),
+            _ => key_of_flaw(why),
         };
-        let line = self.outline.line(self.text, object, key);
+        let line = self.outline.line(self.text, number, line_key);
         let place = Place {
-            object: 0,
-            id: None,
-            key: String::new(self.alloc),
+            object: number,
+            id: table.and_then(right_id),
+            key: property_words(self.alloc, property)?,
         };
-        let wrong = Wrong::Refused(refusal);
+        let wrong = Wrong::Refused(why);
         Ok(self.findings.push(Finding { line, place, wrong })?)
+    }
+
+    /// Notes why described objects of a list are together no store, but what was noted of them already, or may be so because of that.
+    fn note_refusals(&mut self, list: &Array) -> Result<(), NoMemory> {
+        if !self.is_described {
+            return Ok(());
+        }
+        for fault in refusals(self.alloc, list)?.iter() {
+            let is_told = match fault.why {
+                DescriptionFlaw::SameIdentifier => true,
+                DescriptionFlaw::NoDevice => self.has_device || !self.is_whole,
+                _ => false,
+            };
+            if !is_told {
+                self.note_refusal(list, *fault)?;
+            }
+        }
+        Ok(())
+    }
+}
+
+/// The table at a place of a list, where it is one.
+fn table_at(list: &Array, place: usize) -> Option<&Table> {
+    match list.get(place) {
+        Some(Value::Table(table)) => Some(table),
+        _ => None,
+    }
+}
+
+/// The key of a property, as an object writes it; that of its head where it has none.
+fn key_of(property: u32, table: &Table) -> &str {
+    for (key, _) in table.iter() {
+        if property_in(key.as_bytes()) == Some(property) {
+            return key.as_str();
+        }
+    }
+    ""
+}
+
+/// The key of an object that a flaw is about.
+fn key_of_flaw(why: DescriptionFlaw) -> &'static str {
+    match why {
+        DescriptionFlaw::SameName => "name",
+        DescriptionFlaw::SecondDevice => "type",
+        _ => "",
+    }
+}
+
+/// A property by its name, or its number; nothing where there is none.
+fn property_words(alloc: Global, property: Option<u32>) -> Result<String, NoMemory> {
+    let Some(number) = property else {
+        return Ok(String::new(alloc));
+    };
+    match property_name(number) {
+        Some(name) => Ok(String::from_str(alloc, name)?),
+        None => Ok(format!(in alloc; "{number}")?),
     }
 }
 
@@ -342,34 +412,35 @@ fn is_no_property(problem: Problem) -> bool {
     matches!(problem.wanted, Wanted::Property | Wanted::AnyProperty)
 }
 
-/// All faults of a document that [`read_objects`] refuses: of its keys outside of objects, then of each object in the order of the document, of its type, its instance,
-/// its name, its file, and its other keys in the order of their octets. Where each of them is right, why the objects together are no store. Of a text that is not
-/// TOML in UTF-8 there is none here: the refusal of [`read_objects`] has its line.
+/// All faults of a document that [`read_objects`](crate::read_objects) refuses, in the order of their lines, those without one last: of lines that are no TOML (the first 16); of its keys outside
+/// of objects; of each object; and why the objects of a document that describes them are together no store (the first 32 reasons). Of a text that is not UTF-8 there is
+/// none here: the refusal of `read_objects` has its line.
 ///
 /// An Err says that an allocation failed.
 pub fn document_findings(alloc: Global, text: &[u8]) -> Result<Vec<Finding>, NoMemory> {
+    let mut findings = Vec::new(alloc);
     let Ok(whole) = std::str::from_utf8(text) else {
-        return Ok(Vec::new(alloc));
+        return Ok(findings);
     };
-    let document = match toml::table_from_str(alloc, whole) {
-        Ok(document) => document,
-        Err(error) if error.is_memory() => return Err(NoMemory),
-        Err(_) => return Ok(Vec::new(alloc)),
+    let Some(Mended { table, octets }) = read_mended(alloc, whole, &mut findings)? else {
+        return Ok(findings);
+    };
+    let Ok(text) = std::str::from_utf8(&octets) else {
+        return Ok(findings);
     };
     let mut collecting = Collecting {
         alloc,
-        text: whole,
-        outline: Outline::of(alloc, whole),
-        is_described: is_described(&document),
+        text,
+        outline: Outline::of(alloc, text),
+        is_described: is_described(&table),
+        is_whole: findings.is_empty(),
+        has_device: false,
         ids: Vec::new(alloc),
-        findings: Vec::new(alloc),
+        findings,
     };
-    collecting.read_outside(&document)?;
-    collecting.read_list(&document)?;
-    if collecting.findings.is_empty() {
-        if let Err(DocumentFault::Refused(refusal)) = read_objects(alloc, text) {
-            collecting.note_refusal(refusal)?;
-        }
-    }
-    Ok(collecting.findings)
+    collecting.read_outside(&table)?;
+    collecting.read_list(&table)?;
+    let mut findings = collecting.findings;
+    findings.sort_by_key(|finding| finding.line.unwrap_or(usize::MAX))?;
+    Ok(findings)
 }

@@ -1,7 +1,9 @@
 //! The faults of a document, each with its line.
-use crate::fault::{Place, Refusal};
+use crate::fault::Place;
 use crate::problem::Wanted;
+use bac_store::DescriptionFlaw;
 use std::fmt;
+use toml::de::Error;
 
 /// What is wrong at a place of a document.
 #[derive(Debug, Drop)]
@@ -16,8 +18,13 @@ pub enum Wrong {
         wanted: Wanted,
         found: String,
     },
-    /// Each key and value is allowed, but the objects together are no store.
-    Refused(Refusal),
+    /// A value that is allowed, or an object of such values, that no store takes beside the objects before it.
+    Refused(DescriptionFlaw),
+    /// What is no TOML: why, and what stands there up to the end of its line.
+    NoToml {
+        error: Error,
+        there: String,
+    },
 }
 
 /// A fault of a document, and where it is.
@@ -44,7 +51,11 @@ impl fmt::Display for Wrong {
                 };
                 write!(f, "{wanted} wanted, {found} given")
             }
-            Wrong::Refused(refusal) => write!(f, "{refusal}"),
+            Wrong::Refused(flaw) => write!(f, "{flaw}"),
+            Wrong::NoToml { error, there } => {
+                let message = error.message();
+                write!(f, "{message}: {there}")
+            }
         }
     }
 }

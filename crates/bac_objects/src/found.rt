@@ -32,12 +32,20 @@ pub(crate) fn unknown_key(value: Option<&Value>, problem: Problem) -> Option<&st
     }
 }
 
+/// Whether a table has limits, of which one may be what is wrong.
+fn has_limits(table: &Table) -> bool {
+    ["min", "max", "one-of"]
+        .iter()
+        .any(|key| table.contains_key(*key))
+}
+
 /// The value of a table that a problem is about: that under the word of its kind, or the flag.
 fn inner(table: &Table, problem: Problem) -> Option<&Value> {
     match problem.wanted {
         Wanted::Mark => table.get("writable"),
         Wanted::Value | Wanted::OneValue | Wanted::LimitedValue | Wanted::Limits => None,
         Wanted::Identifier | Wanted::ObjectType | Wanted::AnyInstance => None,
+        _ if has_limits(table) => None,
         _ => match found(forms(), table) {
             Ok((_, value)) => Some(value),
             Err(_) => None,
@@ -55,7 +63,11 @@ fn at_fault<'a>(value: &'a Value, problem: Problem) -> &'a Value {
 
 /// A value as TOML writes it, or the beginning of a long one.
 fn shown(alloc: Global, value: &Value) -> Result<String, NoMemory> {
-    let text = format!(in alloc; "{value}")?;
+    cut(alloc, format!(in alloc; "{value}")?)
+}
+
+/// A text, or the beginning of a long one.
+pub(crate) fn cut(alloc: Global, text: String) -> Result<String, NoMemory> {
     if text.len() <= MOST_SHOWN {
         return Ok(text);
     }

@@ -14,11 +14,13 @@ mod given;
 mod held;
 mod identifier;
 mod known_keys;
+mod mended;
 mod object;
 mod outline;
 mod packing;
 mod problem;
 mod property;
+mod refusals;
 mod scalars;
 mod values;
 

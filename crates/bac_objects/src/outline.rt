@@ -83,6 +83,31 @@ fn behind_value(alloc: Global, text: &str) -> Option<&str> {
     Some(rest)
 }
 
+/// What begins with the first key or head: the text without blanks, comments and the byte order mark that some editors put at its beginning.
+fn first_statement(text: &str) -> &str {
+    skip_blank(text.strip_prefix('\u{feff}').unwrap_or(text), true)
+}
+
+/// How many octets are before the key or the head in which, or behind which, a place is, and how many before the line behind its value, if that ends.
+pub(crate) fn statement_at(alloc: Global, text: &str, place: usize) -> (usize, Option<usize>) {
+    let mut rest = first_statement(text);
+    let mut begin = 0;
+    let mut end = None;
+    for _place in 0..text.len() {
+        let before = text.len().saturating_sub(rest.len());
+        if rest.is_empty() || before > place {
+            return (begin, end);
+        }
+        begin = before;
+        let Some(after) = behind_value(alloc, rest) else {
+            return (begin, None);
+        };
+        end = Some(text.len().saturating_sub(after.len()));
+        rest = skip_blank(after, true);
+    }
+    (begin, end)
+}
+
 impl Outline {
     /// Notes a key, or the head of the latest object. None where memory is refused.
     fn note(&mut self, object: usize, key: &str, alloc: Global, before: usize) -> Option<()> {
@@ -135,7 +160,7 @@ impl Outline {
 
     /// Reads all heads and keys of a text. None where that is no longer TOML, or memory is refused.
     fn read(&mut self, alloc: Global, text: &str) -> Option<()> {
-        let mut rest = skip_blank(text, true);
+        let mut rest = first_statement(text);
         for _place in 0..text.len() {
             if rest.is_empty() {
                 return Some(());

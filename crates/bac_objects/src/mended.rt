@@ -1,0 +1,158 @@
+//! Documents of which some lines are no TOML: what is wrong with each of these, and the table of all others.
+use crate::fault::Place;
+use crate::finding::{Finding, Wrong};
+use crate::found::cut;
+use crate::outline::{line_behind, statement_at};
+use bac_value::NoMemory;
+use std::alloc::Global;
+use std::ops::Range;
+use std::str;
+use toml::Table;
+use toml::de::Error;
+
+/// How many lines that are no TOML are told.
+const MOST_UNREAD: usize = 16;
+
+/// What is read of a document.
+#[derive(Drop)]
+pub(crate) struct Mended {
+    pub(crate) table: Table,
+    /// The text, with blank lines in place of those that are no TOML.
+    pub(crate) octets: Vec<u8>,
+}
+
+/// A part of a line, in print.
+fn printed(alloc: Global, part: &str) -> Result<String, NoMemory> {
+    let mut printed = String::new(alloc);
+    for letter in part.chars() {
+        printed.push(if letter < ' ' { ' ' } else { letter })?;
+    }
+    cut(alloc, printed)
+}
+
+/// What stands at a place: the rest of its line, or the line before it where it ends there.
+fn words_at(alloc: Global, text: &str, place: usize) -> Result<String, NoMemory> {
+    let rest = text.get(place..).unwrap_or("");
+    let rest = rest.split('\n').next().unwrap_or("").trim();
+    if !rest.is_empty() {
+        return printed(alloc, rest);
+    }
+    let before = text.get(..place).unwrap_or("");
+    let before = before.rsplit('\n').next().unwrap_or("").trim();
+    let before = printed(alloc, before)?;
+    Ok(format!(in alloc; "behind {before}")?)
+}
+
+/// The finding of a line that is no TOML.
+fn finding_of(alloc: Global, text: &str, start: usize, error: Error) -> Result<Finding, NoMemory> {
+    let there = words_at(alloc, text, start)?;
+    Ok(Finding {
+        line: Some(line_behind(text.as_bytes(), start)),
+        place: Place {
+            object: 0,
+            id: None,
+            key: String::new(alloc),
+        },
+        wrong: Wrong::NoToml { error, there },
+    })
+}
+
+/// What stands for lines that cannot be read, or, as they say, again: what their beginning means. None where nothing behind them can be told.
+fn meant_by(lines: &str, is_again: bool) -> Option<&'static str> {
+    if lines.starts_with("[[") {
+        Some("[[object]]")
+    } else if lines.starts_with("[") {
+        None
+    } else if lines.starts_with("described") && !is_again {
+        Some("described = true")
+    } else {
+        Some("")
+    }
+}
+
+/// Where the line ends in which a span does.
+fn end_of_line(text: &[u8], span: &Range<usize>) -> usize {
+    let from = span.start.max(span.end.saturating_sub(1));
+    let rest = text.get(from..).unwrap_or(&[]);
+    match rest.iter().position(|octet| *octet == b'\n') {
+        Some(count) => from.saturating_add(count),
+        None => text.len(),
+    }
+}
+
+/// Where the lines of a key or a head end: with its value, or with the line of its fault, where the value may be one that is not closed.
+fn end_of(text: &str, begin: usize, value_end: Option<usize>, line_end: usize) -> usize {
+    let Some(end) = value_end else {
+        return line_end;
+    };
+    let value = text.get(begin..end).unwrap_or("");
+    if value.contains("\n[") || value.contains("\n\n") {
+        line_end
+    } else {
+        end.max(line_end)
+    }
+}
+
+/// The text without the lines of the key or the head in which a fault is. None where nothing behind them can be told.
+fn without(
+    alloc: Global,
+    text: &str,
+    span: &Range<usize>,
+    is_again: bool,
+) -> Result<Option<Vec<u8>>, NoMemory> {
+    let octets = text.as_bytes();
+    let (begin, value_end) = statement_at(alloc, text, span.start);
+    let lines = text.get(begin..).unwrap_or("");
+    let Some(meant) = meant_by(lines, is_again) else {
+        return Ok(None);
+    };
+    let value_end = if lines.starts_with("[") {
+        None
+    } else {
+        value_end
+    };
+    let end = end_of(text, begin, value_end, end_of_line(octets, span));
+    let mut mended = Vec::from_slice(alloc, octets.get(..begin).unwrap_or(&[]))?;
+    mended.extend_from_slice(meant.as_bytes())?;
+    for octet in octets.get(begin..end).unwrap_or(&[]) {
+        if *octet == b'\n' {
+            mended.push(b'\n')?;
+        }
+    }
+    mended.extend_from_slice(octets.get(end..).unwrap_or(&[]))?;
+    Ok(Some(mended))
+}
+
+/// Reads a document as far as it is TOML, and adds what is wrong with the lines that are not. None where too much is not.
+pub(crate) fn read_mended(
+    alloc: Global,
+    text: &str,
+    findings: &mut Vec<Finding>,
+) -> Result<Option<Mended>, NoMemory> {
+    let mut octets = Vec::from_slice(alloc, text.as_bytes())?;
+    let mut last = None;
+    for _round in 0..MOST_UNREAD {
+        let Ok(text) = str::from_utf8(&octets) else {
+            return Ok(None);
+        };
+        let error = match toml::table_from_str(alloc, text) {
+            Ok(table) => return Ok(Some(Mended { table, octets })),
+            Err(error) => error,
+        };
+        let Some(span) = error.span() else {
+            return Err(NoMemory);
+        };
+        let finding = finding_of(alloc, text, span.start, error)?;
+        if finding.line <= last {
+            return Ok(None);
+        }
+        last = finding.line;
+        findings.push(finding)?;
+        let is_again = error.message() == "duplicate key";
+        let Some(mended) = without(alloc, text, &span, is_again)? else {
+            return Ok(None);
+        };
+        octets = mended;
+    }
+    Ok(None)
+}

@@ -1,0 +1,144 @@
+//! Why the objects that a document describes are together no store: all reasons, as far as the objects can be read.
+use crate::described_property::described_property;
+use crate::fault::ValueFault;
+use crate::identifier::{the_instance, the_type};
+use crate::object::{file_of, is_reserved, name_in};
+use crate::problem::Wanted;
+use bac_store::{DescriptionFault, DescriptionFlaw, File, Object, Property, Store};
+use bac_value::{NoMemory, ObjectIdentifier};
+use std::alloc::Global;
+use toml::value::Array;
+use toml::{Table, Value};
+
+/// How many reasons are told.
+const MOST_REFUSALS: usize = 32;
+
+/// What is read, if it is not wrong.
+fn right<T: Drop>(read: Result<T, ValueFault>) -> Result<Option<T>, NoMemory> {
+    match read {
+        Ok(value) => Ok(Some(value)),
+        Err(ValueFault::Wrong(_)) => Ok(None),
+        Err(ValueFault::NoMemory) => Err(NoMemory),
+    }
+}
+
+/// The identifier of an object, where it is right.
+pub(crate) fn right_id(table: &Table) -> Option<ObjectIdentifier> {
+    match (
+        the_type(Wanted::ObjectType, table),
+        the_instance(4_194_302, Wanted::Instance, table),
+    ) {
+        (Ok(kind), Ok(instance)) => ObjectIdentifier::new(kind as u16, instance as u32),
+        _ => None,
+    }
+}
+
+/// The properties of an object that are right.
+fn right_properties(alloc: Global, kind: u16, table: &Table) -> Result<Vec<Property>, NoMemory> {
+    let mut properties = Vec::new(alloc);
+    for (key, value) in table.iter() {
+        let key = key.as_str();
+        if is_reserved(kind, key) {
+            continue;
+        }
+        if let Some(property) = right(described_property(alloc, key, value))? {
+            properties.push(property)?;
+        }
+    }
+    Ok(properties)
+}
+
+/// The file of an object; an empty one where it is wrong.
+fn right_file(alloc: Global, kind: u16, table: &Table) -> Result<Option<File>, NoMemory> {
+    match right(file_of(alloc, kind, table))? {
+        Some(file) => Ok(file),
+        None => Ok(Some(File {
+            octets: Vec::new(alloc),
+            writable: false,
+        })),
+    }
+}
+
+/// What is right of an object. None where it has no identifier or no name.
+fn right_object(alloc: Global, value: &Value) -> Result<Option<Object>, NoMemory> {
+    let Value::Table(table) = value else {
+        return Ok(None);
+    };
+    let Some(id) = right_id(table) else {
+        return Ok(None);
+    };
+    let Some(name) = right(name_in(alloc, table))? else {
+        return Ok(None);
+    };
+    let file = right_file(alloc, id.kind, table)?;
+    let properties = right_properties(alloc, id.kind, table)?;
+    Ok(Some(Object {
+        id,
+        name,
+        properties,
+        file,
+    }))
+}
+
+/// Whether an object at a place, or a property of it, was refused.
+fn is_refused(refused: &[DescriptionFault], place: usize, property: Option<u32>) -> bool {
+    refused.iter().any(|fault| fault.object == Some(place) && fault.property == property)
+}
+
+/// Objects, and the place of each in the list of the document.
+#[derive(Drop)]
+struct Placed {
+    objects: Vec<Object>,
+    places: Vec<usize>,
+}
+
+/// The objects of a list, as far as they are right, without what was refused.
+fn objects_without(
+    alloc: Global,
+    list: &Array,
+    refused: &[DescriptionFault],
+) -> Result<Placed, NoMemory> {
+    let mut objects = Vec::new(alloc);
+    let mut places = Vec::new(alloc);
+    for (place, value) in list.iter().enumerate() {
+        if is_refused(refused, place, None) {
+            continue;
+        }
+        if let Some(object) = right_object(alloc, value)? {
+            let mut object = object;
+            object.properties.retain(|property| !is_refused(refused, place, Some(property.number)));
+            objects.push(object)?;
+            places.push(place)?;
+        }
+    }
+    Ok(Placed { objects, places })
+}
+
+/// Why the objects of a list are no store, as far as they are right: each object that is refused by its place in the list, and each property of one. The last is perhaps
+/// a reason of no single object.
+pub(crate) fn refusals(alloc: Global, list: &Array) -> Result<Vec<DescriptionFault>, NoMemory> {
+    let mut refused = Vec::new(alloc);
+    for _round in 0..MOST_REFUSALS {
+        let Placed { objects, places } = objects_without(alloc, list, &refused)?;
+        let Err(fault) = Store::describing(alloc, objects) else {
+            return Ok(refused);
+        };
+        if fault.why == DescriptionFlaw::NoMemory {
+            return Err(NoMemory);
+        }
+        let object = match fault.object {
+            Some(at) => places.get(at).copied(),
+            None => None,
+        };
+        let DescriptionFault { property, why, .. } = fault;
+        refused.push(DescriptionFault {
+            object,
+            property,
+            why,
+        })?;
+        if object.is_none() {
+            return Ok(refused);
+        }
+    }
+    Ok(refused)
+}
