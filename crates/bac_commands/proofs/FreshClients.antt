@@ -1,5 +1,5 @@
 -- A client that has asked nothing has an invoke ID and a slot for each ask.
-use Rattle.std.proofs.Common.{◌≡◌, ◌≤◌, ℕ, zero, suc, ◌+◌, ◌-◌, ◌||◌, Bool, true, false, List, [], ◌∷◌, Option, Some, None, if◌then◌else◌, refl, sym, ap, subst, ◌∙◌, arith}
+use Rattle.std.proofs.Common.{◌≡◌, ℕ, zero, suc, ◌+◌, ◌-◌, ◌||◌, Bool, true, false, [], ◌∷◌, Option, Some, if◌then◌else◌, refl, sym, ap, subst, ◌∙◌, arith}
 use Rattle.std.proofs.lemmas.Bool.{le-ltb}
 use Rattle.std.specs.Option.{option_or}
 use Rattle.bac_apdu.specs.Apdu.{Limits}
@@ -9,7 +9,7 @@ use Rattle.bac_protocol.specs.Context.{Settings}
 use Rattle.bac_protocol.specs.Service.{Octets}
 use Rattle.bac_protocol.specs.Sizes.{RequestFault, Way, request_way_of}
 use Rattle.bac_service.specs.Values.{Request, choice_of}
-use Rattle.bac_transaction.specs.Ends.{Accepted, AskOutcome, AskRefusal, ClientEnd, accepts, asks_by_way, asks_for, asks_with_id, free_id, is_id_taken, least_around, least_not}
+use Rattle.bac_transaction.specs.Ends.{Accepted, AskOutcome, AskRefusal, ClientEnd, accepts, asks_by_way, asks_for, asks_with_id, free_id, is_id_taken, least_not}
 use Rattle.bac_requester.specs.declared.ask_fault.AskFault.{AskFault}
 use Rattle.bac_requester.specs.declared.ask_fault.AskFault.TheVariants as fault
 use Rattle.bac_world.specs.Node.{Node, NodeRefuses, Refusal}

@@ -1,8 +1,8 @@
 -- What was served is the same if nobody saw it.
-use Rattle.std.proofs.Common.{◌≡◌, ◌⊎◌, ℕ, List, [], ◌∷◌, Option, refl, ap, inl, inr}
+use Rattle.std.proofs.Common.{ℕ, List, [], ◌∷◌, Option, refl, ap, inl, inr}
 use Rattle.bac_store.specs.Stores.{Store}
 use Rattle.bac_driver.specs.Observed.{IsOverUnseen, Observed, observed}
-use Rattle.bac_driver.specs.Rounds.{BreaksOff, BreaksRound, HoldsSeenTurn, HoldsTurnAtOnce, HoldsTurns, IsRound, ServesRounds, StopsRounds, TakesRound, TakesRounds}
+use Rattle.bac_driver.specs.Rounds.{BreaksRound, HoldsSeenTurn, HoldsTurnAtOnce, HoldsTurns, ServesRounds, StopsRounds, TakesRound, TakesRounds}
 use Rattle.bac_driver.specs.Runs.{Run, Timed}
 use Rattle.bac_driver.specs.Seen.{Watcher}
 use Rattle.bac_driver.specs.Turns.{Turn}
