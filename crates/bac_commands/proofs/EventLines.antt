@@ -1,5 +1,5 @@
 -- The line of a log for an event, whose parts were computed.
-use Rattle.std.proofs.Common.{◌≡◌, ◌++◌, ℕ, List, length, Option, subst}
+use Rattle.std.proofs.Common.{◌≡◌, ◌++◌, ℕ, IfOk, List, Result, Ok, Err, length, Option, subst}
 use Rattle.std.specs.Option.{option_map}
 use Rattle.bac_apdu.specs.Apdu.{Apdu}
 use Rattle.bac_driver.specs.Turns.{Turn, performed_of, sends_of, skipped_in}
@@ -49,3 +49,8 @@ rest_told f turn again_count skipped_count again lost undone text again_is skipp
       is_undone = subst (λ (n : ℕ). IsCountText f turn.at n (NotDone n) undone) skipped_is is_undone;
       is = is;
     }
+
+-- what follows from a fact of a result where it is Ok
+pub if_ok : {A E : Type 0} (r : Result A E) (P Q : A → Type 0) → ((a : A) → P a → Q a) → IfOk r P → IfOk r Q
+if_ok (Ok a) P Q so p = so a p
+if_ok (Err e) P Q so p = p

@@ -1,5 +1,5 @@
 -- The lines of a turn.
-use Rattle.std.specs.Prelude.{◌≡◌, ◌==◌, ℕ, ◌+◌, ◌-◌, ◌≤◌, ◌<◌, min, nat_le, nat_lt, count_by, Bool, true, false, ◌&&◌, not, List, [], ◌∷◌, ◌++◌, codes, decimal, length, take}
+use Rattle.std.specs.Prelude.{◌≡◌, ◌==◌, ℕ, ◌+◌, ◌-◌, ◌≤◌, ◌<◌, min, nat_le, nat_lt, count_by, Bool, true, false, ◌&&◌, not, List, [], ◌∷◌, ◌++◌, codes, length, take}
 use Rattle.std.specs.Prelude.{Option, Some, None, if◌then◌else◌}
 use Rattle.std.specs.Option.{option_map}
 use Rattle.bac_protocol.specs.Service.{Octets}

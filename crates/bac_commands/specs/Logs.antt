@@ -3,7 +3,7 @@ use Rattle.std.specs.Prelude.{◌≡◌, ℕ, Bool, true, List, Option, Some, No
 use Rattle.bac_text.specs.Texts.{AppendsText}
 use Rattle.bac_text.specs.declared.status.Status.{Status}
 use Rattle.bac_driver.specs.Runs.{Timed}
-use Rattle.bac_driver.specs.Seen.{Seen, Watcher}
+use Rattle.bac_driver.specs.Seen.{Seen}
 use Rattle.bac_driver.specs.declared.wait_limit.WaitLimit.{WaitLimit}
 use Rattle.bac_commands.specs.Lines.{AreLogLines, counts_away, is_said, is_turned_away}
 use Rattle.bac_commands.specs.Reports.{ServingIsWatched}

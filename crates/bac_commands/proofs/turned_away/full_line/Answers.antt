@@ -2,12 +2,12 @@
 use Rattle.std.proofs.Common.{ℕ, subst}
 use Rattle.bac_log_json.specs.Logs.{TableFull}
 use Rattle.bac_commands.specs.EventTexts.{IsEventText}
+use Rattle.bac_commands.proofs.EventLines.{if_ok}
 use Rattle.bac_commands.proofs.turned_away.full_line.Goals as goal
 
 pub returns : goal.returns
-returns c = record {
+returns c = if_ok c.event_text.result _ _ (λ t is. record {
   next = c.next_free.result;
   is_next = record { from = c.next_free.ensures.from; full = c.next_free.ensures.full; free = c.next_free.ensures.free };
-  is =
-      subst (λ (wait : ℕ). IsEventText c.args.format c.args.at (TableFull c.args.away wait) _) c.saturating_sub-wait.ensures c.event_text.ensures;
-}
+  is = subst (λ (wait : ℕ). IsEventText c.args.format c.args.at (TableFull c.args.away wait) t.items) c.saturating_sub-wait.ensures is;
+}) c.event_text.ensures
