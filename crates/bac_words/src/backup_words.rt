@@ -5,7 +5,7 @@ use crate::words::{Grammar, Need, Word, WordForm};
 const PORT: Word = Word {
     name: "port",
     form: WordForm::Number("P", 65_535),
-    need: Need::Unless("to"),
+    need: Need::One(&["port", "to"]),
     against: &[],
     help: "The UDP port of the node to ask, on 127.0.0.1; 1 to 65535",
 };

@@ -1,14 +1,14 @@
 //! The script that completes words in bash.
 use crate::backup_words::backups;
 use crate::help_words::{about, of_clients, of_servers, offline};
-use crate::words::{Grammar, WordForm};
+use crate::words::{Grammar, Word, WordForm};
 use std::io;
 use std::io::Write;
 
 /// What comes before the commands.
 const HEAD: &str = "# Completes the commands of bac and their words in bash.
 _bac() {
-    local words=
+    local now=\"${COMP_WORDS[COMP_CWORD]}\" before=\"${COMP_WORDS[COMP_CWORD-1]}\" words=
     if [ \"$COMP_CWORD\" -eq 1 ]; then
         words=\"";
 
@@ -21,9 +21,27 @@ const MIDDLE: &str = "\"
 /// What comes behind the words of the commands.
 const TAIL: &str = "        esac
     fi
-    COMPREPLY=($(compgen -W \"$words\" -- \"${COMP_WORDS[COMP_CWORD]}\"))
+    COMPREPLY=($(compgen -W \"$words\" -- \"$now\"))
+    case \"${COMPREPLY[0]}\" in *:) compopt -o nospace ;; esac
 }
 complete -o default -F _bac bac
+";
+
+/// The forms of datagrams.
+const FORMS: &str = "auto base64 c escaped hex hexdump";
+
+/// What stands in requests: the requests, and the kinds of values.
+const REQUESTS: &str = "read write append put get priority null boolean: unsigned: signed: \
+enumerated: real: double: real-octets: double-octets: octets: text: characters: bits: date: time: object:";
+
+/// What completes a word of a request.
+const REQUEST_CASE: &str = "                    *) case \"$now\" in
+                        -*) ;;
+                        @*) COMPREPLY=($(compgen -f -P @ -- \"${now#@}\")); return ;;
+                        *) words=\"";
+
+/// What completes a word that is the name of a file.
+const FILE_CASE: &str = "                    *) case \"$now\" in -*) ;; *) words= ;; esac ;;
 ";
 
 /// Writes the names of some commands, each behind a space.
@@ -44,17 +62,71 @@ fn write_all_names<O: Write>(out: &mut O) -> io::Result<()> {
     write_names(out, about())
 }
 
-/// Writes the line of a command: its words that begin with two hyphens.
+/// Writes words, each behind a space.
+fn write_choices<O: Write>(out: &mut O, words: &[&str]) -> io::Result<()> {
+    for word in words {
+        write!(out, " {word}")?;
+    }
+    Ok(())
+}
+
+/// Writes what completes the text behind a word, where it has one: the names of files, words, or nothing.
+fn write_behind<O: Write>(out: &mut O, word: &Word) -> io::Result<()> {
+    let name = word.name;
+    match word.form {
+        WordForm::Bare | WordForm::Several | WordForm::Flag => Ok(()),
+        WordForm::Text("FILE" | "DIR") => writeln!(out, "                    --{name}) words= ;;"),
+        WordForm::Text("FORM") => writeln!(
+            out,
+            "                    --{name}) words=\"{FORMS}\" ;;"
+        ),
+        WordForm::Choice(_, names) => {
+            write!(out, "                    --{name}) words=\"")?;
+            write_choices(out, names)?;
+            out.writeln("\" ;;")
+        }
+        WordForm::Text(_) | WordForm::Number(_, _) | WordForm::Index(_, _) => {
+            writeln!(
+                out,
+                "                    --{name}) words=; compopt +o default ;;"
+            )
+        }
+    }
+}
+
+/// Writes what completes a word that stands by itself: the name of a file, or a word of a request.
+fn write_bare<O: Write>(out: &mut O, word: &Word) -> io::Result<()> {
+    match (word.form, word.name) {
+        (WordForm::Bare, "FILE") => out.write_all(FILE_CASE.as_bytes()),
+        (WordForm::Several, "WORDS") => {
+            out.write_all(REQUEST_CASE.as_bytes())?;
+            out.write_all(REQUESTS.as_bytes())?;
+            out.writeln("\" ;;")?;
+            out.writeln("                    esac ;;")
+        }
+        _ => Ok(()),
+    }
+}
+
+/// Writes the lines of a command: its words that begin with two hyphens, and what completes others.
 fn write_case<O: Write>(out: &mut O, grammar: &Grammar) -> io::Result<()> {
     let name = grammar.name;
-    write!(out, "            {name}) words=\"--help")?;
+    write!(out, "            {name})\n                words=\"--help")?;
     for word in grammar.words {
         if !matches!(word.form, WordForm::Bare | WordForm::Several) {
             let name = word.name;
             write!(out, " --{name}")?;
         }
     }
-    out.writeln("\" ;;")
+    out.writeln("\"")?;
+    out.writeln("                case \"$before\" in")?;
+    for word in grammar.words {
+        write_behind(out, word)?;
+    }
+    for word in grammar.words {
+        write_bare(out, word)?;
+    }
+    out.writeln("                esac ;;")
 }
 
 /// Writes the lines of some commands.
@@ -65,7 +137,8 @@ fn write_cases<O: Write>(out: &mut O, grammars: &[Grammar]) -> io::Result<()> {
     Ok(())
 }
 
-/// Writes a script for bash that completes the commands, their words that begin with two hyphens, and otherwise the names of files.
+/// Writes a script for bash that completes the commands, their words that begin with two hyphens, what stands behind these, words of requests, and otherwise the names
+/// of files.
 pub(crate) fn write_completion<O: Write>(out: &mut O) -> io::Result<()> {
     out.write_all(HEAD.as_bytes())?;
     write_all_names(out)?;

@@ -3,7 +3,7 @@ use crate::backup_words::backups;
 use crate::help_words::about;
 use crate::words::{ASKING, Grammar, Need, OFFLINE, SERVING, Word, WordForm};
 use clap::builder::ValueParser;
-use clap::{Arg, ArgAction, ArgMatches, Command};
+use clap::{Arg, ArgAction, ArgGroup, ArgMatches, Command};
 use std::alloc::Global;
 
 /// An argument that has a text behind its name.
@@ -41,8 +41,8 @@ fn needed<'a>(arg: Arg<'a>, need: Need) -> Result<Arg<'a>, clap::Error> {
     match need {
         Need::Always => Ok(arg.required(true)),
         Need::Unless(other) => Ok(arg.required_unless_present(other)?),
-        Need::UnlessAny(others) => Ok(arg.required_unless_present_any(others)?),
-        Need::Never => Ok(arg),
+        // their group says so
+        Need::One(_) | Need::Never => Ok(arg),
         Need::Beside(other) => Ok(arg.requires_arg(other)?),
     }
 }
@@ -60,10 +60,25 @@ fn titled<'a>(alloc: Global, grammar: &Grammar) -> Command<'a> {
         .after_help(grammar.after)
 }
 
+/// A command, one of whose words in a group is required where the need of a word says so.
+fn grouped<'a>(
+    alloc: Global,
+    command: Command<'a>,
+    need: Need,
+) -> Result<Command<'a>, clap::Error> {
+    let Need::One(names) = need else {
+        return Ok(command);
+    };
+    let group = ArgGroup::new(alloc, "the node");
+    let group = group.args(names)?.multiple(true).required(true);
+    Ok(command.group(group)?)
+}
+
 fn command_of<'a>(alloc: Global, grammar: &Grammar) -> Result<Command<'a>, clap::Error> {
     let mut command = titled(alloc, grammar);
     for word in grammar.words {
         command = command.arg(argument(alloc, word)?)?;
+        command = grouped(alloc, command, word.need)?;
     }
     Ok(command)
 }

@@ -7,7 +7,7 @@ use crate::completion::write_completion;
 use crate::help_words::{about, command_named, more_example, of_clients, of_servers, offline};
 use crate::manual::write_manual;
 use crate::words::{Grammar, Need, Word, WordForm};
-use crate::wrapping::{write_lines, write_wrapped};
+use crate::wrapping::{SCREEN, write_lines, write_wrapped};
 use std::io;
 use std::io::Write;
 
@@ -45,7 +45,8 @@ pub(crate) fn write_form<O: Write>(out: &mut O, hyphens: &str, word: &Word) -> i
 fn need_words(need: Need) -> &'static str {
     match need {
         Need::Always => " (required)",
-        Need::Unless(_) | Need::UnlessAny(_) | Need::Never | Need::Beside(_) => "",
+        Need::One(_) => " (or another way to say which node)",
+        Need::Unless(_) | Need::Never | Need::Beside(_) => "",
     }
 }
 
@@ -54,14 +55,14 @@ fn write_word<O: Write>(out: &mut O, word: &Word) -> io::Result<()> {
     out.write_all(b"  ")?;
     write_form(out, "--", word)?;
     out.writeln(need_words(word.need))?;
-    write_wrapped(out, 6, 6, word.help)
+    write_wrapped(out, SCREEN, 6, word.help)
 }
 
 /// Writes what a command does, its words, and examples.
 fn write_command<O: Write>(out: &mut O, grammar: &Grammar) -> io::Result<()> {
     let name = grammar.name;
     writeln!(out, "bac {name}")?;
-    write_wrapped(out, 2, 2, grammar.about)?;
+    write_wrapped(out, SCREEN, 2, grammar.about)?;
     out.write_all(b"\n")?;
     for word in grammar.words {
         write_word(out, word)?;
@@ -69,9 +70,9 @@ fn write_command<O: Write>(out: &mut O, grammar: &Grammar) -> io::Result<()> {
     if !grammar.words.is_empty() {
         out.write_all(b"\n")?;
     }
-    write_lines(out, grammar.after)?;
+    write_lines(out, SCREEN, grammar.after)?;
     match more_example(name) {
-        Some(example) => write_lines(out, example),
+        Some(example) => write_lines(out, SCREEN, example),
         None => Ok(()),
     }
 }
@@ -81,7 +82,7 @@ fn write_names<O: Write>(out: &mut O, grammars: &[Grammar]) -> io::Result<()> {
     for grammar in grammars {
         let name = grammar.name;
         writeln!(out, "  {name}")?;
-        write_wrapped(out, 6, 6, grammar.about)?;
+        write_wrapped(out, SCREEN, 6, grammar.about)?;
     }
     Ok(())
 }

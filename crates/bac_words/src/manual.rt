@@ -3,6 +3,7 @@ use crate::backup_words::backups;
 use crate::help::write_form;
 use crate::help_words::{about, more_example, of_clients, of_servers, offline};
 use crate::words::{Grammar, Word};
+use crate::wrapping::{FILLED, SHOWN, write_lines, write_wrapped};
 use std::io;
 use std::io::Write;
 
@@ -24,10 +25,12 @@ const TAIL: &str = ".SH EXIT STATUS
 Done.
 .TP
 .B 1
-What was asked for was done, and it has a fault: a bad datagram, an ask without an answer, an event that could not happen.
+What was asked for was done, and it has a fault: a bad datagram, an ask without
+an answer, an event that could not happen.
 .TP
 .B 2
-The words of the command line are wrong, or a file that they name cannot be read.
+The words of the command line are wrong, or a file that they name cannot be
+read.
 .TP
 .B 3
 A socket, the clock or the output failed.
@@ -36,49 +39,26 @@ A socket, the clock or the output failed.
 No memory.
 ";
 
-/// Writes a text as roff shows it: each hyphen and backslash as it is, and nothing at the front of a line that is a request.
-fn write_plain<O: Write>(out: &mut O, text: &str) -> io::Result<()> {
-    if text.starts_with('.') || text.starts_with('\'') {
-        out.write_all(b"\\&")?;
-    }
-    for octet in text.as_bytes() {
-        match *octet {
-            b'\\' => out.write_all(b"\\e")?,
-            b'-' => out.write_all(b"\\-")?,
-            octet => out.write_all(&[octet])?,
-        }
-    }
-    out.write_all(b"\n")
-}
-
-/// Writes lines that are shown as they are.
-fn write_lines<O: Write>(out: &mut O, text: &str) -> io::Result<()> {
-    for line in text.lines() {
-        write_plain(out, line)?;
-    }
-    Ok(())
-}
-
 /// Writes a word and what it means.
 fn write_word<O: Write>(out: &mut O, word: &Word) -> io::Result<()> {
     out.write_all(b".TP\n.B ")?;
     write_form(out, "\\-\\-", word)?;
     out.write_all(b"\n")?;
-    write_plain(out, word.help)
+    write_wrapped(out, FILLED, 0, word.help)
 }
 
 /// Writes what is told of a command.
 fn write_command<O: Write>(out: &mut O, grammar: &Grammar) -> io::Result<()> {
     let name = grammar.name;
     writeln!(out, ".SS bac {name}")?;
-    write_plain(out, grammar.about)?;
+    write_wrapped(out, FILLED, 0, grammar.about)?;
     for word in grammar.words {
         write_word(out, word)?;
     }
     out.write_all(b".PP\n.nf\n")?;
-    write_lines(out, grammar.after)?;
+    write_lines(out, SHOWN, grammar.after)?;
     if let Some(example) = more_example(name) {
-        write_plain(out, example)?;
+        write_lines(out, SHOWN, example)?;
     }
     out.write_all(b".fi\n")
 }

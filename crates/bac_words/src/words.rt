@@ -25,8 +25,8 @@ pub(crate) enum Need {
     Always,
     /// If that word is absent.
     Unless(&'static str),
-    /// Where none of these is given.
-    UnlessAny(&'static [&'static str]),
+    /// One of these words, of which it is the first, is required.
+    One(&'static [&'static str]),
     Never,
     /// Never, and it is allowed only together with that word.
     Beside(&'static str),
@@ -72,7 +72,7 @@ const ANSWER: &[Word] = &[
 /// Examples for `decode`.
 const DECODE_EXAMPLES: &str = "\
 Example: bac decode 810A000801001013
-Example: bac decode --text '81 0a 00 11 01 04 00 05 01 0c 0c 00 00 00 05 19 55'
+Example: bac decode --text '81 0a 00 08 01 00 10 13'
 Example: bac decode --text - < datagrams.txt
 Example: bac decode --text --number --form hexdump - < dump.txt
 Example: bac decode --form base64 gQoACAEAEBM=
@@ -299,15 +299,19 @@ The first line of a script sets the network: `nodes N`, or `nodes N window W ove
   W  the greatest window in segments, 1 to 64; 32 by default
   V  how many later datagrams of a transaction may overtake one; 128 by default; V + 2W is at most 255
 Each later line is an event; nodes and datagrams count from 0:
-  ask C S REQUEST  node C asks node S; the requests are those of `bac ask`
-  deliver K        datagram K arrives at its node
-  lose K           datagram K counts as lost
-  noise N HEX      octets that no node sent arrive at node N
-  tick N           node N looks at its timers
-  advance MS       MS milliseconds pass
-  set N T:I P HEX  node N gives a property of its store other values
-  file N T:I HEX   node N gives a file of its store other octets
-  restart N        node N restarts with its store
+  ask C S REQUEST      node C asks node S; requests as of `bac ask`
+  ask C LINK REQUEST   node C asks a stranger at LINK, A.B.C.D:PORT
+  deliver K            datagram K arrives at its node
+  lose K               datagram K counts as lost
+  noise N HEX          octets that no node sent arrive at node N
+  stranger N LINK HEX  octets of a stranger arrive at node N
+  tick N               node N looks at its timers
+  advance MS           MS milliseconds pass
+  set N T:I P HEX      node N gives a property of its store other values
+  file N T:I HEX       node N gives a file of its store other octets
+  restart N            node N restarts with its store
+  pace N P             N's clock runs P millionths fast, -1000 to 1000
+  clock N MS           N's clock begins at MS; before the first event
 
 Example: bac simulate script.txt
 Example: bac simulate --chart script.txt
@@ -568,7 +572,7 @@ const ASK: &[Word] = &[
     Word {
         name: "port",
         form: WordForm::Number("P", 65_535),
-        need: Need::UnlessAny(&["to", "lines"]),
+        need: Need::One(&["port", "to", "lines"]),
         against: &[],
         help: "The UDP port of the node to ask, on 127.0.0.1; 1 to 65535",
     },
