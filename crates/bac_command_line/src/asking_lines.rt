@@ -244,7 +244,7 @@ fn questions_at<F: OpenFiles, E: Write>(
         Ok(text) => text,
         Err(status) => return Err(Unasked::Unread(status)),
     };
-    match questions_in(alloc, default, &text, err) {
+    match questions_in(alloc, default, path, &text, err) {
         Ok(lines) => Ok(lines),
         Err(Status::CommandLine) => Err(Unasked::BadLine),
         Err(status) => Err(Unasked::Unread(status)),

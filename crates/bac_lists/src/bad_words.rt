@@ -1,8 +1,10 @@
 //! What is printed of words that are no request.
 ghost use Rattle.bac_text.specs.Statuses.{IsStop};
 
+use crate::source::{LinePlace, Source};
+use crate::value_forms::wanted_form;
 use bac_commands::Style;
-use bac_service_text::bad_word;
+use bac_service_text::{BadWord, Wanted, bad_word};
 use bac_text::{Status, no_memory};
 use std::alloc::{AllocError, Global};
 use std::io;
@@ -24,12 +26,22 @@ fn separator_of(style: Style) -> &'static str {
     }
 }
 
+/// Which word is bad and what was wanted: of a value the form of its kind.
+fn reason_of(alloc: Global, bad: BadWord<'_>) -> Result<Vec<u8>, AllocError> {
+    let mut reason = bad.text(alloc)?;
+    if let (Wanted::Value, Some(word)) = (bad.wanted, bad.word) {
+        reason.extend_from_slice(b": ")?;
+        reason.extend_from_slice(wanted_form(word).as_bytes())?;
+    }
+    Ok(reason)
+}
+
 /// `bad words`, and which is bad and what was wanted.
 fn bad_words_text(alloc: Global, style: Style, words: &[&[u8]]) -> Result<Vec<u8>, AllocError> {
     let mut text = Vec::from_slice(alloc, b"bad words")?;
     match bad_word(alloc, words)? {
         Some(bad) => {
-            let reason = bad.text(alloc)?;
+            let reason = reason_of(alloc, bad)?;
             text.extend_from_slice(separator_of(style).as_bytes())?;
             text.extend_from_slice(reason.as_slice())?;
         }
@@ -62,66 +74,79 @@ pub fn print_bad_words<E: Write>(
 
 /// Complains of the words of the line with that number, which are no request: which is bad and what was wanted.
 pub(crate) fn print_bad_line<E: Write>(
-    alloc: Global,
+    source: Source<'_>,
     number: u64,
     words: &[&[u8]],
     err: &mut E,
 ) -> Status
     ensures { IsStop result }
 {
-    let Ok(text) = bad_words_text(alloc, Style::Words, words) else {
+    let Ok(text) = bad_words_text(source.alloc, Style::Words, words) else {
         return no_memory(err);
     };
+    let place = source.line(number);
     // if that fails too, only the status is left
-    let _ = write!(err, "line {number}: ");
+    let _ = write!(err, "{place}");
     let _ = err.write_all(&text);
     Status::CommandLine
 }
 
 /// Complains of the line with that number, in which a text in quotes does not end as it should.
-pub(crate) fn print_open_quote<E: Write>(number: u64, err: &mut E) -> Status
+pub(crate) fn print_open_quote<E: Write>(source: Source<'_>, number: u64, err: &mut E) -> Status
     ensures { IsStop result }
 {
+    let place = source.line(number);
     // if that fails too, only the status is left
     let _ = writeln!(
         err,
-        "line {number}: bad words: a text in quotes ends with a quote, and a blank or the end of the line after it"
+        "{place}bad words: a text in quotes ends with a quote, and a blank or the end of the line after it"
     );
     Status::CommandLine
 }
 
 /// Complains of the line with that number, whose first word ends with a colon as a name does, and is none.
-pub(crate) fn print_bad_name<E: Write>(number: u64, word: &[u8], err: &mut E) -> Status
+pub(crate) fn print_bad_name<E: Write>(
+    source: Source<'_>,
+    number: u64,
+    word: &[u8],
+    err: &mut E,
+) -> Status
     ensures { IsStop result }
 {
     // if that fails too, only the status is left
-    let _ = print_no_name(number, word, err);
+    let _ = print_no_name(source.line(number), word, err);
     Status::CommandLine
 }
 
-fn print_no_name<E: Write>(number: u64, word: &[u8], err: &mut E) -> io::Result<()> {
-    write!(err, "line {number}: bad name: \"")?;
+fn print_no_name<E: Write>(place: LinePlace<'_>, word: &[u8], err: &mut E) -> io::Result<()> {
+    write!(err, "{place}bad name: \"")?;
     err.write_all(word)?;
     writeln!(err, "\" is no NAME: of letters, digits, `_`, `-` and `.`")
 }
 
 /// Complains of the line with that number, which is asked of no peer: its first word is none, or it names none.
-pub(crate) fn print_no_peer<E: Write>(number: u64, words: &[&[u8]], err: &mut E) -> Status
+pub(crate) fn print_no_peer<E: Write>(
+    source: Source<'_>,
+    number: u64,
+    words: &[&[u8]],
+    err: &mut E,
+) -> Status
     ensures { IsStop result }
 {
+    let place = source.line(number);
     // if that fails too, only the status is left
     let _ = match words.first() {
-        Some(word) if word.first() == Some(&b'@') => print_bad_address(number, *word, err),
+        Some(word) if word.first() == Some(&b'@') => print_bad_address(place, *word, err),
         _ => writeln!(
             err,
-            "line {number}: no address: @A.B.C.D[:P][/NET:MAC] before the request wanted, or --to"
+            "{place}no address: @A.B.C.D[:P][/NET:MAC] before the request wanted, or --to"
         ),
     };
     Status::CommandLine
 }
 
-fn print_bad_address<E: Write>(number: u64, word: &[u8], err: &mut E) -> io::Result<()> {
-    write!(err, "line {number}: bad address: \"")?;
+fn print_bad_address<E: Write>(place: LinePlace<'_>, word: &[u8], err: &mut E) -> io::Result<()> {
+    write!(err, "{place}bad address: \"")?;
     err.write_all(word)?;
     writeln!(err, "\" is no @A.B.C.D[:P][/NET:MAC]")
 }

@@ -8,6 +8,8 @@ mod line_name;
 mod line_words;
 mod parts;
 mod question_lines;
+mod source;
+mod value_forms;
 
 pub use address::{
     BACNET_PORT, EVERY_HOST, LOCAL_HOST, host_towards, link_at, read_end, read_host, read_link,

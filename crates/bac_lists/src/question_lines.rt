@@ -16,6 +16,7 @@ use crate::bad_words::{print_bad_line, print_bad_name, print_no_peer, print_open
 use crate::line_name::named_words;
 use crate::line_words::{WordsFault, is_address, words_of};
 use crate::parts::parts_of;
+use crate::source::Source;
 use bac_ask_report::LineName;
 use bac_commands::read_question;
 use bac_driver::Question;
@@ -24,7 +25,7 @@ use bac_service_text::FormFault;
 use bac_text::{Status, no_memory, read_of};
 use std::alloc::Global;
 use std::io::Write;
-use std::str;
+use std::{io, str};
 
 /// What a line asks.
 #[derive(Drop)]
@@ -109,7 +110,7 @@ fn peer_of(default: Option<Peer>, words: &[&[u8]]) -> Option<Peer>
 
 /// The words of a line, of which a note has none. Where a quote is not closed, `err` and the status say so.
 fn words_in<'a, E: Write>(
-    alloc: Global,
+    source: Source<'_>,
     number: u64,
     line: &'a [u8],
     err: &mut E,
@@ -118,16 +119,16 @@ fn words_in<'a, E: Write>(
     ensures refused { IsErrOf result Status.CommandLine → words_of line.now ≡ None }
     ensures told { IfErr result IsStop }
 {
-    match words_of(alloc, line) {
+    match words_of(source.alloc, line) {
         Ok(words) => Ok(words),
-        Err(WordsFault::OpenQuote) => Err(print_open_quote(number, err)),
+        Err(WordsFault::OpenQuote) => Err(print_open_quote(source, number, err)),
         Err(WordsFault::NoMemory) => Err(no_memory(err)),
     }
 }
 
 /// What the words of a line ask, where lines that name no peer are asked of that one. Where they ask nothing of anyone, `err` and the status say so.
 fn question_of<E: Write>(
-    alloc: Global,
+    source: Source<'_>,
     default: Option<Peer>,
     number: u64,
     words: &[&[u8]],
@@ -138,12 +139,12 @@ fn question_of<E: Write>(
     ensures told { IfErr result IsStop }
 {
     let Some(peer) = peer_of(default, words) else {
-        return Err(print_no_peer(number, words, err));
+        return Err(print_no_peer(source, number, words, err));
     };
     let request = request_words(words);
-    match read_question(alloc, peer, request) {
+    match read_question(source.alloc, peer, request) {
         Ok(question) => Ok(question),
-        Err(FormFault::NoForm) => Err(print_bad_line(alloc, number, request, err)),
+        Err(FormFault::NoForm) => Err(print_bad_line(source, number, request, err)),
         Err(FormFault::NoMemory) => Err(no_memory(err)),
     }
 }
@@ -170,7 +171,7 @@ fn kept_name<E: Write>(
 /// What a line with these words asks, and its name. Where they ask nothing of anyone, or the name is none, `err` and the status say so.
 #[tactic(auto, using(crate::proofs::ReadLines::asking_nothing_bad, crate::proofs::ReadLines::bad_name_bad))]
 fn line_of<E: Write>(
-    alloc: Global,
+    source: Source<'_>,
     default: Option<Peer>,
     number: u64,
     words: &[&[u8]],
@@ -183,10 +184,10 @@ fn line_of<E: Write>(
 {
     let named = match named_words(words) {
         Ok(named) => named,
-        Err(word) => return Err(print_bad_name(number, word, err)),
+        Err(word) => return Err(print_bad_name(source, number, word, err)),
     };
-    let name = kept_name(alloc, named.name, err)?;
-    let question = question_of(alloc, default, number, named.words, err)?;
+    let name = kept_name(source.alloc, named.name, err)?;
+    let question = question_of(source, default, number, named.words, err)?;
     Ok(LineQuestion {
         number,
         name,
@@ -197,7 +198,7 @@ fn line_of<E: Write>(
 /// Adds what a line asks; nothing where it is a note.
 #[tactic(auto, using(crate::proofs::ReadLines::note_adds, crate::proofs::ReadLines::blank_adds, crate::proofs::ReadLines::request_adds, crate::proofs::ReadLines::bad_words_read))]
 fn add_line<E: Write>(
-    alloc: Global,
+    source: Source<'_>,
     default: Option<Peer>,
     number: u64,
     line: &[u8],
@@ -211,11 +212,11 @@ fn add_line<E: Write>(
     let Some(read) = read_of(true, line) else {
         return Ok(());
     };
-    let words = words_in(alloc, number, read, err)?;
+    let words = words_in(source, number, read, err)?;
     if words.is_empty() {
         return Ok(());
     }
-    let line = line_of(alloc, default, number, &words, err)?;
+    let line = line_of(source, default, number, &words, err)?;
     match questions.push(line) {
         Ok(()) => Ok(()),
         Err(_) => Err(no_memory(err)),
@@ -224,7 +225,7 @@ fn add_line<E: Write>(
 
 /// What these lines ask.
 fn questions_among<E: Write>(
-    alloc: Global,
+    source: Source<'_>,
     default: Option<Peer>,
     lines: &[&[u8]],
     err: &mut E,
@@ -233,11 +234,49 @@ fn questions_among<E: Write>(
     ensures refused { IsErrOf result Status.CommandLine → HaveBadLine (option_map peer_view default) (map (λ l. l.now) lines.now) }
     ensures told { IfErr result IsStop }
 {
-    let mut questions = Vec::new(alloc);
+    let mut questions = Vec::new(source.alloc);
     for (place, line) in lines.iter().enumerate() {
-        add_line(alloc, default, place as u64 + 1, *line, &mut questions, err)?;
+        add_line(
+            source,
+            default,
+            place as u64 + 1,
+            *line,
+            &mut questions,
+            err,
+        )?;
     }
     Ok(questions)
+}
+
+/// How many bad lines are told.
+const MOST_TOLD: u64 = 20;
+
+/// Tells the bad lines among these: of the first ones what is wrong with each, and then whether there are more.
+fn tell_bad<E: Write>(source: Source<'_>, default: Option<Peer>, lines: &[&[u8]], err: &mut E) {
+    let mut told: u64 = 0;
+    for (place, line) in lines.iter().enumerate() {
+        let number = place as u64 + 1;
+        let mut questions = Vec::new(source.alloc);
+        if told < MOST_TOLD {
+            if add_line(source, default, number, *line, &mut questions, err).is_err() {
+                told += 1;
+            }
+        } else if add_line(
+            source,
+            default,
+            number,
+            *line,
+            &mut questions,
+            &mut io::sink(),
+        )
+        .is_err()
+        {
+            let at = source.line(number);
+            // if that fails too, only the status is left
+            let _ = writeln!(err, "{at}bad too, as more may be");
+            return;
+        }
+    }
 }
 
 /// A text without the byte order mark that some editors put at its beginning.
@@ -252,10 +291,12 @@ fn without_mark(text: &[u8]) -> &[u8]
 
 /// What the lines of a text ask: a request a line, its words separated by blanks and tabs; one with blanks in it stands in quotes. The first may be the line's name
 /// and a colon, as `flow:`; the next one `@` and the peer that is asked, as `@192.168.1.20:47809`, or `@192.168.1.20/5:2A` behind a router; the others are asked of that one, if there is one. Lines may end in
-/// CRLF, and in a note that begins with `#`; blank ones are passed over. Where a line names no peer, or its words are no request, `err` and the status say so.
+/// CRLF, and in a note that begins with `#`; blank ones are passed over. Where lines name no peer, or their words are no request, `err` says so of each, with the name
+/// of the file, and the status does.
 pub fn questions_in<E: Write>(
     alloc: Global,
     default: Option<Peer>,
+    path: &str,
     text: &[u8],
     err: &mut E,
 ) -> Result<Vec<LineQuestion>, Status>
@@ -266,5 +307,13 @@ pub fn questions_in<E: Write>(
     let Ok(lines) = parts_of(alloc, b'\n', without_mark(text)) else {
         return Err(no_memory(err));
     };
-    questions_among(alloc, default, &lines, err)
+    let source = Source { alloc, path };
+    match questions_among(source, default, &lines, &mut io::sink()) {
+        Ok(questions) => Ok(questions),
+        Err(Status::CommandLine) => {
+            tell_bad(source, default, &lines, err);
+            Err(Status::CommandLine)
+        }
+        Err(_) => Err(no_memory(err)),
+    }
 }
