@@ -107,20 +107,21 @@ fn compares_few(alloc: Global, call: Call, most: u64) -> bool {
     true
 }
 
-// The calls that find a key.
-const FINDING: &[(&str, Call)] = &[
-    ("rank", Call::Rank),
-    ("get", Call::Get),
-    ("get_mut", Call::GetMut),
-    ("set", Call::Set),
-    ("remove", Call::Remove),
+// The calls that find a key, and how many keys each compares at the most.
+const FINDING: &[(&str, Call, u64)] = &[
+    ("rank", Call::Rank, 11),
+    ("get", Call::Get, 14),
+    ("get_mut", Call::GetMut, 14),
+    ("set", Call::Set, 11),
+    ("remove", Call::Remove, 11),
 ];
 
-// A call that finds its key compares no more keys than a search does, also one that takes the slot out.
+// A call that finds its key compares no more keys than a search does, also one that takes the slot out; get and get_mut compare up to three more, at the place of
+// the key that was looked up last.
 #[test]
 fn each_call_of_an_index_compares_few(rt: HostRuntime) -> Result<(), Fail> {
-    for (name, call) in FINDING {
-        holds(compares_few(rt.alloc(), *call, 11), name)?;
+    for (name, call, most) in FINDING {
+        holds(compares_few(rt.alloc(), *call, *most), name)?;
     }
     Ok(())
 }
@@ -189,11 +190,11 @@ fn puts_by_few(alloc: Global, is_asked_for: bool, most: u64) -> bool {
     true
 }
 
-// A key at which a loan was asked for in vain is put beside its neighbours.
+// A key at which a loan was asked for in vain is put beside its neighbours. Any other needs a search, and up to three comparisons before it.
 #[test]
 fn a_slot_is_put_with_few_comparisons(rt: HostRuntime) -> Result<(), Fail> {
-    holds(puts_by_few(rt.alloc(), false, 10), "taken out")?;
-    holds(puts_by_few(rt.alloc(), true, 2), "asked for")
+    holds(puts_by_few(rt.alloc(), false, 13), "taken out")?;
+    holds(puts_by_few(rt.alloc(), true, 3), "asked for")
 }
 
 // Whether a key is found in a plain table where it is, and all comparisons are counted.
