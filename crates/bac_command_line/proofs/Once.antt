@@ -1,5 +1,5 @@
--- No line is asked twice.
-use Rattle.std.proofs.Common.{◌≡◌, ◌≢◌, ◌⊎◌, ◌≤◌, ◌<◌, ℕ, zero, suc, ◌+◌, Bool, true, false, List, [], ◌∷◌, ◌++◌, Option, Some, None, if◌then◌else◌, refl, ap, ◌∙◌, inl, inr, arith, slice_get}
+-- Each line is asked once.
+use Rattle.std.proofs.Common.{◌≡◌, ◌≢◌, ◌⊎◌, ◌≤◌, ◌<◌, ℕ, zero, suc, ◌+◌, Bool, true, false, List, [], ◌∷◌, ◌++◌, length, map, Option, Some, None, if◌then◌else◌, refl, sym, subst, ap, ◌∙◌, inl, inr, arith, slice_get, slice_set}
 use Rattle.std.proofs.Math.Dec.{eqb}
 use Rattle.std.proofs.lemmas.Bool.Decides.{eqb_tells}
 use Rattle.std.specs.List.{position, remove}
@@ -7,7 +7,7 @@ use Rattle.bac_requester.specs.declared.reaction.Ended.{Ended}
 use Rattle.bac_driver.specs.Runs.{Run, Timed}
 use Rattle.bac_driver.specs.declared.question.AskEnd.{AskEnd}
 use Rattle.bac_driver.specs.declared.wait_limit.WaitLimit.{WaitLimit}
-use Rattle.bac_command_line.specs.InFlight.{Aloft, BeginsLine, Event, GivesUp, Happens, IsTakenUp, Plan, PrintsFrom, Sky, TakesTurn, all_noted, asks_in, closed_flight, ended_in, has_ticket, here, noted, noted_at, waiting_from}
+use Rattle.bac_command_line.specs.InFlight.{Aloft, BeginsLine, EndsLine, Event, GivesUp, Happens, IsTakenUp, Plan, PrintsFrom, Sky, TakesTurn, all_noted, aloft, asks_in, closed_flight, ended_in, has_ticket, here, new_sky, no_end, noted, noted_at, waiting_from}
 use Rattle.bac_command_line.specs.InFlight.Event.{Began, Held, WentOn}
 use Rattle.bac_command_line.specs.Online.{Links}
 use Rattle.bac_command_line.specs.declared.flights.Begun.{Begun}
@@ -122,11 +122,180 @@ printed_once IsOn plan place from (suc count) events all before after old new pr
     ap (asks_in place) prints.are ∙ asks_append place prints.later ends.goes.events in
     omega (arith, later, first, same, both)
 
-pub asked_once : (IsOn : Links) (plan : Plan) (place count : ℕ) (events : List Event) (all : Bool) (before : Aloft) (after : Timed)
+asked_at_most_once : (IsOn : Links) (plan : Plan) (place count : ℕ) (events : List Event) (all : Bool) (before : Aloft) (after : Timed)
     (lines : List LineQuestion) (old new : Option (List ℕ)) → before.sky.waiting ≡ waiting_from 0 lines
     → PrintsFrom IsOn plan 0 count events all before after old new → asks_in place events ≤ 1
-asked_once IsOn plan place count events all before after lines old new waiting prints =
+asked_at_most_once IsOn plan place count events all before after lines old new waiting prints =
     let most = printed_once IsOn plan place 0 count events all before after old new prints in
     let same : waits place before.sky.waiting ≡ waits place (waiting_from 0 lines) = ap (waits place) waiting in
     let one = (waits_first place 0 lines).0 in
     omega (arith, most, same, one)
+
+-- ---- a line that was not asked
+
+-- how often the ask of a line is under way
+abbrev flies : (place : ℕ) → List Flight → ℕ
+flies place [] = 0
+flies place (f ∷ fs) = here place f.line.place + flies place fs
+
+-- no ask of the line is under way, and none has ended
+record IsUnasked (place : ℕ) (s : Sky) : Type 0 where
+  none : flies place s.flights ≡ 0
+  no_end : (how : AskEnd) → slice_get s.ends place ≡ Some (Some how) → ⊥
+
+here_same : (place : ℕ) → here place place ≡ 1
+here_same place = go (eqb_tells place place)
+  where
+    go : ((eqb place place ≡ true) × (place ≡ place)) ⊎ ((eqb place place ≡ false) × (place ≢ place)) → here place place ≡ 1
+    go (inl same) = ap (λ (b : Bool). if b then 1 else 0) same.0
+    go (inr other) = absurd (other.1 refl)
+
+here_other : (place at : ℕ) → here place at ≡ 0 → at ≢ place
+here_other place at none same =
+    let one : here place at ≡ 1 = ap (here place) same ∙ here_same place in
+    omega (arith, none, one)
+
+flies_more : (place : ℕ) (fs : List Flight) (f : Flight) → flies place (fs ++ f ∷ []) ≡ flies place fs + here place f.line.place
+flies_more place [] f = omega arith
+flies_more place (g ∷ fs) f = let more = flies_more place fs f in omega (arith, more)
+
+flies_removed : (place : ℕ) (fs : List Flight) (i : ℕ) (f : Flight) → slice_get fs i ≡ Some f
+    → flies place fs ≡ here place f.line.place + flies place (remove fs i)
+flies_removed place [] i f e = absurd cc
+flies_removed place (g ∷ fs) zero f e =
+    let same : g ≡ f = cc in ap (λ (h : Flight). here place h.line.place + flies place fs) same
+flies_removed place (g ∷ fs) (suc i) f e = let more = flies_removed place fs i f e in omega (arith, more)
+
+get_set_other : {A : Type 0} (xs : List A) (i j : ℕ) (x : A) → i ≢ j → slice_get (slice_set xs i x) j ≡ slice_get xs j
+get_set_other [] i j x ne = refl
+get_set_other (y ∷ xs) zero zero x ne = absurd (ne refl)
+get_set_other (y ∷ xs) zero (suc j) x ne = refl
+get_set_other (y ∷ xs) (suc i) zero x ne = refl
+get_set_other (y ∷ xs) (suc i) (suc j) x ne = get_set_other xs i j x (λ e. ne (ap suc e))
+
+-- the end of another line was noted, or taken
+ends_apart : (place at : ℕ) (end : Option AskEnd) (s : Sky) → at ≢ place → IsUnasked place s
+    → IsUnasked place (record s { ends = slice_set s.ends at end })
+ends_apart place at end s ne unasked =
+    record { none = unasked.none; no_end = λ how is. unasked.no_end how (sym (get_set_other s.ends at place end ne) ∙ is) }
+
+closed_apart : (place : ℕ) (f : Option Flight) (at : ℕ) (how : AskEnd) (s : Sky) → slice_get s.flights at ≡ f → IsUnasked place s
+    → IsUnasked place (closed_flight f at how s)
+closed_apart place None at how s is unasked = unasked
+closed_apart place (Some f) at how s is unasked =
+    let split = flies_removed place s.flights at f is in
+    let none = unasked.none in
+    let other : here place f.line.place ≡ 0 = omega (arith, split, none) in
+    let rest : flies place (remove s.flights at) ≡ 0 = omega (arith, split, none) in
+    ends_apart place f.line.place (Some how) (record s { flights = remove s.flights at }) (here_other place f.line.place other)
+    (record { none = rest; no_end = unasked.no_end })
+
+noted_apart : (place : ℕ) (at : Option ℕ) (f : Ended) (s : Sky) → IsUnasked place s → IsUnasked place (noted_at at f s)
+noted_apart place None f s unasked = unasked
+noted_apart place (Some at) f s unasked = closed_apart place (slice_get s.flights at) at _ s refl unasked
+
+all_apart : (place : ℕ) (fs : List Ended) (s : Sky) → IsUnasked place s → IsUnasked place (all_noted fs s)
+all_apart place [] s unasked = unasked
+all_apart place (f ∷ fs) s unasked =
+    all_apart place fs (noted f s) (noted_apart place (position (has_ticket f.ticket) s.flights) f s unasked)
+
+turn_apart : (place : ℕ) (p : WaitLimit) (old new : Aloft) → TakesTurn p old new ⊎ GivesUp p old new → IsUnasked place old.sky
+    → IsUnasked place new.sky
+turn_apart place p old new (inl takes) unasked =
+    subst (IsUnasked place) (sym takes.noted)
+    (all_apart place (ended_in takes.turn.ticked) _ (all_apart place (ended_in takes.turn.heard) old.sky unasked))
+turn_apart place p old new (inr gives) unasked =
+    subst (IsUnasked place) (sym gives.closed) (closed_apart place (slice_get old.sky.flights 0) 0 _ old.sky refl unasked)
+
+-- the ask of another line began, or ended before it began
+begun_apart : (place at : ℕ) (line : Waiting) (b : Begun) (old new : Sky) → here place line.place ≡ 0 → slice_get old.waiting at ≡ Some line
+    → IsTakenUp at b old new → IsUnasked place old → IsUnasked place new
+begun_apart place at line (begun.Accepted ticket wait_limit) old new other is taken unasked =
+    let added : Flight = record { line = taken.line; ticket = ticket; wait_limit = wait_limit } in
+    let same : taken.line ≡ line = let both : Some taken.line ≡ Some line = sym taken.is ∙ is in cc in
+    let more = flies_more place old.flights added in
+    let here_is : here place taken.line.place ≡ 0 = ap (λ (w : Waiting). here place w.place) same ∙ other in
+    let none = unasked.none in
+    let new_is : flies place new.flights ≡ flies place (old.flights ++ added ∷ []) = ap (flies place) taken.flights in
+    record {
+      none = omega (arith, more, here_is, none, new_is);
+      no_end = λ how ended. unasked.no_end how (ap (λ (e : List (Option AskEnd)). slice_get e place) (sym taken.ends) ∙ ended);
+    }
+begun_apart place at line (begun.Refused why) old new other is taken unasked =
+    let same : taken.line ≡ line = let both : Some taken.line ≡ Some line = sym taken.is ∙ is in cc in
+    let here_is : here place taken.line.place ≡ 0 = ap (λ (w : Waiting). here place w.place) same ∙ other in
+    let ne : taken.line.place ≢ place = here_other place taken.line.place here_is in
+    record {
+      none = ap (flies place) taken.flights ∙ unasked.none;
+      no_end =
+          λ how ended.
+          unasked.no_end how
+          (sym (get_set_other old.ends taken.line.place place _ ne) ∙ (ap (λ (e : List (Option AskEnd)). slice_get e place) (sym taken.ends) ∙ ended));
+    }
+
+line_apart : (IsOn : Links) (plan : Plan) (place at : ℕ) (old new : Aloft) → here place at ≡ 0 → BeginsLine IsOn plan at old new
+    → IsUnasked place old.sky → IsUnasked place new.sky
+line_apart IsOn plan place at old new other begins unasked =
+    begun_apart place begins.at begins.waiting begins.begun old.sky new.sky (ap (here place) begins.same ∙ other) begins.is begins.taken unasked
+
+-- a line whose ask does not begin stays so
+run_apart : (IsOn : Links) (plan : Plan) (place : ℕ) (events : List Event) (old new : Aloft) → Run (Happens IsOn plan) events old new
+    → asks_in place events ≡ 0 → IsUnasked place old.sky → IsUnasked place new.sky
+run_apart IsOn plan place [] old new ran none unasked = subst (λ (a : Aloft). IsUnasked place a.sky) (sym ran) unasked
+run_apart IsOn plan place (Began at ∷ events) old new ran none unasked =
+    let other : here place at ≡ 0 = omega (arith, none) in
+    let others : asks_in place events ≡ 0 = omega (arith, none) in
+    line_apart IsOn plan place at ran.middle new other ran.last (run_apart IsOn plan place events old ran.middle ran.so_far others unasked)
+run_apart IsOn plan place (Held at ∷ events) old new ran none unasked =
+    subst (IsUnasked place) (sym ran.last.same) (run_apart IsOn plan place events old ran.middle ran.so_far none unasked)
+run_apart IsOn plan place (WentOn p ∷ events) old new ran none unasked =
+    turn_apart place p ran.middle new ran.last.1 (run_apart IsOn plan place events old ran.middle ran.so_far none unasked)
+
+-- ---- a line that was printed was asked
+
+some_or_none : (n : ℕ) → (n ≡ 0) ⊎ (1 ≤ n)
+some_or_none zero = inl refl
+some_or_none (suc n) = inr (omega arith)
+
+printed_asked : (IsOn : Links) (plan : Plan) (place from count : ℕ) (events : List Event) (all : Bool) (before : Aloft) (after : Timed)
+    (old new : Option (List ℕ)) → PrintsFrom IsOn plan from count events all before after old new → IsUnasked place before.sky → from ≤ place
+    → place < from + count → 1 ≤ asks_in place events
+printed_asked IsOn plan place from zero events all before after old new prints unasked least most = absurd (omega (arith, least, most))
+printed_asked IsOn plan place from (suc count) events all before after old new prints unasked least most =
+    go (some_or_none (asks_in place ends.goes.events)) (eqb_tells from place)
+  where
+    ends : EndsLine IsOn plan from prints.first.how before prints.middle
+    ends = prints.first.ends
+    both : asks_in place events ≡ asks_in place prints.later + asks_in place ends.goes.events
+    both = ap (asks_in place) prints.are ∙ asks_append place prints.later ends.goes.events
+    still : asks_in place ends.goes.events ≡ 0 → IsUnasked place ends.ended.sky
+    still none = run_apart IsOn plan place ends.goes.events before ends.ended ends.goes.run none unasked
+    others : asks_in place ends.goes.events ≡ 0 → from ≢ place → 1 ≤ asks_in place prints.later
+    others none ne =
+        printed_asked IsOn plan place (from + 1) count prints.later prints.rest prints.middle after prints.between new prints.others
+        (subst (IsUnasked place) (sym ends.taken.is) (ends_apart place from None ends.ended.sky ne (still none))) (omega (arith, least, ne))
+        (omega (arith, most))
+    go : (asks_in place ends.goes.events ≡ 0) ⊎ (1 ≤ asks_in place ends.goes.events)
+        → ((eqb from place ≡ true) × (from ≡ place)) ⊎ ((eqb from place ≡ false) × (from ≢ place)) → 1 ≤ asks_in place events
+    go (inr some) which = omega (arith, some, both)
+    go (inl none) (inl same) =
+        absurd ((still none).no_end prints.first.how (ap (slice_get ends.ended.sky.ends) (sym same.1) ∙ ends.taken.ended))
+    go (inl none) (inr other) = let later = others none other.1 in omega (arith, later, both)
+
+no_ends : (lines : List LineQuestion) (place : ℕ) (how : AskEnd) → slice_get (map no_end lines) place ≡ Some (Some how) → ⊥
+no_ends [] place how is = absurd cc
+no_ends (line ∷ lines) zero how is = absurd cc
+no_ends (line ∷ lines) (suc place) how is = no_ends lines place how is
+
+none_asked : (place : ℕ) (lines : List LineQuestion) → IsUnasked place (new_sky lines)
+none_asked place lines = record { none = refl; no_end = no_ends lines place }
+
+pub asked_once : (IsOn : Links) (plan : Plan) (place : ℕ) (events : List Event) (all : Bool) (at after : Timed) (lines : List LineQuestion)
+    (old new : Option (List ℕ)) → PrintsFrom IsOn plan 0 (length lines) events all (aloft at (new_sky lines)) after old new → place < length lines
+    → asks_in place events ≡ 1
+asked_once IsOn plan place events all at after lines old new prints within =
+    let most = asked_at_most_once IsOn plan place (length lines) events all (aloft at (new_sky lines)) after lines old new refl prints in
+    let least =
+    printed_asked IsOn plan place 0 (length lines) events all (aloft at (new_sky lines)) after old new prints (none_asked place lines) (omega arith)
+    (omega (arith, within)) in
+    omega (arith, most, least)

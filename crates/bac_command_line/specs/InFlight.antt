@@ -314,7 +314,7 @@ PrintsFrom IsOn plan place zero events all before after old new = (events ≡ []
 PrintsFrom IsOn plan place (suc count) events all before after old new =
     PrintsNext IsOn plan place (PrintsFrom IsOn plan (place + 1) count) events all before after old new
 
--- the requests of lines were asked, so many at once, none of them twice, and printed in order
+-- the requests of lines were asked, so many at once, each of them once, and printed in order
 pub record AsksAhead (IsOn : Links) (asking : Asking) (window : ℕ) (lines : List LineQuestion) (all : Bool) (before after : Timed) (old new : Option (List ℕ)) :
     Type 0 where
   pub share : ℕ
@@ -322,7 +322,7 @@ pub record AsksAhead (IsOn : Links) (asking : Asking) (window : ℕ) (lines : Li
   pub prints :
       PrintsFrom IsOn (record { asking = asking; lines = lines; window = window; share = share }) 0 (length lines) events all (aloft before (new_sky lines))
       after old new
-  pub once : (place : ℕ) → asks_in place events ≤ 1
+  pub once : (place : ℕ) → place < length lines → asks_in place events ≡ 1
 
 -- so many at once as is wanted; without it one after the other
 abbrev pub AsksLinesBy : (window : Option ℕ) → Links → Asking → List LineQuestion → Doing

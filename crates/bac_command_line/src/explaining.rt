@@ -2,7 +2,8 @@
 ghost use Rattle.bac_command_line.specs.Explaining.{IsJsonFile, IsPageFile};
 ghost use Rattle.bac_command_line.specs.Files.{OnFile};
 
-use crate::files::{CaptureFile, OpenFiles, reader_of};
+use crate::files::{CAPTURE_WANTED, CaptureFile, OpenFiles, reader_of};
+use crate::reasons::print_unfit;
 use bac_capture::Ports;
 use bac_explain_html::explain_html_over;
 use bac_explain_json::explain_json_over;
@@ -25,7 +26,9 @@ pub(crate) fn explain_json<F: OpenFiles, O: Write, E: Write>(
     match reader_of(alloc, files, capture.path, err) {
         Ok(mut input) => {
             let ports = Ports { also: capture.port };
-            explain_json_over(alloc, options, &mut input, ports, out, err)
+            let status = explain_json_over(alloc, options, &mut input, ports, out, err);
+            print_unfit(status, capture.path, CAPTURE_WANTED, err);
+            status
         }
         Err(status) => status,
     }
@@ -45,7 +48,9 @@ pub(crate) fn explain_html<F: OpenFiles, O: Write, E: Write>(
     match reader_of(alloc, files, capture.path, err) {
         Ok(mut input) => {
             let ports = Ports { also: capture.port };
-            explain_html_over(alloc, options, &mut input, ports, out, err)
+            let status = explain_html_over(alloc, options, &mut input, ports, out, err);
+            print_unfit(status, capture.path, CAPTURE_WANTED, err);
+            status
         }
         Err(status) => status,
     }

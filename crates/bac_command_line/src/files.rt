@@ -4,7 +4,7 @@ ghost use Rattle.std.specs.Io.Buffered.{reader_remaining};
 ghost use Rattle.bac_text.specs.Statuses.{IsStop};
 ghost use Rattle.bac_command_line.specs.Files.{IsChartedFile, IsCheckedFile, IsExplainedFile, IsShownFile, IsSimulatedFile, OnFile};
 
-use crate::reasons::print_unread;
+use crate::reasons::{print_unfit, print_unread};
 use bac_capture::{Ports, check_capture_over};
 use bac_explain_report::{ChartOptions, ReportOptions, chart_over, explain_over};
 use bac_simulate::{View, show_over, simulate_lines_over};
@@ -70,6 +70,14 @@ pub(crate) fn reader_of<F: OpenFiles, E: Write>(
     }
 }
 
+/// What `explain` wants of a file, and what charts want of it.
+pub(crate) const CAPTURE_WANTED: &str = "a capture of pcap or pcapng wanted";
+
+const CHART_WANTED: &str = "a capture of pcap or pcapng wanted, of at most 16 peers in one chart";
+
+/// What is told of a script that has a bad line.
+const SCRIPT_WANTED: &str = "no event happened";
+
 /// The file of a capture.
 #[derive(Clone, Copy, Debug)]
 pub(crate) struct CaptureFile<'a> {
@@ -121,7 +129,9 @@ pub(crate) fn explain<F: OpenFiles, O: Write, E: Write>(
     match reader_of(alloc, files, capture.path, err) {
         Ok(mut input) => {
             let ports = Ports { also: capture.port };
-            explain_over(alloc, options, &mut input, ports, out, err)
+            let status = explain_over(alloc, options, &mut input, ports, out, err);
+            print_unfit(status, capture.path, CAPTURE_WANTED, err);
+            status
         }
         Err(status) => status,
     }
@@ -141,7 +151,9 @@ pub(crate) fn chart<F: OpenFiles, O: Write, E: Write>(
     match reader_of(alloc, files, capture.path, err) {
         Ok(mut input) => {
             let ports = Ports { also: capture.port };
-            chart_over(alloc, options, &mut input, ports, out, err)
+            let status = chart_over(alloc, options, &mut input, ports, out, err);
+            print_unfit(status, capture.path, CHART_WANTED, err);
+            status
         }
         Err(status) => status,
     }
@@ -158,7 +170,11 @@ pub(crate) fn simulate<F: OpenFiles, O: Write, E: Write>(
     ensures { IsSimulatedFile (OnFile F.is_file F.File.remaining) script.now.notes script.now.path.now result (O.contents out.old) (O.contents out.new) }
 {
     match opened(files, script.path, err) {
-        Ok(mut file) => simulate_lines_over(alloc, script.notes, &mut file, out, err),
+        Ok(mut file) => {
+            let status = simulate_lines_over(alloc, script.notes, &mut file, out, err);
+            print_unfit(status, script.path, SCRIPT_WANTED, err);
+            status
+        }
         Err(status) => status,
     }
 }
@@ -175,7 +191,11 @@ pub(crate) fn show<F: OpenFiles, O: Write, E: Write>(
     ensures { IsShownFile (OnFile F.is_file F.File.remaining) view script.now.notes script.now.path.now result (O.contents out.old) (O.contents out.new) }
 {
     match opened(files, script.path, err) {
-        Ok(mut file) => show_over(alloc, view, script.notes, &mut file, out, err),
+        Ok(mut file) => {
+            let status = show_over(alloc, view, script.notes, &mut file, out, err);
+            print_unfit(status, script.path, SCRIPT_WANTED, err);
+            status
+        }
         Err(status) => status,
     }
 }

@@ -37,6 +37,14 @@ pub(crate) fn print_unwritten<E: Write>(path: &str, error: &io::Error, err: &mut
     status
 }
 
+/// Where the status of a command says that it could not read what a file has, tells which file, and what was wanted of it.
+pub(crate) fn print_unfit<E: Write>(status: Status, path: &str, wanted: &str, err: &mut E) {
+    if status == Status::CommandLine {
+        // if that fails too, only the status is left
+        let _ = writeln!(err, "{path}: {wanted}");
+    }
+}
+
 /// Complains of words that ask for no whole file, where one was to be written.
 pub(crate) fn print_no_whole_file<E: Write>(err: &mut E) -> Status
     ensures { result ≡ status.CommandLine }

@@ -16,6 +16,7 @@ use mio::unix::SourceFd;
 use mio::{Events, Interest, Poll, Token};
 use std::io::{ErrorKind, Read, Write};
 use std::net::{Ipv4Addr, Net, SocketAddr, UdpSocket};
+use std::fs::OpenFile;
 use std::rt::Files;
 use std::time::{Duration, SystemTime, UNIX_EPOCH};
 use std::{fs, io};
@@ -25,6 +26,9 @@ const STANDARD_INPUT: &str = "/dev/stdin";
 
 /// The descriptor of standard input.
 const INPUT: i32 = 0;
+
+/// The system's number for a file that is a directory (EISDIR).
+const IS_A_DIRECTORY: i32 = 21;
 
 /// How often standard input is read at one look.
 const READS: usize = 64;
@@ -98,7 +102,12 @@ impl<R: Files> OpenFiles for System<'_, R> {
 
     fn open(&self, path: &str) -> io::Result<R::File> {
         let path = if path == "-" { STANDARD_INPUT } else { path };
-        fs::open(self.runtime, path)
+        let file = fs::open(self.runtime, path)?;
+        // it opens, and a read of it would fail, behind a text without its name
+        if file.metadata()?.is_dir() {
+            return Err(io::Error::from_raw_os_error(IS_A_DIRECTORY));
+        }
+        Ok(file)
     }
 
     fn write(&self, path: &str, octets: &[u8]) -> io::Result<()> {

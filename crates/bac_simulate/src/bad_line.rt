@@ -1,9 +1,12 @@
-//! What is printed in words of a line that is none of a script.
+//! What is printed of a line that is none of a script.
+ghost use Rattle.std.specs.Prelude.{◌≡◌};
+ghost use Rattle.bac_simulate.specs.Runs.{status_for};
+
 use crate::clock_words::rate_in;
 use crate::link_words::link_in;
-use crate::script::next_line;
+use crate::script::{ScriptFault, next_line};
 use bac_service_text::bad_word;
-use bac_text::read_of;
+use bac_text::{Status, no_memory, read_of};
 use bac_value_text::{number_in, number_up_to, parts_at};
 use std::alloc::{AllocError, Global};
 use std::io::Write;
@@ -88,10 +91,49 @@ fn pace_text(alloc: Global, parts: &[u8]) -> Result<Option<Vec<u8>>, AllocError>
     }
 }
 
-/// What is wrong with a line, where that is more than that it has no form: which word is bad, and what was wanted.
-fn bad_word_text(alloc: Global, line: &[u8]) -> Result<Option<Vec<u8>>, AllocError> {
-    let words = words_in(alloc, line)?;
-    match words.as_slice() {
+/// The events of a script: the first word of the line of each, and its form.
+const EVENTS: &[(&str, &str)] = &[
+    ("ask", "`ask C S REQUEST` or `ask C LINK REQUEST`"),
+    ("deliver", "`deliver K`"),
+    ("lose", "`lose K`"),
+    ("noise", "`noise N HEX`"),
+    ("stranger", "`stranger N LINK HEX`"),
+    ("tick", "`tick N`"),
+    ("advance", "`advance MS`"),
+    ("set", "`set N T:I P HEX`"),
+    ("file", "`file N T:I HEX`"),
+    ("restart", "`restart N`"),
+    ("pace", "`pace N P`"),
+    ("clock", "`clock N MS`"),
+];
+
+/// The form of the first line of a script.
+const FIRST: &str = "`nodes N` or `nodes N window W overtake V` wanted first: N 1 to 16, W 1 to 64, V + 2W at most 255";
+
+/// What stands behind a first word that no event has.
+const NO_EVENT: &str = "is no event: ask, deliver, lose, noise, stranger, tick, advance, set, file, restart, pace or clock wanted";
+
+/// The form of the events with that first word; None where no event has it.
+fn form_of(verb: &[u8]) -> Option<&'static str> {
+    for (name, form) in EVENTS {
+        if name.as_bytes() == verb {
+            return Some(*form);
+        }
+    }
+    None
+}
+
+/// The form that a line with that first word has to have.
+fn form_text(alloc: Global, verb: &[u8]) -> Result<Vec<u8>, AllocError> {
+    match form_of(verb) {
+        Some(form) => Ok(format!(in alloc; "{form} wanted")?.into_bytes()),
+        None => word_text(alloc, "the word", verb, NO_EVENT),
+    }
+}
+
+/// What is wrong with a line: which word is bad, and what was wanted; None where no word is bad.
+fn bad_word_text(alloc: Global, words: &[&[u8]]) -> Result<Option<Vec<u8>>, AllocError> {
+    match words {
         [verb, node, start] if *verb == b"clock".as_slice() && number_in(*node).is_some() => {
             clock_text(alloc, *start)
         }
@@ -104,34 +146,86 @@ fn bad_word_text(alloc: Global, line: &[u8]) -> Result<Option<Vec<u8>>, AllocErr
     }
 }
 
+/// What is wrong with a line after the first: a word of it, or else its form.
+fn line_text(alloc: Global, line: &[u8]) -> Result<Vec<u8>, AllocError> {
+    let words = words_in(alloc, line)?;
+    if let Some(text) = bad_word_text(alloc, &words)? {
+        return Ok(text);
+    }
+    match words.first() {
+        Some(verb) => form_text(alloc, *verb),
+        None => form_text(alloc, b""),
+    }
+}
+
+/// Whether no line of a text before that number is more than a note.
+fn is_first(notes: bool, text: &[u8], number: u64) -> bool {
+    let mut rest = text;
+    for _ in 1..number {
+        let Some((line, others)) = next_line(rest) else {
+            return true;
+        };
+        if read_of(notes, line).is_some() {
+            return false;
+        }
+        rest = others;
+    }
+    true
+}
+
+/// What is wrong with the line of that number; None where there is no such line.
 fn reason_of(
     alloc: Global,
     notes: bool,
     text: &[u8],
     number: u64,
 ) -> Result<Option<Vec<u8>>, AllocError> {
+    if is_first(notes, text, number) {
+        return Ok(Some(Vec::from_slice(alloc, FIRST.as_bytes())?));
+    }
     let Some(line) = line_at(text, number) else {
         return Ok(None);
     };
     match read_of(notes, line) {
-        Some(line) => bad_word_text(alloc, line),
+        Some(line) => Ok(Some(line_text(alloc, line)?)),
         None => Ok(None),
     }
 }
 
-/// Complains of the line with that number, and names the bad word of what it asks, where memory suffices for that.
-pub(crate) fn print_bad_line<E: Write>(
+/// Complains of the line with that number, and tells what is wrong with it, where memory suffices for that: behind it, or on a line of its own.
+fn print_bad_line<E: Write>(
     alloc: Global,
     notes: bool,
     text: &[u8],
     number: u64,
+    before_reason: &str,
     err: &mut E,
 ) {
     // if that fails too, only the status is left
     let _ = write!(err, "line {number}: not a script line");
     if let Ok(Some(reason)) = reason_of(alloc, notes, text, number) {
-        let _ = err.write_all(b": ");
+        let _ = err.write_all(before_reason.as_bytes());
         let _ = err.write_all(reason.as_slice());
     }
     let _ = err.write_all(b"\n");
+}
+
+/// Complains of octets that are no script, and tells what is wrong with the bad line: behind that text, which follows the complaint.
+pub(crate) fn refuse<E: Write>(
+    alloc: Global,
+    notes: bool,
+    text: &[u8],
+    fault: ScriptFault,
+    before_reason: &str,
+    err: &mut E,
+) -> Status
+    ensures { result ≡ status_for fault }
+{
+    match fault {
+        ScriptFault::Line(number) => {
+            print_bad_line(alloc, notes, text, number, before_reason, err);
+            Status::CommandLine
+        }
+        ScriptFault::NoMemory => no_memory(err),
+    }
 }

@@ -8,6 +8,7 @@ ghost use Rattle.bac_simulate.specs.Runs.{pace_fault_number, status_for, status_
 ghost use Rattle.bac_simulate.specs.Scripts.{Began, Happens, Lost, Paced, limits_in, said_from, script_of};
 ghost use Rattle.bac_simulate.specs.Views.{happening_view, line_view};
 
+use crate::bad_line::refuse;
 use crate::line::{ClockPace, ClockStart};
 use crate::printing::{Seen, print_lost, print_outcome, print_paced};
 use crate::read_script::ReadScript;
@@ -208,8 +209,8 @@ fn run_said<O: Write, E: Write>(
     ended(ran, flushed, err)
 }
 
-/// Complains of octets that are no script.
-pub(crate) fn no_script<E: Write>(fault: ScriptFault, err: &mut E) -> Status
+/// Complains of octets that are no lines of a script.
+fn no_script<E: Write>(fault: ScriptFault, err: &mut E) -> Status
     ensures { result ≡ status_for fault }
 {
     match fault {
@@ -309,7 +310,7 @@ fn simulate<O: Write, E: Write>(
 {
     match read_script(alloc, notes, text) {
         Ok(script) => run_script(alloc, script, out, err),
-        Err(fault) => no_script(fault, err),
+        Err(fault) => refuse(alloc, notes, text, fault, "\n", err),
     }
 }
 
@@ -337,7 +338,8 @@ pub(crate) fn unread<E: Write>(error: &io::Error, err: &mut E) -> Status
 ///
 /// An event that names no node or no copy, a link of a node as a stranger's, or that the clock or the memory has no room for, and a clock of no node, print
 /// `line L: fault F` and end the run with `Faulty`. A refused
-/// ask, and a change that a node's store refuses, print `refused F`, and the run goes on. A line of no form: `line L: not a script line` on `err`; an input
+/// ask, and a change that a node's store refuses, print `refused F`, and the run goes on. A line of no form: `line L: not a script line` on `err`, and on the
+/// next line what is wrong with it, where memory suffices; an input
 /// that cannot be read: `cannot read`; out of memory outside an event: `no memory`. `Output` where `out` cannot be written.
 pub fn simulate_lines_over<R: Read, O: Write, E: Write>(
     alloc: Global,

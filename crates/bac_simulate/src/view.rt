@@ -3,20 +3,18 @@ ghost use Rattle.std.specs.Prelude.{◌≡◌, ◌+◌, map, IfOk, OnOk};
 ghost use Rattle.std.specs.Io.KnownBytes.{Appends};
 ghost use Rattle.bac_chart.specs.Views.{mark_view};
 ghost use Rattle.bac_simulate.specs.Drawn.{shown_text, IsDrawn, IsShown, IsTold, Shows, ShowsAs};
-ghost use Rattle.bac_simulate.specs.Runs.{status_for};
 ghost use Rattle.bac_simulate.specs.Scripts.{script_of};
 ghost use Rattle.bac_simulate.specs.Views.{line_view};
 ghost use Rattle.bac_text.specs.Lines.{lines_of};
 ghost use Rattle.bac_text.specs.Texts.{AppendsText};
 
-use crate::bad_line::print_bad_line;
+use crate::bad_line::refuse;
 use crate::capture::print_capture;
 use crate::event_style::EventStyle;
 use crate::moments::parts_in;
 use crate::read_script::ReadScript;
-use crate::script::ScriptFault;
 use crate::script_reading::read_script;
-use crate::simulate::{ended, no_script, octets_of, unread};
+use crate::simulate::{ended, octets_of, unread};
 use crate::telling::print_lines;
 use crate::trace::trace_lines;
 use bac_chart::{ChartFormat, Mark, print_drawing};
@@ -126,26 +124,11 @@ fn run_and_show<O: Write, E: Write>(
     }
 }
 
-/// Complains of octets that are no script; in words also of what is wrong with the bad line.
-fn refuse<E: Write>(
-    alloc: Global,
-    view: View,
-    notes: bool,
-    text: &[u8],
-    fault: ScriptFault,
-    err: &mut E,
-) -> Status
-    ensures { result ≡ status_for fault }
-{
-    let ScriptFault::Line(number) = fault else {
-        return no_script(fault, err);
-    };
+/// What parts a complaint from its reason: in words they stand on one line.
+fn before_reason(view: View) -> &'static str {
     match view {
-        View::Text => {
-            print_bad_line(alloc, notes, text, number, err);
-            Status::CommandLine
-        }
-        View::Objects | View::Chart | View::Mermaid | View::Capture => no_script(fault, err),
+        View::Text => ": ",
+        View::Objects | View::Chart | View::Mermaid | View::Capture => "\n",
     }
 }
 
@@ -166,7 +149,7 @@ fn show<O: Write, E: Write>(
             let flushed = out.flush();
             ended(ran, flushed, err)
         }
-        Err(fault) => refuse(alloc, view, notes, text, fault, err),
+        Err(fault) => refuse(alloc, notes, text, fault, before_reason(view), err),
     }
 }
 

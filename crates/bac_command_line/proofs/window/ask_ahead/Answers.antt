@@ -17,7 +17,7 @@ returns-clause-asked g c =
       share = c.in-Ok.share;
       events = at.invariant.events;
       prints = prints;
-      once = λ place. asked_once (OnPort g.M.Machine.is_bound g.M.Link.Link.failures g.M.Link.Link.calls) _ place (length c.args.lines.now) at.invariant.events at.all _ _ c.args.lines.now _ _ refl prints;
+      once = λ place within. asked_once (OnPort g.M.Machine.is_bound g.M.Link.Link.failures g.M.Link.Link.calls) _ place at.invariant.events at.all _ _ c.args.lines.now _ _ prints within;
     }
 
 pub loop-place-init : goal.loop-place-init

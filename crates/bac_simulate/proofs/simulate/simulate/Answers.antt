@@ -7,4 +7,4 @@ pub returns-in-Ok : goal.returns-in-Ok
 returns-in-Ok g c = reported (script_of c.args.notes (lines_of c.args.text.now)) c.in-Ok.script _ _ _ c.in-Ok.ensures c.run_script.ensures
 
 pub returns-in-Err : goal.returns-in-Err
-returns-in-Err g c = no_script c.in-Err.fault (script_of c.args.notes (lines_of c.args.text.now)) _ _ c.in-Err.ensures c.no_script.ensures
+returns-in-Err g c = no_script c.in-Err.fault (script_of c.args.notes (lines_of c.args.text.now)) _ _ c.in-Err.ensures c.refuse.ensures
