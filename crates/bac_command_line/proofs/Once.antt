@@ -266,15 +266,19 @@ printed_asked IsOn plan place from (suc count) events all before after old new p
   where
     ends : EndsLine IsOn plan from prints.first.how before prints.middle
     ends = prints.first.ends
+
     both : asks_in place events ≡ asks_in place prints.later + asks_in place ends.goes.events
     both = ap (asks_in place) prints.are ∙ asks_append place prints.later ends.goes.events
+
     still : asks_in place ends.goes.events ≡ 0 → IsUnasked place ends.ended.sky
     still none = run_apart IsOn plan place ends.goes.events before ends.ended ends.goes.run none unasked
+
     others : asks_in place ends.goes.events ≡ 0 → from ≢ place → 1 ≤ asks_in place prints.later
     others none ne =
         printed_asked IsOn plan place (from + 1) count prints.later prints.rest prints.middle after prints.between new prints.others
         (subst (IsUnasked place) (sym ends.taken.is) (ends_apart place from None ends.ended.sky ne (still none))) (omega (arith, least, ne))
         (omega (arith, most))
+
     go : (asks_in place ends.goes.events ≡ 0) ⊎ (1 ≤ asks_in place ends.goes.events)
         → ((eqb from place ≡ true) × (from ≡ place)) ⊎ ((eqb from place ≡ false) × (from ≢ place)) → 1 ≤ asks_in place events
     go (inr some) which = omega (arith, some, both)

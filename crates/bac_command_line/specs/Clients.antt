@@ -1,5 +1,5 @@
 -- A client whose node has no invoke ID or no slot left, and the next node.
-use Rattle.std.specs.Prelude.{◌≡◌, ◌⊎◌, ℕ, Bool, true, false}
+use Rattle.std.specs.Prelude.{◌≡◌, ◌≢◌, ◌⊎◌, ℕ, Bool, true, false}
 use Rattle.bac_protocol.specs.Service.{Octets}
 use Rattle.bac_driver.specs.Asking.{AskingEnds, Question}
 use Rattle.bac_driver.specs.Moments.{with_moment}
@@ -17,9 +17,10 @@ ends_spent (end.Ended how) = false
 ends_spent (end.Refused why) = is_spent why
 ends_spent end.NoEnding = false
 
--- a new node at any port of that address, whose invoke IDs begin anywhere, asks in the place of the one before, beside the same clock
+-- a new node at any other port of that address, whose invoke IDs begin anywhere, asks in the place of the one before, beside the same clock
 pub record IsRenewed (IsOn : Links) (host : Octets) (old new : Timed) : Type 0 where
   pub client : IsClient IsOn host new.bound_node
+  pub apart : new.bound_node.node.link ≢ old.bound_node.node.link
   pub told : new.told ≡ old.told
 
 -- the node asked a question from a moment on that the clock printed, and how that ended

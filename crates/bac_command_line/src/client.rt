@@ -1,5 +1,5 @@
 //! Who asks: a node at a port of its own, and once that has no invoke ID or no slot left, the next one at another port.
-ghost use Rattle.std.specs.Prelude.{IfErr, IfOk};
+ghost use Rattle.std.specs.Prelude.{◌≡◌, ◌≢◌, false, IfErr, IfOk, IfSome};
 ghost use Rattle.bac_driver.specs.Runs.{timed};
 ghost use Rattle.bac_text.specs.Statuses.{IsFailure};
 ghost use Rattle.bac_command_line.specs.Clients.{IsRenewed};
@@ -63,27 +63,41 @@ fn pair_apart<M: Machine>(machine: &M, past: &PastPorts, now: u64) -> Option<Cli
     machine.pair()
 }
 
-/// A link of a new node at an IPv4 address of this machine, with the machine's pair. Where that port is taken, or the client has left it a short time before
-/// that moment, it is that of a later pair.
+/// Whether it is the address of the node that asks now, where one does.
+fn is_held(held: Option<LinkAddress>, address: LinkAddress) -> bool
+    ensures { result ≡ false → IfSome held (λ own. address ≢ own) }
+{
+    match held {
+        Some(own) => address == own,
+        None => false,
+    }
+}
+
+/// A link of a new node at an IPv4 address of this machine, with the machine's pair. Where that port is taken, the client has left it a short time before
+/// that moment, or the node at that address asks now, it is that of a later pair.
 fn bind_apart<M: Machine>(
     machine: &M,
     host: [u8; 4],
     past: &PastPorts,
     now: u64,
+    held: Option<LinkAddress>,
 ) -> Result<NewLink<M::Link>, NoLink>
-    ensures { IfOk result (λ c. M.is_bound host c.pair.port c.link c.address) }
+    ensures bound { IfOk result (λ c. M.is_bound host c.pair.port c.link c.address) }
+    ensures other { IfOk result (λ c. IfSome held (λ own. c.address ≢ own)) }
 {
     for _ in 0..MOST_TRIES {
         let Some(pair) = pair_apart(machine, past, now) else {
             return Err(NoLink::NoClock);
         };
         match machine.bind(host, pair.port) {
-            Ok(bound) => {
-                return Ok(NewLink {
-                    link: bound.0,
-                    address: bound.1,
-                    pair,
-                });
+            Ok((link, address)) => {
+                if !is_held(held, address) {
+                    return Ok(NewLink {
+                        link,
+                        address,
+                        pair,
+                    });
+                }
             }
             Err(error) if error.kind() == ErrorKind::AddrInUse => {}
             Err(_) => return Err(NoLink::NotBound),
@@ -125,7 +139,7 @@ impl<'m, M: Machine> Client<'m, M> {
         ensures failed { IfErr result IsFailure }
     {
         let past = PastPorts::new(alloc);
-        let bound = match bind_apart(machine, host, &past, 0) {
+        let bound = match bind_apart(machine, host, &past, 0, None) {
             Ok(bound) => bound,
             Err(none) => return Err(none.report(err)),
         };
@@ -183,15 +197,15 @@ impl<'m, M: Machine> Client<'m, M> {
         let alloc = self.station.alloc;
         let node = self.station.bound_node.node();
         let now = node.latest();
-        let port = port_of(node.link());
-        let bound = match bind_apart(self.machine, host, &self.past, now) {
+        let own = node.link();
+        let bound = match bind_apart(self.machine, host, &self.past, now, Some(own)) {
             Ok(bound) => bound,
             Err(none) => {
                 self.is_stranded = true;
                 return Err(none.report(err));
             }
         };
-        if self.past.leave(port, now).is_err() {
+        if self.past.leave(port_of(own), now).is_err() {
             return Err(no_memory(err));
         }
         let first_id = bound.pair.first_id;

@@ -108,10 +108,12 @@ const EVENTS: &[(&str, &str)] = &[
 ];
 
 /// The form of the first line of a script.
-const FIRST: &str = "`nodes N` or `nodes N window W overtake V` wanted first: N 1 to 16, W 1 to 64, V + 2W at most 255";
+const FIRST: &str =
+    "`nodes N` or `nodes N window W overtake V` wanted first: N 1 to 16, W 1 to 64, V + 2W at most 255";
 
 /// What stands behind a first word that no event has.
-const NO_EVENT: &str = "is no event: ask, deliver, lose, noise, stranger, tick, advance, set, file, restart, pace or clock wanted";
+const NO_EVENT: &str =
+    "is no event: ask, deliver, lose, noise, stranger, tick, advance, set, file, restart, pace or clock wanted";
 
 /// The form of the events with that first word; None where no event has it.
 fn form_of(verb: &[u8]) -> Option<&'static str> {
