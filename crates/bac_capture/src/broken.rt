@@ -3,7 +3,7 @@ use std::io;
 use std::io::{BufRead, ErrorKind, Read};
 
 /// An input whose reads all fail with the same kind of error.
-#[derive(Clone, Copy, Debug, Drop)]
+#[derive(Clone, Copy, Drop)]
 pub(crate) struct Broken {
     pub kind: ErrorKind,
 }

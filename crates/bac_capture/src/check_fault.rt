@@ -7,7 +7,7 @@ use bac_text::LayerFault;
 use std::fmt;
 
 /// Why a frame is bad.
-#[derive(Clone, Copy, Debug, PartialEq, Eq)]
+#[derive(Clone, Copy, PartialEq, Eq)]
 pub(crate) enum CapturedFault {
     /// Its link layer is unknown.
     Link,
@@ -33,7 +33,7 @@ impl fmt::Display for CapturedFault {
 }
 
 /// The result of checking a frame.
-#[derive(Clone, Copy, Debug, PartialEq, Eq)]
+#[derive(Clone, Copy, PartialEq, Eq)]
 pub(crate) enum Verdict {
     /// It carries no datagram of BACnet/IP.
     Nothing,

@@ -21,14 +21,14 @@ pub struct Datagram<'a> {
 }
 
 /// The two versions of IP.
-#[derive(Clone, Copy, Debug, PartialEq, Eq)]
+#[derive(Clone, Copy, PartialEq, Eq)]
 pub(crate) enum Network {
     Ipv4,
     Ipv6,
 }
 
 /// Which part of an IP packet a frame contains.
-#[derive(Clone, Copy, Debug, PartialEq, Eq)]
+#[derive(Clone, Copy, PartialEq, Eq)]
 pub(crate) enum Part {
     Whole,
     /// The first fragment of several.
@@ -38,7 +38,7 @@ pub(crate) enum Part {
 }
 
 /// An IP packet that contains UDP.
-#[derive(Clone, Copy, Debug)]
+#[derive(Clone, Copy)]
 pub(crate) struct Packet<'a> {
     pub from: &'a [u8],
     pub to: &'a [u8],

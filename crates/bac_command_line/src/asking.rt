@@ -18,7 +18,7 @@ use bac_npdu::{LinkAddress, Peer, Route};
 use clap::ArgMatches;
 
 /// How often it asks the same.
-#[derive(Clone, Copy, Debug, PartialEq, Eq)]
+#[derive(Clone, Copy, PartialEq, Eq)]
 pub(crate) struct Rounds {
     /// A round begins so many milliseconds after the one before it began.
     pub every: u64,
@@ -46,7 +46,7 @@ impl Rounds {
 }
 
 /// From where a node is to ask, how long it waits, and how the end is printed.
-#[derive(Clone, Copy, Debug)]
+#[derive(Clone, Copy)]
 pub(crate) struct Asking {
     /// The IPv4 address of the one that asks.
     pub host: [u8; 4],

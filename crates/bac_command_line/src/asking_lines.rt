@@ -195,7 +195,7 @@ pub(crate) fn ask_each<M: Machine, O: Write, E: Write>(
 }
 
 /// Why nothing is asked of the lines of a file.
-#[derive(Clone, Copy, Debug, PartialEq, Eq)]
+#[derive(Clone, Copy, PartialEq, Eq)]
 enum Unasked {
     /// The file cannot be opened or read, or memory is refused, as the status says.
     Unread(Status),

@@ -26,7 +26,7 @@ struct NewLink<L> {
 }
 
 /// Why there is no link of a new node.
-#[derive(Clone, Copy, Debug, PartialEq, Eq)]
+#[derive(Clone, Copy, PartialEq, Eq)]
 enum NoLink {
     /// The time of day can't be read.
     NoClock,

@@ -12,7 +12,7 @@ use std::io;
 use std::io::Write;
 
 /// What came of saving a file, or of restoring it.
-#[derive(Clone, Copy, Debug)]
+#[derive(Clone, Copy)]
 pub(crate) enum FileNews<'a> {
     /// The folder has its octets, so many.
     Saved(usize),

@@ -18,7 +18,7 @@ use std::io::Write;
 const ANY_DEVICE: u64 = 4_194_303;
 
 /// Which files of a peer are saved.
-#[derive(Clone, Copy, Debug)]
+#[derive(Clone, Copy)]
 pub(crate) enum ChosenFiles<'m, 'a> {
     /// Those that words name.
     Named(&'m [&'a str]),
@@ -27,7 +27,7 @@ pub(crate) enum ChosenFiles<'m, 'a> {
 }
 
 /// What is done with whole files.
-#[derive(Clone, Copy, Debug)]
+#[derive(Clone, Copy)]
 pub(crate) enum FileWork<'m, 'a> {
     /// One is read, and printed, or written to the file at a path.
     Get {
@@ -51,7 +51,7 @@ pub(crate) enum FileWork<'m, 'a> {
 }
 
 /// How a peer is asked, and which.
-#[derive(Clone, Copy, Debug)]
+#[derive(Clone, Copy)]
 pub(crate) struct FileTask {
     pub asking: Asking,
     pub peer: Peer,

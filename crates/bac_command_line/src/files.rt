@@ -79,7 +79,7 @@ const CHART_WANTED: &str = "a capture of pcap or pcapng wanted, of at most 16 pe
 const SCRIPT_WANTED: &str = "no event happened";
 
 /// The file of a capture.
-#[derive(Clone, Copy, Debug)]
+#[derive(Clone, Copy)]
 pub(crate) struct CaptureFile<'a> {
     pub path: &'a str,
     /// A UDP port beside those of BACnet/IP whose datagrams are read too.
@@ -87,7 +87,7 @@ pub(crate) struct CaptureFile<'a> {
 }
 
 /// The file of a script.
-#[derive(Clone, Copy, Debug)]
+#[derive(Clone, Copy)]
 pub(crate) struct ScriptFile<'a> {
     pub path: &'a str,
     /// Whether notes are taken.

@@ -17,7 +17,7 @@ use std::io::Write;
 use std::mem;
 
 /// What a node says to an ask.
-#[derive(Clone, Copy, Debug)]
+#[derive(Clone, Copy)]
 pub(crate) enum Begun {
     /// It is under way: its ticket, and how long it is waited for.
     Accepted { ticket: u64, wait_limit: WaitLimit },
@@ -38,7 +38,7 @@ impl Begun {
 }
 
 /// A line of a list whose ask has not begun.
-#[derive(Clone, Copy, Debug)]
+#[derive(Clone, Copy)]
 pub(crate) struct Waiting {
     /// Its place among the lines, counted from 0.
     pub place: usize,
@@ -47,7 +47,7 @@ pub(crate) struct Waiting {
 }
 
 /// The ask of a line, which is under way.
-#[derive(Clone, Copy, Debug)]
+#[derive(Clone, Copy)]
 pub(crate) struct Flight {
     pub line: Waiting,
     pub ticket: u64,

@@ -22,7 +22,7 @@ use std::alloc::Global;
 use std::io::Write;
 
 /// What the file at a path is to forget, in words.
-#[derive(Clone, Copy, Debug)]
+#[derive(Clone, Copy)]
 pub(crate) struct Forgetting<'a> {
     /// The path.
     pub path: &'a str,

@@ -100,7 +100,7 @@ fn line_of(alloc: Global, part: KeptPart<'_>) -> Result<Vec<u8>, NoMemory> {
 }
 
 /// The form of a list of what is kept.
-#[derive(Clone, Copy, Debug, PartialEq, Eq)]
+#[derive(Clone, Copy, PartialEq, Eq)]
 pub(crate) enum ListForm {
     Lines,
     /// An object of JSON a line.

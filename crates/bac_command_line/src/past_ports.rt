@@ -5,7 +5,7 @@ use std::alloc::{AllocError, Global};
 const REMEMBERED: u64 = 135_000;
 
 /// A port, and the moment at which its node was given up.
-#[derive(Clone, Copy, Debug)]
+#[derive(Clone, Copy)]
 struct PastPort {
     port: u16,
     left: u64,

@@ -20,7 +20,7 @@ use std::alloc::Global;
 use std::io::Write;
 
 /// A file of a peer, by the words for its object.
-#[derive(Clone, Copy, Debug)]
+#[derive(Clone, Copy)]
 pub(crate) struct PeerFile<'a> {
     pub peer: Peer,
     pub object: &'a str,

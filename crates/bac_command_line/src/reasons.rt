@@ -199,7 +199,7 @@ pub(crate) fn print_no_task<E: Write>(matches: &ArgMatches<'_>, err: &mut E) -> 
 }
 
 /// How the digits of a datagram may be written.
-#[derive(Clone, Copy, Debug, PartialEq, Eq)]
+#[derive(Clone, Copy, PartialEq, Eq)]
 pub(crate) enum Digits {
     /// One after the other.
     Alone,

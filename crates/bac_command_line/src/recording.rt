@@ -21,7 +21,7 @@ use std::io;
 use std::io::Write;
 
 /// The form of records.
-#[derive(Clone, Copy, Debug, PartialEq, Eq)]
+#[derive(Clone, Copy, PartialEq, Eq)]
 pub(crate) enum RecordForm {
     /// An object of JSON a line.
     Json,
@@ -30,7 +30,7 @@ pub(crate) enum RecordForm {
 }
 
 /// When an ask ended, and in which round.
-#[derive(Clone, Copy, Debug)]
+#[derive(Clone, Copy)]
 pub(crate) struct Stamp {
     /// In milliseconds since 1970 began in UTC; None where the time of day cannot be read.
     pub time: Option<u64>,

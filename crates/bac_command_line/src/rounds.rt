@@ -150,7 +150,7 @@ fn rest<L: Link, C: Clock, E: Write>(
 }
 
 /// What came of a round.
-#[derive(Clone, Copy, Debug, PartialEq, Eq)]
+#[derive(Clone, Copy, PartialEq, Eq)]
 struct RoundEnd {
     /// When it began.
     began: u64,

@@ -29,7 +29,7 @@ use std::io::Write;
 const RESTED: u64 = 65_001;
 
 /// How a node is to serve.
-#[derive(Clone, Copy, Debug, PartialEq, Eq)]
+#[derive(Clone, Copy, PartialEq, Eq)]
 pub(crate) struct Serving {
     /// The IPv4 address that it listens at.
     pub host: [u8; 4],
@@ -60,7 +60,7 @@ pub(crate) struct Serving {
 }
 
 /// When a server begins.
-#[derive(Clone, Copy, Debug, PartialEq, Eq)]
+#[derive(Clone, Copy, PartialEq, Eq)]
 pub(crate) struct Start {
     /// The moment of its clock, in milliseconds.
     pub moment: u64,

@@ -18,7 +18,7 @@ use std::alloc::Global;
 use std::io::Write;
 
 /// How many octets were written, and in which parts that goes on.
-#[derive(Clone, Copy, Debug)]
+#[derive(Clone, Copy)]
 struct Writing {
     count: usize,
     size: PartSize,

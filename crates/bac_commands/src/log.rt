@@ -16,7 +16,7 @@ use std::io;
 use std::io::Write;
 
 /// How many requests were turned away since the table was full.
-#[derive(Clone, Copy, Debug, PartialEq, Eq)]
+#[derive(Clone, Copy, PartialEq, Eq)]
 pub(crate) struct Tally {
     /// Since the last line that said so.
     pub(crate) away: u64,

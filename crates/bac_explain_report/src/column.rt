@@ -11,7 +11,7 @@ use bac_text::peer_text;
 use std::alloc::{AllocError, Global};
 
 /// The columns of the sender and of the receiver of a datagram.
-#[derive(Debug, Drop)]
+#[derive(Drop)]
 pub(crate) struct Ends {
     pub from: u64,
     pub to: u64,

@@ -10,7 +10,7 @@ use std::alloc::AllocError;
 pub(crate) const MOST_KEPT: usize = 255;
 
 /// A datagram that was drawn.
-#[derive(Debug, Drop)]
+#[derive(Drop)]
 pub(crate) struct Drawn {
     /// When it was seen, in milliseconds.
     pub moment: u64,

@@ -14,7 +14,7 @@ use bac_text::peer_text;
 use std::alloc::{AllocError, Global};
 
 /// A client and a server.
-#[derive(Clone, Copy, Debug)]
+#[derive(Clone, Copy)]
 pub(crate) struct Pair {
     pub client: Peer,
     pub server: Peer,

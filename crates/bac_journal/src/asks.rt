@@ -11,7 +11,7 @@ use bac_value::NoMemory;
 use std::alloc::Global;
 
 /// What is kept of a transaction: its newest ask, and how many of the copies are its.
-#[derive(Clone, Copy, Debug, PartialEq, Eq)]
+#[derive(Clone, Copy, PartialEq, Eq)]
 pub(crate) struct Cell {
     pub newest: Option<usize>,
     pub sent: usize,

@@ -54,7 +54,7 @@ fn least(drift: u32, ms: u64) -> u64
 
 /// What is kept of a node's clock: what it was, in millionths of a millisecond, when so many milliseconds of real time had passed, and how far it goes on in
 /// each since then.
-#[derive(Clone, Copy, Debug, PartialEq, Eq)]
+#[derive(Clone, Copy, PartialEq, Eq)]
 pub(crate) struct NodeClock {
     pub exact: u128,
     pub since: u64,

@@ -6,7 +6,7 @@ use bac_text::LayerFault;
 use std::alloc::Global;
 
 /// The result of checking a frame.
-#[derive(Clone, Copy, Debug, PartialEq, Eq)]
+#[derive(Clone, Copy, PartialEq, Eq)]
 pub(crate) enum Verdict {
     /// It carries no datagram of BACnet/IP.
     Nothing,

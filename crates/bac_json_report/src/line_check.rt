@@ -5,7 +5,7 @@ use bac_text::LayerFault;
 use std::alloc::Global;
 
 /// What a line of a capture is.
-#[derive(Clone, Copy, Debug, PartialEq, Eq)]
+#[derive(Clone, Copy, PartialEq, Eq)]
 pub(crate) enum Verdict {
     /// A capture line without a fault.
     Good,

@@ -7,7 +7,7 @@ ghost use Rattle.bac_lists.specs.LineWords.Place.{Closed, Quoted, Within};
 use std::alloc::Global;
 
 /// Why the words of a line are not there.
-#[derive(Clone, Copy, Debug, PartialEq, Eq)]
+#[derive(Clone, Copy, PartialEq, Eq)]
 pub(crate) enum WordsFault {
     /// A quote is not closed, or something but a blank follows the closing one.
     OpenQuote,

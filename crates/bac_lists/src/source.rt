@@ -3,7 +3,7 @@ use std::alloc::Global;
 use std::fmt;
 
 /// The file whose lines are read, and what its words are allocated by.
-#[derive(Clone, Copy, Debug)]
+#[derive(Clone, Copy)]
 pub(crate) struct Source<'p> {
     pub(crate) alloc: Global,
     /// The name of the file; `-` is standard input.
@@ -11,7 +11,7 @@ pub(crate) struct Source<'p> {
 }
 
 /// The place of a line, which is printed before what is wrong with it.
-#[derive(Clone, Copy, Debug)]
+#[derive(Clone, Copy)]
 pub(crate) struct LinePlace<'p> {
     path: &'p str,
     number: u64,

@@ -31,7 +31,7 @@ const FILE: u16 = 10;
 const VENDORS: u16 = 128;
 
 /// The place of a key in a document.
-#[derive(Clone, Copy, Debug)]
+#[derive(Clone, Copy)]
 struct At<'a> {
     object: usize,
     id: Option<ObjectIdentifier>,
@@ -39,7 +39,7 @@ struct At<'a> {
 }
 
 /// An object of a document: its number, and its type and its identifier, where they are allowed.
-#[derive(Clone, Copy, Debug)]
+#[derive(Clone, Copy)]
 struct Whose {
     object: usize,
     kind: Option<u16>,

@@ -108,14 +108,14 @@ impl From<AllocError> for DocumentFault {
 }
 
 /// Why no value was read.
-#[derive(Clone, Copy, Debug, PartialEq, Eq)]
+#[derive(Clone, Copy, PartialEq, Eq)]
 pub(crate) enum ValueFault {
     Wrong(Problem),
     NoMemory,
 }
 
 /// What is wrong in the table of an object.
-#[derive(Clone, Copy, Debug)]
+#[derive(Clone, Copy)]
 pub(crate) struct Flaw<'a> {
     /// The object's identifier, if its type and its instance are valid.
     pub(crate) id: Option<ObjectIdentifier>,
@@ -125,7 +125,7 @@ pub(crate) struct Flaw<'a> {
 }
 
 /// Why no object was read.
-#[derive(Clone, Copy, Debug)]
+#[derive(Clone, Copy)]
 pub(crate) enum ObjectFault<'a> {
     Flaw(Flaw<'a>),
     NoMemory,

@@ -7,7 +7,7 @@ use toml_parser::{Key, dotted_key, quoted, starts_string};
 const OBJECTS: &str = "object";
 
 /// A key of a document, and where its line begins.
-#[derive(Debug, Drop)]
+#[derive(Drop)]
 struct KeyPlace {
     /// The number of the object that has the key, from 1 on; 0 for a key outside of objects.
     object: usize,
@@ -18,7 +18,7 @@ struct KeyPlace {
 }
 
 /// The keys of a document, in its order.
-#[derive(Debug, Drop)]
+#[derive(Drop)]
 pub(crate) struct Outline {
     keys: Vec<KeyPlace>,
     /// How many objects have begun.

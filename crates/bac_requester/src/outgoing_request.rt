@@ -36,7 +36,7 @@ pub(crate) enum RequestFault {
 }
 
 /// How a request goes to its peer (clause 5.2).
-#[derive(Clone, Copy, Debug, PartialEq, Eq)]
+#[derive(Clone, Copy, PartialEq, Eq)]
 pub(crate) enum RequestWay {
     /// In one APDU.
     InOne,

@@ -1,7 +1,7 @@
 //! How what comes of the events of a script is told.
 
 /// How what comes of the events of a script is told.
-#[derive(Clone, Copy, Debug, PartialEq, Eq)]
+#[derive(Clone, Copy, PartialEq, Eq)]
 pub(crate) enum EventStyle {
     /// In words: each event at its moment, and below it what came of it, or why nothing did.
     Words,

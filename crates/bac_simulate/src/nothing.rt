@@ -8,7 +8,7 @@ use bac_journal::Copy;
 use bac_network::{Event, World};
 
 /// Why nothing came of an event.
-#[derive(Clone, Copy, Debug, PartialEq, Eq)]
+#[derive(Clone, Copy, PartialEq, Eq)]
 pub(crate) enum Why {
     /// The copy was sent longer ago than a copy lives, and is lost.
     TooOld,

@@ -32,7 +32,7 @@ pub(crate) enum ScriptLine {
 }
 
 /// Why octets are no script.
-#[derive(Clone, Copy, Debug, PartialEq, Eq)]
+#[derive(Clone, Copy, PartialEq, Eq)]
 pub(crate) enum ScriptFault {
     /// The line of that number, counted from 1, has no known form.
     Line(u64),

@@ -7,14 +7,14 @@ use bac_store::Store;
 use std::alloc::Global;
 
 /// A request: its service choice, and its service data.
-#[derive(Clone, Copy, Debug)]
+#[derive(Clone, Copy)]
 pub(super) struct Asked {
     pub(super) choice: u8,
     pub(super) data: &'static [u8],
 }
 
 /// The requests of a round.
-#[derive(Clone, Copy, Debug)]
+#[derive(Clone, Copy)]
 pub(super) struct Round {
     pub(super) requests: &'static [Asked],
 }

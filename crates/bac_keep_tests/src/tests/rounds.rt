@@ -17,7 +17,7 @@ use burst_link::{BurstLink, StillClock};
 use telling_keeper::TellingKeeper;
 
 /// What a round does, in its order.
-#[derive(Clone, Copy, Debug, PartialEq, Eq)]
+#[derive(Clone, Copy, PartialEq, Eq)]
 enum Step {
     Noted,
     Kept,
