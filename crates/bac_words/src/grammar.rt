@@ -1,7 +1,7 @@
 //! Command lines, read by the table of commands.
 use crate::backup_words::backups;
-use crate::help_words::about;
-use crate::words::{ASKING, Grammar, Need, OFFLINE, SERVING, Word, WordForm};
+use crate::help_words::{about, of_clients, of_servers, offline};
+use crate::words::{Grammar, Need, Word, WordForm};
 use clap::builder::ValueParser;
 use clap::{Arg, ArgAction, ArgGroup, ArgMatches, Command};
 use std::alloc::Global;
@@ -97,22 +97,22 @@ fn with_commands<'a>(
 }
 
 /// The program with those of its commands that need no link.
-fn offline<'a>(alloc: Global) -> Result<Command<'a>, clap::Error> {
+fn with_offline<'a>(alloc: Global) -> Result<Command<'a>, clap::Error> {
     let bac = Command::new(alloc, "bac")
         .about("BACnet confirmed services, proved")
         .subcommand_required(true)
         .disable_help_subcommand(true);
-    with_commands(alloc, bac, OFFLINE)
+    with_commands(alloc, bac, offline())
 }
 
 /// The program with those and the commands of servers.
 fn with_servers<'a>(alloc: Global) -> Result<Command<'a>, clap::Error> {
-    with_commands(alloc, offline(alloc)?, SERVING)
+    with_commands(alloc, with_offline(alloc)?, of_servers())
 }
 
 /// The program with those and the commands that ask.
 fn with_clients<'a>(alloc: Global) -> Result<Command<'a>, clap::Error> {
-    with_commands(alloc, with_servers(alloc)?, ASKING)
+    with_commands(alloc, with_servers(alloc)?, of_clients())
 }
 
 /// The program with those, and the commands that keep whole files.
@@ -120,7 +120,7 @@ fn with_backups<'a>(alloc: Global) -> Result<Command<'a>, clap::Error> {
     with_commands(alloc, with_clients(alloc)?, backups())
 }
 
-/// The program with all of its commands: a table a function, since the prover writes out what a function names.
+/// The program with all of its commands: a table a function.
 fn commands<'a>(alloc: Global) -> Result<Command<'a>, clap::Error> {
     with_commands(alloc, with_backups(alloc)?, about())
 }

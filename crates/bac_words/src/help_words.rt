@@ -55,7 +55,7 @@ pub(crate) fn more_example(name: &str) -> Option<&'static str> {
     }
 }
 
-/// The commands that need no link.
+/// The commands that need no link. The prover writes out the tables that a function names, so only these functions name them.
 pub(crate) fn offline() -> &'static [Grammar] {
     OFFLINE
 }
