@@ -7,7 +7,7 @@ use Rattle.bac_requester.specs.declared.reaction.Ended.{Ended}
 use Rattle.bac_driver.specs.Runs.{Run, Timed}
 use Rattle.bac_driver.specs.declared.question.AskEnd.{AskEnd}
 use Rattle.bac_driver.specs.declared.wait_limit.WaitLimit.{WaitLimit}
-use Rattle.bac_command_line.specs.InFlight.{Aloft, BeginsLine, EndsLine, Event, GivesUp, Happens, IsTakenUp, Plan, PrintsFrom, Sky, TakesTurn, all_noted, aloft, asks_in, closed_flight, ended_in, has_ticket, here, new_sky, no_end, noted, noted_at, waiting_from}
+use Rattle.bac_command_line.specs.InFlight.{Aloft, BeginsLine, Event, GivesUp, Happens, IsTakenUp, Plan, PrintsFrom, Sky, TakesTurn, all_noted, aloft, asks_in, closed_flight, ended_in, has_ticket, here, new_sky, no_end, noted, noted_at, waiting_from}
 use Rattle.bac_command_line.specs.InFlight.Event.{Began, Held, WentOn}
 use Rattle.bac_command_line.specs.Online.{Links}
 use Rattle.bac_command_line.specs.declared.flights.Begun.{Begun}
@@ -257,34 +257,31 @@ some_or_none : (n : ℕ) → (n ≡ 0) ⊎ (1 ≤ n)
 some_or_none zero = inl refl
 some_or_none (suc n) = inr (omega arith)
 
+-- where the first part has none of them, the line is none of the first part, and the later one has some
+asked_later : (from place first later events : ℕ) → (first ≡ 0) ⊎ (1 ≤ first)
+    → ((eqb from place ≡ true) × (from ≡ place)) ⊎ ((eqb from place ≡ false) × (from ≢ place)) → events ≡ later + first
+    → (first ≡ 0 → from ≡ place → ⊥) → (first ≡ 0 → from ≢ place → 1 ≤ later) → 1 ≤ events
+asked_later from place first later events (inr some) which both here_not later_so = omega (arith, some, both)
+asked_later from place first later events (inl none) (inl same) both here_not later_so = absurd (here_not none same.1)
+asked_later from place first later events (inl none) (inr other) both here_not later_so =
+    let more : 1 ≤ later = later_so none other.1 in omega (arith, more, both)
+
 printed_asked : (IsOn : Links) (plan : Plan) (place from count : ℕ) (events : List Event) (all : Bool) (before : Aloft) (after : Timed)
     (old new : Option (List ℕ)) → PrintsFrom IsOn plan from count events all before after old new → IsUnasked place before.sky → from ≤ place
     → place < from + count → 1 ≤ asks_in place events
 printed_asked IsOn plan place from zero events all before after old new prints unasked least most = absurd (omega (arith, least, most))
 printed_asked IsOn plan place from (suc count) events all before after old new prints unasked least most =
-    go (some_or_none (asks_in place ends.goes.events)) (eqb_tells from place)
-  where
-    ends : EndsLine IsOn plan from prints.first.how before prints.middle
-    ends = prints.first.ends
-
-    both : asks_in place events ≡ asks_in place prints.later + asks_in place ends.goes.events
-    both = ap (asks_in place) prints.are ∙ asks_append place prints.later ends.goes.events
-
-    still : asks_in place ends.goes.events ≡ 0 → IsUnasked place ends.ended.sky
-    still none = run_apart IsOn plan place ends.goes.events before ends.ended ends.goes.run none unasked
-
-    others : asks_in place ends.goes.events ≡ 0 → from ≢ place → 1 ≤ asks_in place prints.later
-    others none ne =
-        printed_asked IsOn plan place (from + 1) count prints.later prints.rest prints.middle after prints.between new prints.others
-        (subst (IsUnasked place) (sym ends.taken.is) (ends_apart place from None ends.ended.sky ne (still none))) (omega (arith, least, ne))
-        (omega (arith, most))
-
-    go : (asks_in place ends.goes.events ≡ 0) ⊎ (1 ≤ asks_in place ends.goes.events)
-        → ((eqb from place ≡ true) × (from ≡ place)) ⊎ ((eqb from place ≡ false) × (from ≢ place)) → 1 ≤ asks_in place events
-    go (inr some) which = omega (arith, some, both)
-    go (inl none) (inl same) =
-        absurd ((still none).no_end prints.first.how (ap (slice_get ends.ended.sky.ends) (sym same.1) ∙ ends.taken.ended))
-    go (inl none) (inr other) = let later = others none other.1 in omega (arith, later, both)
+    let ends = prints.first.ends in
+    let still : asks_in place ends.goes.events ≡ 0 → IsUnasked place ends.ended.sky =
+    λ none. run_apart IsOn plan place ends.goes.events before ends.ended ends.goes.run none unasked in
+    asked_later from place (asks_in place ends.goes.events) (asks_in place prints.later) (asks_in place events)
+    (some_or_none (asks_in place ends.goes.events)) (eqb_tells from place)
+    (ap (asks_in place) prints.are ∙ asks_append place prints.later ends.goes.events)
+    (λ none same. (still none).no_end prints.first.how (ap (slice_get ends.ended.sky.ends) (sym same) ∙ ends.taken.ended))
+    (λ none ne.
+      printed_asked IsOn plan place (from + 1) count prints.later prints.rest prints.middle after prints.between new prints.others
+      (subst (IsUnasked place) (sym ends.taken.is) (ends_apart place from None ends.ended.sky ne (still none))) (omega (arith, least, ne))
+      (omega (arith, most)))
 
 no_ends : (lines : List LineQuestion) (place : ℕ) (how : AskEnd) → slice_get (map no_end lines) place ≡ Some (Some how) → ⊥
 no_ends [] place how is = absurd cc
