@@ -279,9 +279,9 @@ printed_asked IsOn plan place from (suc count) events all before after old new p
     (ap (asks_in place) prints.are ∙ asks_append place prints.later ends.goes.events)
     (λ none same. (still none).no_end prints.first.how (ap (slice_get ends.ended.sky.ends) (sym same) ∙ ends.taken.ended))
     (λ none ne.
-      printed_asked IsOn plan place (from + 1) count prints.later prints.rest prints.middle after prints.between new prints.others
-      (subst (IsUnasked place) (sym ends.taken.is) (ends_apart place from None ends.ended.sky ne (still none))) (omega (arith, least, ne))
-      (omega (arith, most)))
+    printed_asked IsOn plan place (from + 1) count prints.later prints.rest prints.middle after prints.between new prints.others
+    (subst (IsUnasked place) (sym ends.taken.is) (ends_apart place from None ends.ended.sky ne (still none))) (omega (arith, least, ne))
+    (omega (arith, most)))
 
 no_ends : (lines : List LineQuestion) (place : ℕ) (how : AskEnd) → slice_get (map no_end lines) place ≡ Some (Some how) → ⊥
 no_ends [] place how is = absurd cc

@@ -2,7 +2,7 @@
 ghost use Rattle.bac_command_line.specs.Explaining.{IsJsonFile, IsPageFile};
 ghost use Rattle.bac_command_line.specs.Files.{OnFile};
 
-use crate::files::{CAPTURE_WANTED, CaptureFile, OpenFiles, reader_of};
+use crate::files::{CAPTURES_TAKEN, CaptureFile, OpenFiles, reader_of};
 use crate::reasons::print_unfit;
 use bac_capture::Ports;
 use bac_explain_html::explain_html_over;
@@ -27,7 +27,7 @@ pub(crate) fn explain_json<F: OpenFiles, O: Write, E: Write>(
         Ok(mut input) => {
             let ports = Ports { also: capture.port };
             let status = explain_json_over(alloc, options, &mut input, ports, out, err);
-            print_unfit(status, capture.path, CAPTURE_WANTED, err);
+            print_unfit(status, capture.path, CAPTURES_TAKEN, err);
             status
         }
         Err(status) => status,
@@ -49,7 +49,7 @@ pub(crate) fn explain_html<F: OpenFiles, O: Write, E: Write>(
         Ok(mut input) => {
             let ports = Ports { also: capture.port };
             let status = explain_html_over(alloc, options, &mut input, ports, out, err);
-            print_unfit(status, capture.path, CAPTURE_WANTED, err);
+            print_unfit(status, capture.path, CAPTURES_TAKEN, err);
             status
         }
         Err(status) => status,

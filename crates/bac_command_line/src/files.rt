@@ -70,13 +70,13 @@ pub(crate) fn reader_of<F: OpenFiles, E: Write>(
     }
 }
 
-/// What `explain` wants of a file, and what charts want of it.
-pub(crate) const CAPTURE_WANTED: &str = "a capture of pcap or pcapng wanted";
+/// What `explain` takes, and what charts take.
+pub(crate) const CAPTURES_TAKEN: &str = "explain reads pcap and pcapng";
 
-const CHART_WANTED: &str = "a capture of pcap or pcapng wanted, of at most 16 peers in one chart";
+const CHARTS_TAKEN: &str = "explain reads pcap and pcapng, and one chart has at most 16 peers";
 
-/// What is told of a script that has a bad line.
-const SCRIPT_WANTED: &str = "no event happened";
+/// What is told of a script that is not run.
+const NOTHING_HAPPENED: &str = "no event happened";
 
 /// The file of a capture.
 #[derive(Clone, Copy)]
@@ -130,7 +130,7 @@ pub(crate) fn explain<F: OpenFiles, O: Write, E: Write>(
         Ok(mut input) => {
             let ports = Ports { also: capture.port };
             let status = explain_over(alloc, options, &mut input, ports, out, err);
-            print_unfit(status, capture.path, CAPTURE_WANTED, err);
+            print_unfit(status, capture.path, CAPTURES_TAKEN, err);
             status
         }
         Err(status) => status,
@@ -152,7 +152,7 @@ pub(crate) fn chart<F: OpenFiles, O: Write, E: Write>(
         Ok(mut input) => {
             let ports = Ports { also: capture.port };
             let status = chart_over(alloc, options, &mut input, ports, out, err);
-            print_unfit(status, capture.path, CHART_WANTED, err);
+            print_unfit(status, capture.path, CHARTS_TAKEN, err);
             status
         }
         Err(status) => status,
@@ -172,7 +172,7 @@ pub(crate) fn simulate<F: OpenFiles, O: Write, E: Write>(
     match opened(files, script.path, err) {
         Ok(mut file) => {
             let status = simulate_lines_over(alloc, script.notes, &mut file, out, err);
-            print_unfit(status, script.path, SCRIPT_WANTED, err);
+            print_unfit(status, script.path, NOTHING_HAPPENED, err);
             status
         }
         Err(status) => status,
@@ -193,7 +193,7 @@ pub(crate) fn show<F: OpenFiles, O: Write, E: Write>(
     match opened(files, script.path, err) {
         Ok(mut file) => {
             let status = show_over(alloc, view, script.notes, &mut file, out, err);
-            print_unfit(status, script.path, SCRIPT_WANTED, err);
+            print_unfit(status, script.path, NOTHING_HAPPENED, err);
             status
         }
         Err(status) => status,

@@ -37,11 +37,11 @@ pub(crate) fn print_unwritten<E: Write>(path: &str, error: &io::Error, err: &mut
     status
 }
 
-/// Where the status of a command says that it could not read what a file has, tells which file, and what was wanted of it.
-pub(crate) fn print_unfit<E: Write>(status: Status, path: &str, wanted: &str, err: &mut E) {
+/// Where the status of a command says that it could not read what a file has, tells which file, and that text.
+pub(crate) fn print_unfit<E: Write>(status: Status, path: &str, text: &str, err: &mut E) {
     if status == Status::CommandLine {
         // if that fails too, only the status is left
-        let _ = writeln!(err, "{path}: {wanted}");
+        let _ = writeln!(err, "{path}: {text}");
     }
 }
 
