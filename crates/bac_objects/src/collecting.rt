@@ -93,7 +93,7 @@ impl Collecting<'_> {
         problem: Problem,
     ) -> Result<(), NoMemory> {
         if let Some(key) = unknown_key(value, problem) {
-            let near = nearest_of_value(self.alloc, key)?;
+            let near = self.hint(key, nearest_of_value(self.alloc, key)?);
             return self.note_unknown(at, key, near);
         }
         if value.is_none() && problem.given == Given::Nothing && !self.is_whole {
@@ -223,15 +223,20 @@ impl Collecting<'_> {
         }
     }
 
+    /// The known key that is most like a key without a meaning: the key itself only where it has one in documents whose objects are described, and this is none.
+    fn hint(&self, key: &str, near: Option<&'static str>) -> Option<&'static str> {
+        match near {
+            Some(known) if known == key && (self.is_described || OBJECT_KEYS.contains(&key)) => {
+                None
+            }
+            near => near,
+        }
+    }
+
     /// Notes a key that is that of no property.
     fn note_no_property(&mut self, at: At<'_>) -> Result<(), NoMemory> {
-        let known = if self.is_described {
-            DESCRIBED_KEYS
-        } else {
-            OBJECT_KEYS
-        };
-        let near = nearest(self.alloc, at.key, known)?;
         let key = at.key;
+        let near = self.hint(key, nearest(self.alloc, key, DESCRIBED_KEYS)?);
         self.note_unknown(At { key: "", ..at }, key, near)
     }
 

@@ -8,7 +8,8 @@ use toml::de::Error;
 /// What is wrong at a place of a document.
 #[derive(Debug, Drop)]
 pub enum Wrong {
-    /// A key that has no meaning there, and the known key that is most like it, where one is.
+    /// A key that has no meaning there, and the known key that is most like it, where one is: the key itself where it has one in documents whose objects are
+    /// described.
     UnknownKey {
         key: String,
         near: Option<&'static str>,
@@ -39,6 +40,12 @@ pub struct Finding {
 impl fmt::Display for Wrong {
     fn fmt<W: fmt::Write>(&self, f: &mut fmt::Formatter<W>) -> fmt::Result {
         match self {
+            Wrong::UnknownKey {
+                key,
+                near: Some(near),
+            } if key.as_str() == *near => {
+                write!(f, "key \"{key}\" wants described = true before the objects")
+            }
             Wrong::UnknownKey {
                 key,
                 near: Some(near),
