@@ -86,7 +86,7 @@ const BACKUPS: &[Grammar] = &[
     Grammar {
         name: "backup",
         about: "Saves files of a device in a folder, with their digests",
-        after: "Example: bac backup --port 47808 --device 1 --folder saved\nExample: bac backup --to 192.168.1.20 --folder saved file:1 file:2",
+        after: "Example: bac backup --port 47808 --device 100 --folder saved\nExample: bac backup --to 192.168.1.20 --folder saved file:1 file:2",
         words: BACKUP,
     },
     Grammar {
