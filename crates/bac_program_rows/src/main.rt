@@ -18,6 +18,9 @@
 //! - `database NAME` keeps cells, each `PLACE HEX` after `| `; `database NAME new` is made when it is opened; `locked` and `damaged` can't be opened.
 //! - `terminal`: standard error is one. `errors fail`: nothing can be written to it; `errors fail once`: the first write fails.
 //! - `taken N`: clients try the ports from 40,000 on, and so many of them are taken. `source A.B.C.D`: the address that the machine sends from.
+//! - `machine`: the command line runs on the files, sockets and clock of the machine that plays the rows; of the other lines only `errors` means something then.
+//!   `machine taken PORT`: that port of 127.0.0.1 is taken meanwhile.
+//! - `pairs`: a moment in microseconds stands for the command line, and the port and the first invoke ID of a client that begins then are printed.
 //! - `# ..` is a note, also below a command line.
 //!
 //! Lines of what a command line prints:
@@ -26,7 +29,9 @@
 //! - `~ TEXT`: standard output has that text somewhere, and is not compared otherwise; `2~ TEXT`: so has standard error; `2^ TEXT`: it begins so;
 //! - `status N` is the exit status, 0 without it;
 //! - `wrote NAME` with lines after `| `: that file has them now;
-//! - `bound A.B.C.D:P`, or `bound nowhere`: where the last link is bound;
+//! - `bound A.B.C.D:P`, or `bound nowhere`: where the last link is bound; it has no meaning beside `machine` and `pairs`;
+//! - `moment LEAST MORE TEXT`: standard error is that text, a number and the end of a line; the number is LEAST at least, and at most MORE greater than the
+//!   milliseconds that the command line took: beside `machine` by a clock that was made before, otherwise 0;
 //! - `wrapped`: no line is longer than 80 octets, and two at least begin with `Example: `;
 //! - `writes N`: where standard output takes fewer writes than all, which are N at least, or can't be flushed, that is told; nothing else is compared but the
 //!   status. `writes endless`: the command line ends only where a write fails.
@@ -56,6 +61,6 @@ fn main(rt: HostRuntime) -> io::Result<()> {
     let mut text = String::new(rt.alloc());
     rt.stdin().read_to_string(&mut text)?;
     let mut out = Vec::new(rt.alloc());
-    rows::play_all(rt.alloc(), &text, &mut out)?;
+    rows::play_all(&rt, &text, &mut out)?;
     rt.stdout().write_all(&out)
 }

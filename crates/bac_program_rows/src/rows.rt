@@ -45,14 +45,15 @@ fn printed(alloc: Global, command: &Command<'_>, files: &Files<'_>) -> Printed {
 
 /// Plays a row, its command line and what has to be printed; whether it holds.
 fn play(
-    alloc: Global,
+    rt: &HostRuntime,
     setup: Setup<'_>,
     files: &Files<'_>,
     row: &str,
     out: &mut Vec<u8>,
 ) -> Option<bool> {
     let (line, lines) = row.split_once('\n').unwrap_or((row, ""));
-    let command = Command::new(alloc, setup, line)?;
+    let alloc = rt.alloc();
+    let command = Command::new(rt, setup, line)?;
     if let Some(heading) = headed(lines, "writes") {
         let failing = Failing {
             alloc,
@@ -73,7 +74,7 @@ fn play(
 /// A group of rows.
 #[derive(Clone, Copy)]
 struct Group<'a> {
-    alloc: Global,
+    rt: &'a HostRuntime,
     scene: &'a str,
     counts: Counts,
 }
@@ -88,7 +89,7 @@ impl<'a> Group<'a> {
         out: &mut Vec<u8>,
     ) -> io::Result<()> {
         self.counts.all = self.counts.all.saturating_add(1);
-        match play(self.alloc, setup, files, row, out) {
+        match play(self.rt, setup, files, row, out) {
             Some(true) => self.counts.held = self.counts.held.saturating_add(1),
             Some(false) => {}
             None => writeln!(out, "? {}", row.lines().next().unwrap_or(""))?,
@@ -102,7 +103,7 @@ impl<'a> Group<'a> {
             row: lines,
             group: self.scene,
         };
-        let files = Files::new(self.alloc, setup);
+        let files = Files::new(self.rt.alloc(), setup);
         for row in rows.split("\n$ ") {
             self.count(setup, &files, row, out)?;
         }
@@ -126,11 +127,11 @@ impl<'a> Group<'a> {
 }
 
 /// Plays a group: its title, and its paragraphs.
-fn play_group(alloc: Global, group: &str, out: &mut Vec<u8>) -> io::Result<()> {
+fn play_group(rt: &HostRuntime, group: &str, out: &mut Vec<u8>) -> io::Result<()> {
     let (title, text) = group.split_once('\n').unwrap_or((group, ""));
     writeln!(out, "={title}")?;
     let mut group = Group {
-        alloc,
+        rt,
         scene: "",
         counts: Counts { all: 0, held: 0 },
     };
@@ -145,9 +146,9 @@ fn play_group(alloc: Global, group: &str, out: &mut Vec<u8>) -> io::Result<()> {
 }
 
 /// Plays each group of a text.
-pub(crate) fn play_all(alloc: Global, text: &str, out: &mut Vec<u8>) -> io::Result<()> {
+pub(crate) fn play_all(rt: &HostRuntime, text: &str, out: &mut Vec<u8>) -> io::Result<()> {
     for group in text.trim_start_matches('=').split("\n=") {
-        play_group(alloc, group, out)?;
+        play_group(rt, group, out)?;
     }
     Ok(())
 }

@@ -67,7 +67,7 @@ impl<'a> Setup<'a> {
 /// The words that begin lines of a setup.
 const WORDS: &[&str] = &[
     "|", "#", "links", "clock", "file", "hex", "disk", "database", "terminal", "errors", "taken",
-    "source",
+    "source", "machine", "pairs",
 ];
 
 /// Whether each line of a text begins with a word that sets a scene.
@@ -75,9 +75,21 @@ pub(crate) fn is_setup(text: &str) -> bool {
     text.lines().all(|line| WORDS.contains(&first(line).0))
 }
 
-/// What a machine has.
+/// What a command line runs on.
+#[derive(Clone, Copy)]
+pub(crate) enum Place {
+    /// A machine in memory.
+    Bench,
+    /// The machine that plays the rows, with that port taken.
+    Machine(Option<u16>),
+    /// Nothing: it is the moment at which a client begins.
+    Pairs,
+}
+
+/// What a command line runs on, and what a machine in memory has.
 #[derive(Clone, Copy)]
 pub(crate) struct Scene<'a> {
+    pub place: Place,
     pub behind: Behind<'a>,
     pub clock: Option<BenchClock>,
     /// How many of the ports are taken at which clients begin; None where a client begins at any free port.
@@ -134,6 +146,21 @@ fn source_in(setup: Setup<'_>) -> Option<Option<[u8; 4]>> {
     }
 }
 
+/// `machine`, `machine taken PORT` or `pairs`; a machine in memory without them.
+fn place_in(setup: Setup<'_>) -> Option<Place> {
+    if setup.has("pairs") {
+        return Some(Place::Pairs);
+    }
+    match setup.line("machine") {
+        Some(Heading { words: "", .. }) => Some(Place::Machine(None)),
+        Some(heading) => {
+            let port = after(heading.words, "taken")?.parse::<u16>().ok()?;
+            Some(Place::Machine(Some(port)))
+        }
+        None => Some(Place::Bench),
+    }
+}
+
 /// The scene that lines set; None where one has no meaning.
 pub(crate) fn scene_of(setup: Setup<'_>) -> Option<Scene<'_>> {
     let behind = match setup.line("links") {
@@ -141,6 +168,7 @@ pub(crate) fn scene_of(setup: Setup<'_>) -> Option<Scene<'_>> {
         None => Behind::Nothing,
     };
     Some(Scene {
+        place: place_in(setup)?,
         behind,
         clock: clock_in(setup)?,
         taken: taken_in(setup)?,

@@ -30,6 +30,8 @@ enum Said<'a> {
     /// A file of this name has the lines below it.
     Wrote(&'a str),
     Bound(&'a str),
+    /// Standard error ends in a moment.
+    Moment(&'a str),
     Wrapped,
     /// A line of a file, or a note.
     Nothing,
@@ -47,6 +49,7 @@ fn meaning_by_word(line: &str) -> Option<Said<'_>> {
         "status" => Some(Said::Status(rest)),
         "wrote" => Some(Said::Wrote(rest)),
         "bound" => Some(Said::Bound(rest)),
+        "moment" => Some(Said::Moment(rest)),
         "wrapped" => Some(Said::Wrapped),
         "|" | "#" | "writes" => Some(Said::Nothing),
         _ => None,
@@ -73,7 +76,7 @@ impl Wanted {
             Said::Out(line) => put_line(alloc, line, &mut self.out)?,
             Said::Err(line) => put_line(alloc, line, &mut self.err)?,
             Said::OutPart(_) | Said::Wrapped => self.is_out_whole = false,
-            Said::ErrPart(_) | Said::ErrFront(_) => self.is_err_whole = false,
+            Said::ErrPart(_) | Said::ErrFront(_) | Said::Moment(_) => self.is_err_whole = false,
             _ => {}
         }
         Some(())
@@ -138,6 +141,26 @@ fn bound_of(text: &str) -> Option<Option<Bound>> {
     Some(Some((host, port)))
 }
 
+/// The number behind a text, at the end of a line.
+fn number_behind(octets: &[u8], front: &str) -> Option<u64> {
+    let text = std::str::from_utf8(octets).ok()?;
+    let digits = text.strip_prefix(front)?.strip_suffix('\n')?;
+    digits.parse::<u64>().ok()
+}
+
+/// Whether standard error is a text and a moment, `LEAST MORE TEXT`: LEAST at least, and at most MORE after the end.
+fn ends_in_moment(alloc: Global, words: &str, printed: &Printed) -> Option<bool> {
+    let (least, words) = first(words);
+    let (more, front) = first(words);
+    let least = least.parse::<u64>().ok()?;
+    let most = more.parse::<u64>().ok()?.saturating_add(printed.ended.took);
+    let front = text_of(alloc, front)?;
+    match number_behind(&printed.err, front.as_str()) {
+        Some(moment) => Some(least <= moment && moment <= most),
+        None => Some(false),
+    }
+}
+
 /// Whether a file was written, with the octets of a block.
 fn is_written(alloc: Global, files: &Files<'_>, name: &str, lines: &str) -> Option<bool> {
     let heading = named(lines, "wrote", name, 0)?;
@@ -166,7 +189,8 @@ impl Row<'_> {
             Said::ErrFront(front) => begins(self.alloc, &printed.err, front),
             Said::Wrapped => is_wrapped(&printed.out),
             Said::Wrote(name) => is_written(self.alloc, self.files, name, self.lines),
-            Said::Bound(place) => Some(bound_of(place)? == printed.ended.bound),
+            Said::Bound(place) => Some(bound_of(place)? == printed.ended.bound?),
+            Said::Moment(words) => ends_in_moment(self.alloc, words, printed),
             _ => Some(true),
         }
     }
