@@ -90,10 +90,11 @@ fn bind_apart<M: Machine>(
             return Err(NoLink::NoClock);
         };
         match machine.bind(host, pair.port) {
-            Ok((link, address)) => {
+            Ok(bound) => {
+                let address = bound.1;
                 if !is_held(held, address) {
                     return Ok(NewLink {
-                        link,
+                        link: bound.0,
                         address,
                         pair,
                     });

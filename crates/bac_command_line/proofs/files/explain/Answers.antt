@@ -8,5 +8,5 @@ pub returns-in-Ok : goal.returns-in-Ok
 returns-in-Ok g c =
     printed_file _ c.args.capture.now.path.now _
     (λ (content : Option (List ℕ)). IsReportOf c.args.options c.args.capture.now.port content (g.O.Write.contents c.args.out.now)
-    (g.O.Write.contents c.explain_over.new.out) c.explain_over.result)
-    c.explain_over.result c.in-Ok.ensures.at c.explain_over.ensures
+    (g.O.Write.contents c.explain_over-status.new.out) c.explain_over-status.result)
+    c.explain_over-status.result c.in-Ok.ensures.at c.explain_over-status.ensures

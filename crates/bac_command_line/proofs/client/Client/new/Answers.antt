@@ -18,7 +18,7 @@ returns-clause-node g c =
                   on =
                       record {
                         link = bound.link;
-                        bound = c.in-Ok.ensures;
+                        bound = c.in-Ok.ensures.bound;
                         failed = c.in-Ok-bound_client.ensures.failures;
                         made = c.in-Ok-bound_client.ensures.calls;
                       };
