@@ -6,32 +6,30 @@ ghost use Rattle.bac_ask_report.specs.Objects.{IsObject, ask_object, asked_membe
 ghost use Rattle.bac_ask_report.specs.Records.{name_view, record_view};
 ghost use Rattle.bac_ask_report.specs.TimeForms.{IsTimeForm};
 ghost use Rattle.bac_json.specs.Forms.{optional_number, string_or_null};
+ghost use Rattle.bac_json.specs.Members.{Extends};
 ghost use Rattle.bac_json_report.specs.Lines.{IsLineOf};
 ghost use Rattle.bac_npdu.specs.Views.{peer_view};
 ghost use Rattle.bac_service.specs.Views.{property_reference_view};
 ghost use Rattle.bac_text.specs.Peers.{peer_text};
 ghost use Rattle.bac_text.specs.Texts.{AppendsText};
 ghost use Rattle.serde_json.specs.Data.{string};
-ghost use Rattle.serde_json.specs.View.{members_view, view};
+ghost use Rattle.serde_json.specs.View.{view};
 
 use crate::answer::{answer_of, status_word};
 use crate::members::{AnswerMembers, members_of};
 use crate::question::{object_asked, property_asked, verb};
 use crate::record::{AskRecord, LineName};
-use bac_json::{object_json, optional_json, property_json, text_json};
+use bac_json::{Members, object_json, optional_json, property_json, text_json};
 use bac_json_report::print_json;
 use bac_moment::{TimeText, time_text};
 use bac_npdu::Peer;
 use bac_service::PropertyReference;
 use bac_text::peer_text;
 use bac_value::NoMemory;
-use serde_json::{Map, Value as Json, put};
+use serde_json::Value as Json;
 use std::alloc::{AllocError, Global};
 use std::io;
 use std::io::Write;
-
-/// The members of an object of JSON.
-type Members = Map<String, Json>;
 
 /// The property; Null where none was asked for.
 fn property_or_null(alloc: Global, reference: Option<PropertyReference>) -> Result<Json, AllocError>
@@ -123,28 +121,26 @@ fn asked_members(alloc: Global, ask: &AskRecord<'_, '_, '_>) -> Result<AskedMemb
     })
 }
 
-fn put_asked(alloc: Global, asked: AskedMembers, members: &mut Members) -> Result<(), AllocError>
-    ensures { OnOk result (members_view members.new.entries ≡ with_asked (asked_members_view asked) (members_view members.old.entries)) }
+fn with_asked(asked: AskedMembers, object: Members) -> Members
+    ensures { Extends (with_asked (asked_members_view asked)) object result }
 {
-    put(members, alloc, "index", asked.index)?;
-    put(members, alloc, "line", asked.line)?;
-    put(members, alloc, "object", asked.named)?;
-    put(members, alloc, "peer", asked.peer)?;
-    put(members, alloc, "property", asked.property)?;
-    put(members, alloc, "request", asked.request)
+    object
+        .json("index", asked.index)
+        .json("line", asked.line)
+        .json("object", asked.named)
+        .json("peer", asked.peer)
+        .json("property", asked.property)
+        .json("request", asked.request)
 }
 
 /// The name of the line, where a line of the list has one.
-fn put_name(alloc: Global, name: LineName<'_>, members: &mut Members) -> Result<(), AllocError>
-    ensures { OnOk result (members_view members.new.entries ≡ with_name (name_view name.entry) (members_view members.old.entries)) }
+fn with_name(name: LineName<'_>, object: Members) -> Members
+    ensures { Extends (with_name (name_view name.entry)) object result }
 {
     match name {
-        LineName::Unnamed => Ok(()),
-        LineName::Without => put(members, alloc, "name", Json::Null),
-        LineName::Named(name) => {
-            let name = Json::try_from_str(alloc, name)?;
-            put(members, alloc, "name", name)
-        }
+        LineName::Unnamed => object,
+        LineName::Without => object.json("name", Json::Null),
+        LineName::Named(name) => object.text("name", name),
     }
 }
 
@@ -177,25 +173,27 @@ fn end_members(
     })
 }
 
-fn put_end(alloc: Global, end: EndMembers, members: &mut Members) -> Result<(), AllocError>
-    ensures { OnOk result (members_view members.new.entries ≡ with_end (end_members_view end) (members_view members.old.entries)) }
+fn with_end(end: EndMembers, object: Members) -> Members
+    ensures { Extends (with_end (end_members_view end)) object result }
 {
-    put(members, alloc, "round", end.round)?;
-    put(members, alloc, "status", end.status)?;
-    put(members, alloc, "text", end.text)?;
-    put(members, alloc, "time", end.time)
+    object
+        .json("round", end.round)
+        .json("status", end.status)
+        .json("text", end.text)
+        .json("time", end.time)
 }
 
-fn put_answer(alloc: Global, answer: AnswerMembers, members: &mut Members) -> Result<(), AllocError>
-    ensures { OnOk result (members_view members.new.entries ≡ with_answer (answer_members_view answer) (members_view members.old.entries)) }
+fn with_answer(answer: AnswerMembers, object: Members) -> Members
+    ensures { Extends (with_answer (answer_members_view answer)) object result }
 {
-    put(members, alloc, "class", answer.class)?;
-    put(members, alloc, "code", answer.code)?;
-    put(members, alloc, "end", answer.end)?;
-    put(members, alloc, "octets", answer.octets)?;
-    put(members, alloc, "position", answer.position)?;
-    put(members, alloc, "reason", answer.reason)?;
-    put(members, alloc, "values", answer.values)
+    object
+        .json("class", answer.class)
+        .json("code", answer.code)
+        .json("end", answer.end)
+        .json("octets", answer.octets)
+        .json("position", answer.position)
+        .json("reason", answer.reason)
+        .json("values", answer.values)
 }
 
 // ---- the object
@@ -209,12 +207,8 @@ fn ask_object(
 ) -> Result<Json, AllocError>
     ensures { IfOk result (λ v. view v ≡ ask_object (name_view name.entry) (asked_members_view asked) (end_members_view end) (answer_members_view answer)) }
 {
-    let mut members = Map::new(alloc);
-    put_asked(alloc, asked, &mut members)?;
-    put_name(alloc, name, &mut members)?;
-    put_end(alloc, end, &mut members)?;
-    put_answer(alloc, answer, &mut members)?;
-    Ok(Json::Object(members))
+    let object = with_name(name, with_asked(asked, Members::new(alloc)));
+    with_answer(answer, with_end(end, object)).end()
 }
 
 #[tactic(auto, using(crate::proofs::Told::object_told))]

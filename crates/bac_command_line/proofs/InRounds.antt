@@ -25,7 +25,7 @@ round_begun Round from began succeeded before rested after told old new rests te
 
 -- what is done from here on completes what all rounds do
 pub one_more_round : (Round : Doing) (every left from began next : ℕ) (so_far succeeded now rest : Bool) (before middle after : Timed)
-    (old between new : Option (List ℕ)) (Whole : Bool → Timed → Option (List ℕ) → Type 0) → now ≡ so_far && succeeded → next ≡ next_from every began
+    (old between new : Option (List ℕ)) (Whole : Bool → Timed → Option (List ℕ) → Type 0) → now ≡ so_far && succeeded → next ≡ next_from every from began
     → BeginsRound Round from began succeeded before middle old between
     → ((all : Bool) (last : Timed) (end : Option (List ℕ)) → AreRoundsFrom Round every (suc left) from all before last old end → Whole (so_far && all) last end)
     → AreRoundsFrom Round every left next rest middle after between new → Whole (now && rest) after new

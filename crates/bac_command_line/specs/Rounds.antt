@@ -1,5 +1,5 @@
 -- What a node does beside a clock, and does again in rounds.
-use Rattle.std.specs.Prelude.{◌≡◌, ℕ, zero, suc, ◌+◌, min, Bool, true, ◌&&◌, List, Option, Some, None}
+use Rattle.std.specs.Prelude.{◌≡◌, ℕ, zero, suc, ◌+◌, min, nat_lt, if◌then◌else◌, Bool, true, ◌&&◌, List, Option, Some, None}
 use Rattle.bac_driver.specs.Moments.{with_moment}
 use Rattle.bac_driver.specs.Runs.{Timed, timed}
 use Rattle.bac_driver.specs.Serving.{Serves}
@@ -36,9 +36,10 @@ pub record BeginsRound (Round : Doing) (from began : ℕ) (all : Bool) (before a
   pub rests : Rests from before rested
   pub does : Round all (timed rested.bound_node (with_moment rested.told began)) after old new
 
--- a round may begin so many milliseconds after the one before it began
-abbrev pub next_from : (every began : ℕ) → ℕ
-next_from every began = min (began + every) MOST
+-- after a round that might begin from one moment on and began at another, the next may begin so many milliseconds after the former; where that had come when
+-- the round began, after the latter
+abbrev pub next_from : (every from began : ℕ) → ℕ
+next_from every from began = if nat_lt began (min (from + every) MOST) then min (from + every) MOST else min (began + every) MOST
 
 -- a round that may begin from that moment on, and then the others, by the moment at which it began
 pub record IsRound (Round : Doing) (Others : (from : ℕ) → Doing) (every from : ℕ) (all : Bool) (before after : Timed) (old new : Option (List ℕ)) : Type 0 where
@@ -48,7 +49,7 @@ pub record IsRound (Round : Doing) (Others : (from : ℕ) → Doing) (every from
   pub middle : Timed
   pub between : Option (List ℕ)
   pub first : BeginsRound Round from began succeeded before middle old between
-  pub others : Others (next_from every began) rest middle after between new
+  pub others : Others (next_from every from began) rest middle after between new
   pub is : all ≡ succeeded && rest
 
 -- so many rounds

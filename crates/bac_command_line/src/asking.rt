@@ -20,7 +20,7 @@ use clap::ArgMatches;
 /// How often it asks the same.
 #[derive(Clone, Copy, PartialEq, Eq)]
 pub(crate) struct Rounds {
-    /// A round begins so many milliseconds after the one before it began.
+    /// A round begins so many milliseconds after the one before it was to begin.
     pub every: u64,
     /// How many rounds there are; None for any number.
     pub times: Option<u64>,
@@ -37,11 +37,17 @@ impl Rounds {
         }
     }
 
-    /// When the next round may begin, where one began at that moment.
-    pub(crate) fn next_from(&self, began: u64) -> u64
-        ensures { result ≡ next_from self.now.every began }
+    /// When the next round may begin, after one that might begin from a moment on and began at another: rounds do not drift, and those that are late by a
+    /// whole interval or more are left out.
+    pub(crate) fn next_from(&self, from: u64, began: u64) -> u64
+        ensures { result ≡ next_from self.now.every from began }
     {
-        began.saturating_add(self.every)
+        let due = from.saturating_add(self.every);
+        if began < due {
+            due
+        } else {
+            began.saturating_add(self.every)
+        }
     }
 }
 

@@ -110,11 +110,19 @@ fn bad_host<'a>(given: &ArgMatches<'a>) -> Option<(&'a str, &'static str)> {
     }
 }
 
+/// What is wanted in place of a text that is no address of a node.
+fn wanted_of_link(text: &str) -> &'static str {
+    match read_end(text) {
+        Some(_) => "address of a node",
+        None => "A.B.C.D or A.B.C.D:P",
+    }
+}
+
 /// The text behind `--to` or `--route` that is no address or route, and the form that is wanted.
 fn bad_node<'a>(given: &ArgMatches<'a>) -> Option<(&'a str, &'static str)> {
     if let Some(to) = given.get_str("to") {
         if read_link(to).is_none() {
-            return Some((to, "A.B.C.D or A.B.C.D:P"));
+            return Some((to, wanted_of_link(to)));
         }
     }
     let route = given.get_str("route")?;

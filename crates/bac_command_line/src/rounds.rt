@@ -207,7 +207,7 @@ fn ask_rounds<M: Machine, O: Write, E: Write>(
     for _ in 0..times {
         let round = ask_round(asking, client, asked, from, out, err)?;
         all = both(all, round.succeeded);
-        from = rounds.next_from(round.began);
+        from = rounds.next_from(from, round.began);
     }
     Ok(all)
 }

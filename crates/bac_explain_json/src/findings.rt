@@ -12,10 +12,11 @@ ghost use Rattle.serde_json.specs.View.{view};
 
 use bac_explain::{Finding, Step, TransactionKey};
 use bac_explain_report::Unread;
+use bac_json::Members;
 use bac_json_report::json_line;
 use bac_npdu::Peer;
 use bac_text::peer_text;
-use serde_json::{Value as Json, json};
+use serde_json::Value as Json;
 use std::alloc::{AllocError, Global};
 
 /// A peer, as `192.168.1.5:47808/5:2A`.
@@ -61,7 +62,11 @@ fn unread_json(alloc: Global, frame: u64, why: Unread) -> Result<Json, AllocErro
     ensures { IfOk result (λ v. view v ≡ unread_form frame why) }
 {
     let text = format!(in alloc; "{why}")?;
-    json!(in alloc; {"frame": frame, "kind": "unread", "text": text})
+    Members::new(alloc)
+        .number("frame", frame)
+        .text("kind", "unread")
+        .text("text", text.as_str())
+        .end()
 }
 
 /// A frame that cannot be read, as an object on a line.
@@ -82,12 +87,15 @@ fn finding_json(
 {
     let client = peer_json(alloc, key.client)?;
     let words = finding_words(alloc, finding)?;
-    let invoke_id = key.invoke_id;
     let server = peer_json(alloc, key.server)?;
-    json!(in alloc; {
-        "client": client, "finding": words, "frame": frame, "invoke_id": invoke_id,
-        "kind": "finding", "server": server
-    })
+    Members::new(alloc)
+        .json("client", client)
+        .json("finding", words)
+        .number("frame", frame)
+        .number("invoke_id", u64::from(key.invoke_id))
+        .text("kind", "finding")
+        .json("server", server)
+        .end()
 }
 
 /// What is wrong with a frame, if that is printed, as an object on a line.

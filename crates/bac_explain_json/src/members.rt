@@ -1,14 +1,10 @@
 //! The members of the object of a transaction, in groups.
-ghost use Rattle.std.specs.Prelude.{◌≡◌, OnOk};
 ghost use Rattle.bac_explain_json.specs.Members.{answered_view, asked_view, end_view, peers_view};
 ghost use Rattle.bac_explain_json.specs.Objects.{with_answered, with_asked, with_end, with_peers};
-ghost use Rattle.serde_json.specs.View.{members_view};
+ghost use Rattle.bac_json.specs.Members.{Extends};
 
-use serde_json::{Map, Value as Json, put};
-use std::alloc::{AllocError, Global};
-
-/// The members of an object of JSON.
-pub(crate) type Members = Map<String, Json>;
+use bac_json::Members;
+use serde_json::Value as Json;
 
 /// The client, the server and the invoke ID.
 #[derive(Drop)]
@@ -51,51 +47,54 @@ pub(crate) struct EndMembers {
 }
 
 impl PeerMembers {
-    pub(crate) fn put_in(self, alloc: Global, members: &mut Members) -> Result<(), AllocError>
-        ensures { OnOk result (members_view members.new.entries ≡ with_peers (peers_view self) (members_view members.old.entries)) }
+    pub(crate) fn put_in(self, object: Members) -> Members
+        ensures { Extends (with_peers (peers_view self)) object result }
     {
-        let kind = Json::try_from_str(alloc, "transaction")?;
-        put(members, alloc, "client", self.client)?;
-        put(members, alloc, "invoke_id", self.invoke_id)?;
-        put(members, alloc, "kind", kind)?;
-        put(members, alloc, "server", self.server)
+        object
+            .json("client", self.client)
+            .json("invoke_id", self.invoke_id)
+            .text("kind", "transaction")
+            .json("server", self.server)
     }
 }
 
 impl AskedMembers {
-    pub(crate) fn put_in(self, alloc: Global, members: &mut Members) -> Result<(), AllocError>
-        ensures { OnOk result (members_view members.new.entries ≡ with_asked (asked_view self) (members_view members.old.entries)) }
+    pub(crate) fn put_in(self, object: Members) -> Members
+        ensures { Extends (with_asked (asked_view self)) object result }
     {
-        put(members, alloc, "asked_at", self.asked_at)?;
-        put(members, alloc, "request", self.request)?;
-        put(members, alloc, "request_text", self.request_text)?;
-        put(members, alloc, "requests", self.requests)?;
-        put(members, alloc, "segments", self.segments)?;
-        put(members, alloc, "time", self.time)
+        object
+            .json("asked_at", self.asked_at)
+            .json("request", self.request)
+            .json("request_text", self.request_text)
+            .json("requests", self.requests)
+            .json("segments", self.segments)
+            .json("time", self.time)
     }
 }
 
 impl AnsweredMembers {
-    pub(crate) fn put_in(self, alloc: Global, members: &mut Members) -> Result<(), AllocError>
-        ensures { OnOk result (members_view members.new.entries ≡ with_answered (answered_view self) (members_view members.old.entries)) }
+    pub(crate) fn put_in(self, object: Members) -> Members
+        ensures { Extends (with_answered (answered_view self)) object result }
     {
-        put(members, alloc, "after", self.after)?;
-        put(members, alloc, "answer", self.answer)?;
-        put(members, alloc, "answer_segments", self.answer_segments)?;
-        put(members, alloc, "answer_text", self.answer_text)?;
-        put(members, alloc, "answers", self.answers)
+        object
+            .json("after", self.after)
+            .json("answer", self.answer)
+            .json("answer_segments", self.answer_segments)
+            .json("answer_text", self.answer_text)
+            .json("answers", self.answers)
     }
 }
 
 impl EndMembers {
-    pub(crate) fn put_in(self, alloc: Global, members: &mut Members) -> Result<(), AllocError>
-        ensures { OnOk result (members_view members.new.entries ≡ with_end (end_view self) (members_view members.old.entries)) }
+    pub(crate) fn put_in(self, object: Members) -> Members
+        ensures { Extends (with_end (end_view self)) object result }
     {
-        put(members, alloc, "findings", self.findings)?;
-        put(members, alloc, "frames", self.frames)?;
-        put(members, alloc, "given_up", self.given_up)?;
-        put(members, alloc, "negative_acks", self.negative_acks)?;
-        put(members, alloc, "status", self.status)?;
-        put(members, alloc, "unanswered", self.unanswered)
+        object
+            .json("findings", self.findings)
+            .json("frames", self.frames)
+            .json("given_up", self.given_up)
+            .json("negative_acks", self.negative_acks)
+            .json("status", self.status)
+            .json("unanswered", self.unanswered)
     }
 }

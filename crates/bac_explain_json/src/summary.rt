@@ -6,8 +6,9 @@ ghost use Rattle.bac_json_report.specs.Lines.{IsLineOf};
 ghost use Rattle.serde_json.specs.View.{view};
 
 use bac_explain_report::Tally;
+use bac_json::Members;
 use bac_json_report::json_line;
-use serde_json::{Value as Json, json};
+use serde_json::Value as Json;
 use std::alloc::{AllocError, Global};
 
 /// A number; Null where there is none.
@@ -23,15 +24,19 @@ fn number_or_null(number: Option<u64>) -> Json
 fn summary_json(alloc: Global, tally: Tally) -> Result<Json, AllocError>
     ensures { IfOk result (λ v. view v ≡ summary_form tally) }
 {
-    let (aborted, answered, findings) = (tally.aborted, tally.answered, tally.findings);
-    let (frames, rejected, shown) = (tally.frames, tally.rejected, tally.shown);
-    let slowest = number_or_null(tally.slowest);
-    let (transactions, unanswered, unread) = (tally.transactions, tally.unanswered, tally.unread);
-    json!(in alloc; {
-        "aborted": aborted, "answered": answered, "findings": findings, "frames": frames,
-        "kind": "summary", "rejected": rejected, "shown": shown, "slowest": slowest,
-        "transactions": transactions, "unanswered": unanswered, "unread": unread
-    })
+    Members::new(alloc)
+        .number("aborted", tally.aborted)
+        .number("answered", tally.answered)
+        .number("findings", tally.findings)
+        .number("frames", tally.frames)
+        .text("kind", "summary")
+        .number("rejected", tally.rejected)
+        .number("shown", tally.shown)
+        .json("slowest", number_or_null(tally.slowest))
+        .number("transactions", tally.transactions)
+        .number("unanswered", tally.unanswered)
+        .number("unread", tally.unread)
+        .end()
 }
 
 /// The counts as an object on a line.

@@ -21,11 +21,11 @@ use crate::members::{AnsweredMembers, AskedMembers, EndMembers, PeerMembers};
 use bac_apdu::{Apdu, read};
 use bac_explain::{Closed, Sent, Transaction, TransactionKey};
 use bac_explain_report::{asked_words, ending_of, is_unanswered, told_words};
-use bac_json::text_json;
+use bac_json::{Members, text_json};
 use bac_json_report::json_line;
 use bac_moment::{TimeText, time_text};
 use bac_value::NoMemory;
-use serde_json::{Map, Value as Json};
+use serde_json::Value as Json;
 use std::alloc::{AllocError, Global};
 
 fn peer_members(alloc: Global, key: TransactionKey) -> Result<PeerMembers, AllocError>
@@ -166,12 +166,8 @@ fn transaction_object(
 ) -> Result<Json, AllocError>
     ensures { IfOk result (λ v. view v ≡ transaction_object (peers_view peers) (asked_view asked) (answered_view answered) (end_view end)) }
 {
-    let mut members = Map::new(alloc);
-    peers.put_in(alloc, &mut members)?;
-    asked.put_in(alloc, &mut members)?;
-    answered.put_in(alloc, &mut members)?;
-    end.put_in(alloc, &mut members)?;
-    Ok(Json::Object(members))
+    let object = asked.put_in(peers.put_in(Members::new(alloc)));
+    end.put_in(answered.put_in(object)).end()
 }
 
 #[tactic(auto, using(crate::proofs::Told::object_told))]

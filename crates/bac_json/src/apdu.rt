@@ -5,10 +5,11 @@ ghost use Rattle.bac_apdu.specs.Views.{apdu_view, limits_view, segment_view};
 ghost use Rattle.bac_json.specs.Layers.{abort_apdu_form, apdu_form, error_apdu_form, optional_segment, reject_apdu_form, request_apdu_form, segment_ack_form};
 ghost use Rattle.serde_json.specs.View.{view};
 
+use crate::members::Members;
 use crate::text::octets_json;
 use bac_apdu::{Apdu, Limits, Segment};
 use bac_value_text::{abort_text, error_text, reject_text};
-use serde_json::{Value as Json, json};
+use serde_json::Value as Json;
 use std::alloc::{AllocError, Global};
 
 /// The numbers of a segment; Null unless the APDU is one.
@@ -18,8 +19,11 @@ fn segment_json(alloc: Global, segment: Option<Segment>) -> Result<Json, AllocEr
     let Some(segment) = segment else {
         return Ok(Json::Null);
     };
-    let (more, number, window) = (segment.more, segment.number, segment.window.size);
-    json!(in alloc; {"more": more, "seq": number, "win": window})
+    Members::new(alloc)
+        .flag("more", segment.more)
+        .number("seq", u64::from(segment.number))
+        .number("win", u64::from(segment.window.size))
+        .end()
 }
 
 /// A Confirmed-Request.
@@ -33,14 +37,18 @@ fn request_apdu_json(
 ) -> Result<Json, AllocError>
     ensures { IfOk result (λ v. view v ≡ request_apdu_form (limits_view limits) id (option_map segment_view segment) choice service.now) }
 {
-    let takes = limits.takes_segments;
-    let (segments, octets) = (limits.max_segments, limits.max_apdu);
     let segment = segment_json(alloc, segment)?;
     let data = octets_json(alloc, service)?;
-    json!(in alloc; {
-        "apdu": octets, "choice": choice, "data": data, "id": id, "kind": "confirmed-request",
-        "sa": takes, "segment": segment, "segs": segments
-    })
+    Members::new(alloc)
+        .number("apdu", u64::from(limits.max_apdu))
+        .number("choice", u64::from(choice))
+        .json("data", data)
+        .number("id", u64::from(id))
+        .text("kind", "confirmed-request")
+        .flag("sa", limits.takes_segments)
+        .json("segment", segment)
+        .number("segs", u64::from(limits.max_segments))
+        .end()
 }
 
 fn segment_ack_json(
@@ -53,7 +61,14 @@ fn segment_ack_json(
 ) -> Result<Json, AllocError>
     ensures { IfOk result (λ v. view v ≡ segment_ack_form nak server id number window) }
 {
-    json!(in alloc; {"id": id, "kind": "segment-ack", "nak": nak, "seq": number, "srv": server, "win": window})
+    Members::new(alloc)
+        .number("id", u64::from(id))
+        .text("kind", "segment-ack")
+        .flag("nak", nak)
+        .number("seq", u64::from(number))
+        .flag("srv", server)
+        .number("win", u64::from(window))
+        .end()
 }
 
 /// An Error: its numbers, and in words what they mean.
@@ -67,7 +82,14 @@ fn error_apdu_json(
     ensures { IfOk result (λ v. view v ≡ error_apdu_form id choice class code) }
 {
     let text = error_text(alloc, class, code)?;
-    json!(in alloc; {"choice": choice, "class": class, "code": code, "id": id, "kind": "error", "text": text})
+    Members::new(alloc)
+        .number("choice", u64::from(choice))
+        .number("class", u64::from(class))
+        .number("code", u64::from(code))
+        .number("id", u64::from(id))
+        .text("kind", "error")
+        .text("text", text.as_str())
+        .end()
 }
 
 /// A Reject: its reason, and in words what it means.
@@ -75,7 +97,12 @@ fn reject_apdu_json(alloc: Global, id: u8, reason: u8) -> Result<Json, AllocErro
     ensures { IfOk result (λ v. view v ≡ reject_apdu_form id reason) }
 {
     let text = reject_text(alloc, reason)?;
-    json!(in alloc; {"id": id, "kind": "reject", "reason": reason, "text": text})
+    Members::new(alloc)
+        .number("id", u64::from(id))
+        .text("kind", "reject")
+        .number("reason", u64::from(reason))
+        .text("text", text.as_str())
+        .end()
 }
 
 /// An Abort: its reason, and in words what it means.
@@ -83,7 +110,13 @@ fn abort_apdu_json(alloc: Global, server: bool, id: u8, reason: u8) -> Result<Js
     ensures { IfOk result (λ v. view v ≡ abort_apdu_form server id reason) }
 {
     let text = abort_text(alloc, reason)?;
-    json!(in alloc; {"id": id, "kind": "abort", "reason": reason, "srv": server, "text": text})
+    Members::new(alloc)
+        .number("id", u64::from(id))
+        .text("kind", "abort")
+        .number("reason", u64::from(reason))
+        .flag("srv", server)
+        .text("text", text.as_str())
+        .end()
 }
 
 /// An APDU: its kind and its members, under the names that `decode` prints. An Err is out of memory.
@@ -100,12 +133,20 @@ pub fn apdu_json(alloc: Global, apdu: Apdu<'_>) -> Result<Json, AllocError>
         } => request_apdu_json(alloc, limits, invoke_id, segment, choice, service),
         Apdu::UnconfirmedRequest { choice, service } => {
             let data = octets_json(alloc, service)?;
-            json!(in alloc; {"choice": choice, "data": data, "kind": "unconfirmed-request"})
+            Members::new(alloc)
+                .number("choice", u64::from(choice))
+                .json("data", data)
+                .text("kind", "unconfirmed-request")
+                .end()
         }
         Apdu::SimpleAck {
             invoke_id: id,
             choice,
-        } => json!(in alloc; {"choice": choice, "id": id, "kind": "simple-ack"}),
+        } => Members::new(alloc)
+            .number("choice", u64::from(choice))
+            .number("id", u64::from(id))
+            .text("kind", "simple-ack")
+            .end(),
         Apdu::ComplexAck {
             invoke_id: id,
             segment,
@@ -114,7 +155,13 @@ pub fn apdu_json(alloc: Global, apdu: Apdu<'_>) -> Result<Json, AllocError>
         } => {
             let segment = segment_json(alloc, segment)?;
             let data = octets_json(alloc, service)?;
-            json!(in alloc; {"choice": choice, "data": data, "id": id, "kind": "complex-ack", "segment": segment})
+            Members::new(alloc)
+                .number("choice", u64::from(choice))
+                .json("data", data)
+                .number("id", u64::from(id))
+                .text("kind", "complex-ack")
+                .json("segment", segment)
+                .end()
         }
         Apdu::SegmentAck {
             nak,

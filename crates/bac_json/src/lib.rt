@@ -6,6 +6,7 @@
 
 mod apdu;
 mod layers;
+mod members;
 mod npdu;
 mod reply;
 mod request;
@@ -14,6 +15,7 @@ mod value;
 
 pub use apdu::apdu_json;
 pub use layers::{Layers, datagram_layers, npdu_layers};
+pub use members::Members;
 pub use npdu::npdu_json;
 pub use reply::{complex_json, reason_json, reply_json};
 pub use request::request_json;

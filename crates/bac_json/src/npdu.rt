@@ -6,9 +6,10 @@ ghost use Rattle.bac_json.specs.Layers.{npdu_form, optional_destination, optiona
 ghost use Rattle.bac_npdu.specs.Views.{destination_view, message_view, npdu_view, route_view};
 ghost use Rattle.serde_json.specs.View.{view};
 
+use crate::members::Members;
 use crate::text::octets_json;
 use bac_npdu::{Destination, Message, Npdu, Route};
-use serde_json::{Value as Json, json};
+use serde_json::Value as Json;
 use std::alloc::{AllocError, Global};
 
 fn destination_json(alloc: Global, to: Option<Destination>) -> Result<Json, AllocError>
@@ -17,9 +18,12 @@ fn destination_json(alloc: Global, to: Option<Destination>) -> Result<Json, Allo
     let Some(to) = to else {
         return Ok(Json::Null);
     };
-    let (network, hops) = (to.network, to.hops);
     let address = octets_json(alloc, to.address.octets())?;
-    json!(in alloc; {"address": address, "hops": hops, "network": network})
+    Members::new(alloc)
+        .json("address", address)
+        .number("hops", u64::from(to.hops))
+        .number("network", u64::from(to.network))
+        .end()
 }
 
 fn source_json(alloc: Global, from: Option<Route>) -> Result<Json, AllocError>
@@ -28,9 +32,11 @@ fn source_json(alloc: Global, from: Option<Route>) -> Result<Json, AllocError>
     let Some(from) = from else {
         return Ok(Json::Null);
     };
-    let network = from.network;
     let address = octets_json(alloc, from.address.octets())?;
-    json!(in alloc; {"address": address, "network": network})
+    Members::new(alloc)
+        .json("address", address)
+        .number("network", u64::from(from.network))
+        .end()
 }
 
 /// The identifier of a vendor; Null where there is none.
@@ -53,19 +59,27 @@ fn message_json(
     let Some(message) = message else {
         return Ok(Json::Null);
     };
-    let kind = message.kind;
     let vendor = vendor_json(message.vendor);
     let octets = octets_json(alloc, contents)?;
-    json!(in alloc; {"octets": octets, "type": kind, "vendor": vendor})
+    Members::new(alloc)
+        .json("octets", octets)
+        .number("type", u64::from(message.kind))
+        .json("vendor", vendor)
+        .end()
 }
 
 /// An NPDU: its members, under the names that `decode` prints, with Null for those that it does not have. An Err is out of memory.
 pub fn npdu_json(alloc: Global, npdu: Npdu<'_>) -> Result<Json, AllocError>
     ensures { IfOk result (λ v. view v ≡ npdu_form (npdu_view npdu.entry)) }
 {
-    let (expecting, priority) = (npdu.expecting, npdu.priority);
     let to = destination_json(alloc, npdu.destination)?;
     let from = source_json(alloc, npdu.source)?;
     let message = message_json(alloc, npdu.message, npdu.contents)?;
-    json!(in alloc; {"expecting": expecting, "from": from, "message": message, "priority": priority, "to": to})
+    Members::new(alloc)
+        .flag("expecting", npdu.expecting)
+        .json("from", from)
+        .json("message", message)
+        .number("priority", u64::from(npdu.priority))
+        .json("to", to)
+        .end()
 }

@@ -4,6 +4,7 @@ ghost use Rattle.bac_json.specs.Replies.{IsComplexForm, IsPropertyForm, IsReplyF
 ghost use Rattle.bac_service.specs.Views.{complex_view, file_written_view, property_reference_view, reply_view};
 ghost use Rattle.serde_json.specs.View.{items_view, view};
 
+use crate::members::Members;
 use crate::text::{object_json, octets_json, optional_json, property_json};
 use crate::value::data_json;
 use bac_service::{
@@ -11,15 +12,19 @@ use bac_service::{
     Reply,
 };
 use bac_value::{Data, NoMemory};
-use serde_json::{Value as Json, json};
+use serde_json::Value as Json;
 use std::alloc::{AllocError, Global};
 
 fn file_read_json(alloc: Global, read: FileRead<Content<'_>>) -> Result<Json, AllocError>
     ensures { IfOk result (λ v. view v ≡ file_read_form read.entry.end_of_file read.entry.start read.entry.content.octets.now) }
 {
-    let (end, start) = (read.end_of_file, read.start);
     let octets = octets_json(alloc, read.content.octets)?;
-    json!(in alloc; {"end": end, "octets": octets, "position": start, "service": "read-file-ack"})
+    Members::new(alloc)
+        .flag("end", read.end_of_file)
+        .json("octets", octets)
+        .json("position", Json::from(read.start))
+        .text("service", "read-file-ack")
+        .end()
 }
 
 fn written_json(alloc: Global, written: FileWritten) -> Result<Json, AllocError>
@@ -27,10 +32,16 @@ fn written_json(alloc: Global, written: FileWritten) -> Result<Json, AllocError>
 {
     match written {
         FileWritten::Stream(start) => {
-            json!(in alloc; {"position": start, "service": "write-file-ack"})
+            Members::new(alloc)
+                .json("position", Json::from(start))
+                .text("service", "write-file-ack")
+                .end()
         }
         FileWritten::Records(start) => {
-            json!(in alloc; {"record": start, "service": "write-file-ack"})
+            Members::new(alloc)
+                .json("record", Json::from(start))
+                .text("service", "write-file-ack")
+                .end()
         }
     }
 }
@@ -46,10 +57,13 @@ fn property_object(
     let index = optional_json(reference.index);
     let object = object_json(alloc, reference.object)?;
     let property = property_json(alloc, reference.property)?;
-    json!(in alloc; {
-        "index": index, "object": object, "property": property, "service": "read-property-ack",
-        "values": values
-    })
+    Members::new(alloc)
+        .json("index", index)
+        .json("object", object)
+        .json("property", property)
+        .text("service", "read-property-ack")
+        .json("values", Json::Array(values))
+        .end()
 }
 
 fn property_read_json(alloc: Global, read: PropertyRead<Data<'_>>) -> Result<Json, NoMemory>
@@ -74,14 +88,19 @@ pub fn complex_json(alloc: Global, complex: Complex<'_>) -> Result<Json, NoMemor
 fn error_json(alloc: Global, class: u32, code: u32) -> Result<Json, AllocError>
     ensures { IfOk result (λ v. view v ≡ error_form class code) }
 {
-    json!(in alloc; {"class": class, "code": code})
+    Members::new(alloc)
+        .number("class", u64::from(class))
+        .number("code", u64::from(code))
+        .end()
 }
 
 /// The reason of a Reject or an Abort. An Err is out of memory.
 pub fn reason_json(alloc: Global, reason: u8) -> Result<Json, AllocError>
     ensures { IfOk result (λ v. view v ≡ reason_form reason) }
 {
-    json!(in alloc; {"reason": reason})
+    Members::new(alloc)
+        .number("reason", u64::from(reason))
+        .end()
 }
 
 /// What a reply says: of a ComplexACK its service data, of an Error its class and code, of a Reject its reason; Null for a SimpleACK. An Err is out of

@@ -6,6 +6,7 @@ ghost use Rattle.bac_service.specs.Views.{lent, priority_view, property_referenc
 ghost use Rattle.bac_value.specs.Views.{object_identifier_view};
 ghost use Rattle.serde_json.specs.View.{items_view, view};
 
+use crate::members::Members;
 use crate::text::{object_json, octets_json, optional_json, property_json};
 use crate::value::data_json;
 use bac_service::{
@@ -13,7 +14,7 @@ use bac_service::{
     WriteAccess, WriteFile, WriteProperty,
 };
 use bac_value::{Data, NoMemory};
-use serde_json::{Value as Json, json};
+use serde_json::Value as Json;
 use std::alloc::{AllocError, Global};
 
 fn read_file_json(alloc: Global, read: ReadFile) -> Result<Json, AllocError>
@@ -22,10 +23,20 @@ fn read_file_json(alloc: Global, read: ReadFile) -> Result<Json, AllocError>
     let file = object_json(alloc, read.file)?;
     match read.access {
         ReadAccess::Stream { start, count } => {
-            json!(in alloc; {"count": count, "object": file, "position": start, "service": "read-file"})
+            Members::new(alloc)
+                .number("count", u64::from(count))
+                .json("object", file)
+                .json("position", Json::from(start))
+                .text("service", "read-file")
+                .end()
         }
         ReadAccess::Records { start, count } => {
-            json!(in alloc; {"count": count, "object": file, "record": start, "service": "read-records"})
+            Members::new(alloc)
+                .number("count", u64::from(count))
+                .json("object", file)
+                .json("record", Json::from(start))
+                .text("service", "read-records")
+                .end()
         }
     }
 }
@@ -39,14 +50,21 @@ fn write_file_json(
     let file = object_json(alloc, write.file)?;
     match write.access {
         WriteAccess::Stream(stream) => {
-            let start = stream.start;
             let octets = octets_json(alloc, stream.content.octets)?;
-            json!(in alloc; {"object": file, "octets": octets, "position": start, "service": "write-file"})
+            Members::new(alloc)
+                .json("object", file)
+                .json("octets", octets)
+                .json("position", Json::from(stream.start))
+                .text("service", "write-file")
+                .end()
         }
         WriteAccess::Records(write) => {
-            let start = write.start;
-            let count = write.records.count;
-            json!(in alloc; {"count": count, "object": file, "record": start, "service": "write-records"})
+            Members::new(alloc)
+                .number("count", u64::from(write.records.count))
+                .json("object", file)
+                .json("record", Json::from(write.start))
+                .text("service", "write-records")
+                .end()
         }
     }
 }
@@ -57,7 +75,12 @@ fn reference_json(alloc: Global, reference: PropertyReference) -> Result<Json, A
     let index = optional_json(reference.index);
     let object = object_json(alloc, reference.object)?;
     let property = property_json(alloc, reference.property)?;
-    json!(in alloc; {"index": index, "object": object, "property": property, "service": "read-property"})
+    Members::new(alloc)
+        .json("index", index)
+        .json("object", object)
+        .json("property", property)
+        .text("service", "read-property")
+        .end()
 }
 
 /// A priority; Null where there is none.
@@ -83,10 +106,14 @@ fn write_object(
     let object = object_json(alloc, reference.object)?;
     let property = property_json(alloc, reference.property)?;
     let priority = priority_json(priority);
-    json!(in alloc; {
-        "index": index, "object": object, "priority": priority, "property": property,
-        "service": "write-property", "values": values
-    })
+    Members::new(alloc)
+        .json("index", index)
+        .json("object", object)
+        .json("priority", priority)
+        .json("property", property)
+        .text("service", "write-property")
+        .json("values", Json::Array(values))
+        .end()
 }
 
 fn write_property_json(alloc: Global, write: WriteProperty<Data<'_>>) -> Result<Json, NoMemory>

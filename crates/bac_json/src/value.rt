@@ -8,10 +8,11 @@ ghost use Rattle.serde_json.specs.Data.{null};
 ghost use Rattle.serde_json.specs.Find.{get};
 ghost use Rattle.serde_json.specs.View.{items_view, view};
 
+use crate::members::Members;
 use crate::text::{number_json, octets_json, text_json, text_of};
 use bac_value::{CharacterString, Data, Element, Form, NoMemory, Value, value_of};
 use bac_value_text::{Separator, parts_at, value_text};
-use serde_json::{Value as Json, json};
+use serde_json::Value as Json;
 use std::alloc::{AllocError, Global};
 
 /// The characters of a string that is text: of set 0, and UTF-8.
@@ -68,7 +69,10 @@ fn named_json(alloc: Global, value: &Value, text: &[u8]) -> Result<Json, AllocEr
     let (kind, body) = kind_and_body(text);
     let kind = text_json(alloc, kind)?;
     let value = value_json(alloc, value, body)?;
-    json!(in alloc; {"kind": kind, "value": value})
+    Members::new(alloc)
+        .json("kind", kind)
+        .json("value", value)
+        .end()
 }
 
 /// An element with a context tag.
@@ -77,11 +81,21 @@ fn tagged_json(alloc: Global, element: Element<&[u8]>) -> Result<Json, AllocErro
 {
     let tag = element.tag.number;
     match element.tag.form {
-        Form::Opening => json!(in alloc; {"kind": "opening", "tag": tag}),
-        Form::Closing => json!(in alloc; {"kind": "closing", "tag": tag}),
+        Form::Opening => Members::new(alloc)
+            .text("kind", "opening")
+            .number("tag", u64::from(tag))
+            .end(),
+        Form::Closing => Members::new(alloc)
+            .text("kind", "closing")
+            .number("tag", u64::from(tag))
+            .end(),
         Form::Length(_) | Form::Boolean(_) => {
             let octets = octets_json(alloc, element.contents)?;
-            json!(in alloc; {"kind": "context", "octets": octets, "tag": tag})
+            Members::new(alloc)
+                .text("kind", "context")
+                .json("octets", octets)
+                .number("tag", u64::from(tag))
+                .end()
         }
     }
 }

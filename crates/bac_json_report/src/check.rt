@@ -19,8 +19,9 @@ use crate::line::print_json;
 use bac_capture::{
     FileFault, FileReport, Frame, LinkKind, OtherBvll, PacketFault, Ports, read_frame, report_over,
 };
+use bac_json::Members;
 use bac_text::{CheckError, Status, check_datagram};
-use serde_json::{Value as Json, json};
+use serde_json::Value as Json;
 use std::alloc::{AllocError, Global};
 use std::io;
 use std::io::{BufRead, ErrorKind, Write};
@@ -54,7 +55,11 @@ fn judge(frame: Frame<'_>, ports: Ports) -> Verdict
 fn bad_frame_json(alloc: Global, frame: u64, fault: Json) -> Result<Json, AllocError>
     ensures { IfOk result (λ v. view v ≡ bad_frame_form frame (view fault)) }
 {
-    json!(in alloc; {"fault": fault, "frame": frame, "type": "fault"})
+    Members::new(alloc)
+        .json("fault", fault)
+        .number("frame", frame)
+        .text("type", "fault")
+        .end()
 }
 
 fn print_bad<W: Write>(alloc: Global, frame: u64, fault: Json, out: &mut W) -> io::Result<()>
@@ -144,10 +149,13 @@ impl FileCheck {
     fn summary_json(&self) -> Result<Json, AllocError>
         ensures { IfOk result (λ v. view v ≡ summary_form (count_of self.now)) }
     {
-        let (frames, good, bad, other) = (self.frames, self.good, self.bad, self.other);
-        json!(in self.alloc; {
-            "bad": bad, "frames": frames, "good": good, "other": other, "type": "summary"
-        })
+        Members::new(self.alloc)
+            .number("bad", self.bad)
+            .number("frames", self.frames)
+            .number("good", self.good)
+            .number("other", self.other)
+            .text("type", "summary")
+            .end()
     }
 
     fn print_summary<W: Write>(&self, out: &mut W) -> io::Result<()>

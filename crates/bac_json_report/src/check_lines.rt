@@ -16,8 +16,9 @@ use crate::input::LINE_LIMIT;
 use crate::line::print_json;
 use crate::line_check::{LineCheck, Verdict};
 use crate::line_report::{LineReport, report_lines_over};
+use bac_json::Members;
 use bac_text::{CheckError, Status, check_datagram, read_capture_line, read_of};
-use serde_json::{Value as Json, json};
+use serde_json::Value as Json;
 use std::alloc::{AllocError, Global};
 use std::io;
 use std::io::{BufRead, ErrorKind, Write};
@@ -59,7 +60,11 @@ fn judge(alloc: Global, notes: bool, line: &[u8], latest: u64) -> Result<(Verdic
 fn bad_line_json(alloc: Global, line: u64, fault: Json) -> Result<Json, AllocError>
     ensures { IfOk result (λ v. view v ≡ bad_line_form line (view fault)) }
 {
-    json!(in alloc; {"fault": fault, "line": line, "type": "fault"})
+    Members::new(alloc)
+        .json("fault", fault)
+        .number("line", line)
+        .text("type", "fault")
+        .end()
 }
 
 fn print_bad<W: Write>(alloc: Global, line: u64, fault: Json, out: &mut W) -> io::Result<()>
@@ -139,10 +144,13 @@ impl LineCheck {
         ensures { IfOk result (λ v. view v ≡ summary_form (count_of self.now)) }
     {
         let notes = self.notes_json();
-        let (lines, good, bad) = (self.lines, self.good, self.bad);
-        json!(in self.alloc; {
-            "bad": bad, "good": good, "lines": lines, "notes": notes, "type": "summary"
-        })
+        Members::new(self.alloc)
+            .number("bad", self.bad)
+            .number("good", self.good)
+            .number("lines", self.lines)
+            .json("notes", notes)
+            .text("type", "summary")
+            .end()
     }
 
     fn print_summary<W: Write>(&self, out: &mut W) -> io::Result<()>

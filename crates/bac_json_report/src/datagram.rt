@@ -8,10 +8,10 @@ ghost use Rattle.serde_json.specs.View.{view};
 
 use crate::fault::{fault_json, outer_fault_json};
 use crate::line::print_json;
-use bac_json::{Layers, datagram_layers};
+use bac_json::{Layers, Members, datagram_layers};
 use bac_text::{LayerFault, check_datagram};
 use bac_value::NoMemory;
-use serde_json::{Value as Json, json};
+use serde_json::Value as Json;
 use std::alloc::{AllocError, Global};
 use std::io;
 use std::io::{ErrorKind, Write};
@@ -36,11 +36,14 @@ fn datagram_object(
 ) -> Result<Json, AllocError>
     ensures { IfOk result (λ v. view v ≡ datagram_members line (view length) (view fault) (layers_view layers)) }
 {
-    let (apdu, npdu, service) = (layers.apdu, layers.npdu, layers.service);
-    json!(in alloc; {
-        "apdu": apdu, "fault": fault, "length": length, "line": line, "npdu": npdu,
-        "service": service
-    })
+    Members::new(alloc)
+        .json("apdu", layers.apdu)
+        .json("fault", fault)
+        .json("length", length)
+        .number("line", line)
+        .json("npdu", layers.npdu)
+        .json("service", layers.service)
+        .end()
 }
 
 /// A datagram, with the number of its line: how many octets it has, its layers and its fault. An Err is out of memory.

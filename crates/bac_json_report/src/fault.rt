@@ -6,10 +6,11 @@ ghost use Rattle.serde_json.specs.Data.{string};
 ghost use Rattle.serde_json.specs.View.{view};
 
 use bac_apdu::ApduFault;
+use bac_json::Members;
 use bac_text::{LayerFault, frame_reason};
 use bac_value::FaultKind;
 use bac_value_text::reject_text;
-use serde_json::{Value as Json, json};
+use serde_json::Value as Json;
 use std::alloc::{AllocError, Global};
 
 fn apdu_reason(fault: ApduFault) -> &'static str
@@ -61,15 +62,24 @@ fn reason_json(alloc: Global, fault: LayerFault) -> Result<Json, AllocError>
 pub fn fault_json(alloc: Global, fault: LayerFault) -> Result<Json, AllocError>
     ensures { IfOk result (λ v. view v ≡ fault_form fault) }
 {
-    let (layer, number) = (fault.name(), fault.number());
     let text = format!(in alloc; "{fault}")?;
     let words = reason_json(alloc, fault)?;
-    json!(in alloc; {"layer": layer, "number": number, "text": text, "words": words})
+    Members::new(alloc)
+        .text("layer", fault.name())
+        .number("number", u64::from(fault.number()))
+        .text("text", text.as_str())
+        .json("words", words)
+        .end()
 }
 
 /// The fault of what is around a datagram, as a line or a frame, which has no number.
 pub(crate) fn outer_fault_json(alloc: Global, layer: &str, text: &str) -> Result<Json, AllocError>
     ensures { IfOk result (λ v. view v ≡ outer_fault_form layer.now text.now) }
 {
-    json!(in alloc; {"layer": layer, "number": null, "text": text, "words": text})
+    Members::new(alloc)
+        .text("layer", layer)
+        .json("number", Json::Null)
+        .text("text", text)
+        .text("words", text)
+        .end()
 }

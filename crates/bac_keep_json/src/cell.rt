@@ -7,10 +7,10 @@ ghost use Rattle.bac_text.specs.Texts.{AppendsText};
 ghost use Rattle.bac_value.specs.Views.{object_identifier_view};
 ghost use Rattle.serde_json.specs.View.{view};
 
-use bac_json::{data_json, object_json, octets_json, property_json};
+use bac_json::{Members, data_json, object_json, octets_json, property_json};
 use bac_json_report::print_json;
 use bac_value::{NoMemory, ObjectIdentifier, read_data};
-use serde_json::{Value as Json, json};
+use serde_json::Value as Json;
 use std::alloc::{AllocError, Global};
 use std::io;
 use std::io::{ErrorKind, Write};
@@ -48,12 +48,13 @@ fn cell_object(
     ensures { IfOk result (λ v. view v ≡ cell_form (object_identifier_view object) (view cell.length) (view cell.octets) (view cell.property) (view cell.values)) }
 {
     let object = object_json(alloc, object)?;
-    let (length, octets) = (cell.length, cell.octets);
-    let (property, values) = (cell.property, cell.values);
-    json!(in alloc; {
-        "length": length, "object": object, "octets": octets, "property": property,
-        "values": values
-    })
+    Members::new(alloc)
+        .json("length", cell.length)
+        .json("object", object)
+        .json("octets", cell.octets)
+        .json("property", cell.property)
+        .json("values", cell.values)
+        .end()
 }
 
 /// Values as an array, or Null and their octets where they are none.

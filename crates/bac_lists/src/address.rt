@@ -39,12 +39,14 @@ fn read_port(text: &str) -> Option<u16> {
     if port == 0 { None } else { Some(port) }
 }
 
-/// The address that a text as `192.168.1.20:47809` is; without a port, which is 1 to 65,535, it is that of BACnet/IP. None of any other text.
+/// The address of a node that a text as `192.168.1.20:47809` is; without a port, which is 1 to 65,535, it is that of BACnet/IP. None of any other text, and of
+/// 0.0.0.0, which is no node's.
 pub fn read_link(text: &str) -> Option<LinkAddress> {
-    match text.split_once(':') {
-        Some((host, port)) => Some(link_at(read_host(host)?, read_port(port)?)),
-        None => Some(link_at(read_host(text)?, BACNET_PORT)),
+    let (host, port) = read_end(text)?;
+    if host == EVERY_HOST {
+        return None;
     }
+    Some(link_at(host, port.unwrap_or(BACNET_PORT)))
 }
 
 /// The address that a text as `192.168.1.20` or `192.168.1.20:47809` is, and its port, 1 to 65,535, if there is one. None of any other text.

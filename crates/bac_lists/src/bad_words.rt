@@ -1,6 +1,7 @@
 //! What is printed of words that are no request.
 ghost use Rattle.bac_text.specs.Statuses.{IsStop};
 
+use crate::near_names::name_like;
 use crate::source::{LinePlace, Source};
 use crate::value_forms::wanted_form;
 use bac_commands::Style;
@@ -26,12 +27,29 @@ fn separator_of(style: Style) -> &'static str {
     }
 }
 
-/// Which word is bad and what was wanted: of a value the form of its kind.
-fn reason_of(alloc: Global, bad: BadWord<'_>) -> Result<Vec<u8>, AllocError> {
-    let mut reason = bad.text(alloc)?;
-    if let (Wanted::Value, Some(word)) = (bad.wanted, bad.word) {
+/// What to write in place of a word that was wanted to be something: of a value the form of its kind, of an object or a property the name that is like it.
+fn add_advice(
+    alloc: Global,
+    wanted: Wanted,
+    word: &[u8],
+    reason: &mut Vec<u8>,
+) -> Result<(), AllocError> {
+    if wanted == Wanted::Value {
         reason.extend_from_slice(b": ")?;
         reason.extend_from_slice(wanted_form(word).as_bytes())?;
+    }
+    if let Some(name) = name_like(alloc, wanted, word)? {
+        reason.extend_from_slice(b", did you mean ")?;
+        reason.extend_from_slice(name.as_bytes())?;
+    }
+    Ok(())
+}
+
+/// Which word is bad, what was wanted, and what to write in its place.
+fn reason_of(alloc: Global, bad: BadWord<'_>) -> Result<Vec<u8>, AllocError> {
+    let mut reason = bad.text(alloc)?;
+    if let Some(word) = bad.word {
+        add_advice(alloc, bad.wanted, word, &mut reason)?;
     }
     Ok(reason)
 }

@@ -6,6 +6,7 @@ mod asker;
 mod bad_words;
 mod line_name;
 mod line_words;
+mod near_names;
 mod parts;
 mod question_lines;
 mod source;

@@ -5,26 +5,24 @@ ghost use Rattle.bac_log_json.specs.EventMembers.{datagram_view, members_view, w
 ghost use Rattle.bac_log_json.specs.Events.{IsEventForm, ask_members, event_form, fault_members, kind_view, kind_word, members_of, node_members, nulls, record_view, sent_members};
 ghost use Rattle.bac_log_json.specs.Events.{with_datagram, with_line, with_words};
 ghost use Rattle.bac_json.specs.Forms.{octets_form, optional_number, text_form};
+ghost use Rattle.bac_json.specs.Members.{Extends};
 ghost use Rattle.bac_npdu.specs.Views.{peer_view};
 ghost use Rattle.bac_text.specs.Peers.{peer_text};
 ghost use Rattle.bac_text.specs.Texts.{AppendsText};
 ghost use Rattle.serde_json.specs.Data.{string, unsigned};
 ghost use Rattle.serde_json.specs.Data.{number as whole};
 ghost use Rattle.serde_json.specs.Find.{of_integer};
-ghost use Rattle.serde_json.specs.View.{members_view as json_members, view};
+ghost use Rattle.serde_json.specs.View.{view};
 
 use crate::log::id_json;
-use bac_json::{octets_json, text_json};
+use bac_json::{Members, octets_json, text_json};
 use bac_json_report::print_json;
 use bac_npdu::Peer;
 use bac_text::peer_text;
-use serde_json::{Map, Value as Json, put};
+use serde_json::Value as Json;
 use std::alloc::{AllocError, Global};
 use std::io;
 use std::io::Write;
-
-/// The members of an object.
-type Members = Map<String, Json>;
 
 /// What came of an event.
 #[derive(Clone, Copy)]
@@ -316,44 +314,36 @@ fn members_of(alloc: Global, kind: EventKind<'_>) -> Result<EventMembers, AllocE
 }
 
 /// What a line tells, and where and when that came.
-fn put_line(
-    alloc: Global,
-    kind: &str,
-    line: Option<u64>,
-    moment: Option<u64>,
-    object: &mut Members,
-) -> Result<(), AllocError>
-    ensures { OnOk result (json_members object.new.entries ≡ with_line kind.now line moment (json_members object.old.entries)) }
+fn with_line(kind: &str, line: Option<u64>, moment: Option<u64>, object: Members) -> Members
+    ensures { Extends (with_line kind.now line moment) object result }
 {
-    let kind = Json::try_from_str(alloc, kind)?;
-    put(object, alloc, "line", number_json(line))?;
-    put(object, alloc, "moment", number_json(moment))?;
-    put(object, alloc, "type", kind)
+    object
+        .json("line", number_json(line))
+        .json("moment", number_json(moment))
+        .text("type", kind)
 }
 
-fn put_words(alloc: Global, words: WordMembers, object: &mut Members) -> Result<(), AllocError>
-    ensures { OnOk result (json_members object.new.entries ≡ with_words (words_view words) (json_members object.old.entries)) }
+fn with_words(words: WordMembers, object: Members) -> Members
+    ensures { Extends (with_words (words_view words)) object result }
 {
-    put(object, alloc, "ask", words.ask)?;
-    put(object, alloc, "fault", words.fault)?;
-    put(object, alloc, "id", words.id)?;
-    put(object, alloc, "node", words.node)?;
-    put(object, alloc, "pace", words.pace)?;
-    put(object, alloc, "peer", words.peer)?;
-    put(object, alloc, "text", words.text)
+    object
+        .json("ask", words.ask)
+        .json("fault", words.fault)
+        .json("id", words.id)
+        .json("node", words.node)
+        .json("pace", words.pace)
+        .json("peer", words.peer)
+        .json("text", words.text)
 }
 
-fn put_datagram(
-    alloc: Global,
-    datagram: DatagramMembers,
-    object: &mut Members,
-) -> Result<(), AllocError>
-    ensures { OnOk result (json_members object.new.entries ≡ with_datagram (datagram_view datagram) (json_members object.old.entries)) }
+fn with_datagram(datagram: DatagramMembers, object: Members) -> Members
+    ensures { Extends (with_datagram (datagram_view datagram)) object result }
 {
-    put(object, alloc, "from", datagram.from)?;
-    put(object, alloc, "number", datagram.number)?;
-    put(object, alloc, "octets", datagram.octets)?;
-    put(object, alloc, "to", datagram.to)
+    object
+        .json("from", datagram.from)
+        .json("number", datagram.number)
+        .json("octets", datagram.octets)
+        .json("to", datagram.to)
 }
 
 fn event_object(
@@ -365,11 +355,8 @@ fn event_object(
 ) -> Result<Json, AllocError>
     ensures { IfOk result (λ v. view v ≡ event_form kind.now line moment (members_view members)) }
 {
-    let mut object = Map::new(alloc);
-    put_line(alloc, kind, line, moment, &mut object)?;
-    put_words(alloc, members.words, &mut object)?;
-    put_datagram(alloc, members.datagram, &mut object)?;
-    Ok(Json::Object(object))
+    let object = with_line(kind, line, moment, Members::new(alloc));
+    with_datagram(members.datagram, with_words(members.words, object)).end()
 }
 
 fn object_of(alloc: Global, event: &EventRecord<'_>) -> Result<Json, AllocError>

@@ -14,14 +14,14 @@ ghost use Rattle.serde_json.specs.Data.{null, number, string, unsigned};
 ghost use Rattle.serde_json.specs.View.{view};
 
 use bac_ask_report::time_json;
-use bac_json::{optional_json, reply_json, request_json, text_json};
+use bac_json::{Members, optional_json, reply_json, request_json, text_json};
 use bac_json_report::print_json;
 use bac_keep_json::{KeptPart, cell_json};
 use bac_npdu::{LinkAddress, Peer};
 use bac_service::{Reply, Request};
 use bac_text::{link_text, peer_text};
 use bac_value::NoMemory;
-use serde_json::{Value as Json, json};
+use serde_json::Value as Json;
 use std::alloc::{AllocError, Global};
 use std::io;
 use std::io::{ErrorKind, Write};
@@ -263,14 +263,20 @@ fn log_object(
 ) -> Result<Json, AllocError>
     ensures { IfOk result (λ v. view v ≡ log_form kind.now moment (view time) (members_view members)) }
 {
-    let (change, count, id) = (members.change, members.count, members.id);
-    let (peer, request, reply) = (members.peer, members.request, members.reply);
-    let (text, wait, what) = (members.text, members.wait, members.what);
-    json!(in alloc; {
-        "change": change, "count": count, "id": id, "moment": moment, "peer": peer,
-        "reply": reply, "request": request, "text": text, "time": time, "type": kind,
-        "wait": wait, "what": what
-    })
+    Members::new(alloc)
+        .json("change", members.change)
+        .json("count", members.count)
+        .json("id", members.id)
+        .number("moment", moment)
+        .json("peer", members.peer)
+        .json("reply", members.reply)
+        .json("request", members.request)
+        .json("text", members.text)
+        .json("time", time)
+        .text("type", kind)
+        .json("wait", members.wait)
+        .json("what", members.what)
+        .end()
 }
 
 #[tactic(auto, using(crate::proofs::Told::log_told))]

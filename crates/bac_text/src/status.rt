@@ -46,7 +46,7 @@ pub fn no_memory<E: Write>(err: &mut E) -> Status
     complain(err, "no memory", Status::Memory)
 }
 
-/// The status of a command whose output failed: out of memory has a status of its own.
+/// Complains that standard output cannot be written, and of the reason, or of out of memory, which has a status of its own.
 pub fn output_failed<E: Write>(err: &mut E, error: &io::Error) -> Status
     ensures memory { error_kind error.now ≡ ErrorKind.OutOfMemory → result ≡ Memory }
     ensures output { error_kind error.now ≢ ErrorKind.OutOfMemory → result ≡ Output }
@@ -55,6 +55,9 @@ pub fn output_failed<E: Write>(err: &mut E, error: &io::Error) -> Status
     if error.kind() == ErrorKind::OutOfMemory {
         no_memory(err)
     } else {
-        complain(err, "cannot write", Status::Output)
+        let status = complain(err, "cannot write", Status::Output);
+        // if that fails too, only the status is left
+        let _ = writeln!(err, "standard output: {error}");
+        status
     }
 }

@@ -1,0 +1,82 @@
+//! The standard's name of an object type or a property that is most like a misspelled one.
+use bac_service_text::Wanted;
+use bac_value_text::{object_type_name, property_name};
+use std::alloc::{AllocError, Global};
+use std::str;
+
+/// How many letters may be missing, wrong or swapped in a word that is like a name.
+const MOST_EDITS: usize = 2;
+
+/// The standard names no type and no property with a greater number.
+const MOST_NUMBER: u32 = 1_023;
+
+/// A word with more octets is like no name.
+const MOST_OCTETS: usize = 64;
+
+/// A name, and how many edits lead there.
+#[derive(Clone, Copy)]
+struct Near {
+    name: &'static str,
+    edits: usize,
+}
+
+/// The name of that number, where an object or a property was wanted.
+fn name_of(wanted: Wanted, number: u32) -> Option<&'static str> {
+    match wanted {
+        Wanted::Object => object_type_name(number),
+        Wanted::Property => property_name(number),
+        _ => None,
+    }
+}
+
+/// The name in a word: what stands before the instance of an object, or before the index of a property.
+fn name_in(word: &[u8]) -> Option<&str> {
+    let end = match word.iter().position(|octet| matches!(*octet, b':' | b'[')) {
+        Some(end) => end,
+        None => word.len(),
+    };
+    if end > MOST_OCTETS {
+        return None;
+    }
+    str::from_utf8(&word[..end]).ok()
+}
+
+/// The one of two names that is more like a text.
+fn nearer(
+    alloc: Global,
+    text: &str,
+    near: Option<Near>,
+    name: &'static str,
+) -> Result<Option<Near>, AllocError> {
+    let fewest = match near {
+        Some(near) => near.edits,
+        None => MOST_EDITS.saturating_add(1),
+    };
+    let edits = strsim::osa_distance(alloc, text, name)?;
+    if edits < fewest {
+        Ok(Some(Near { name, edits }))
+    } else {
+        Ok(near)
+    }
+}
+
+/// The name that is most like that of a word, where that is misspelled and one is like it. An Err is out of memory.
+pub(crate) fn name_like(
+    alloc: Global,
+    wanted: Wanted,
+    word: &[u8],
+) -> Result<Option<&'static str>, AllocError> {
+    let Some(text) = name_in(word) else {
+        return Ok(None);
+    };
+    let mut near = None;
+    for number in 0..=MOST_NUMBER {
+        if let Some(name) = name_of(wanted, number) {
+            near = nearer(alloc, text, near, name)?;
+        }
+    }
+    match near {
+        Some(near) if near.edits > 0 => Ok(Some(near.name)),
+        _ => Ok(None),
+    }
+}
