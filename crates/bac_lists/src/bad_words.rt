@@ -27,6 +27,20 @@ fn separator_of(style: Style) -> &'static str {
     }
 }
 
+/// The name that is like a misspelled one, if there is one.
+fn add_name_like(
+    alloc: Global,
+    wanted: Wanted,
+    word: &[u8],
+    reason: &mut Vec<u8>,
+) -> Result<(), AllocError> {
+    if let Some(name) = name_like(alloc, wanted, word)? {
+        reason.extend_from_slice(b", did you mean ")?;
+        reason.extend_from_slice(name.as_bytes())?;
+    }
+    Ok(())
+}
+
 /// What to write in place of a word that was wanted to be something: of a value the form of its kind, of an object or a property the name that is like it.
 fn add_advice(
     alloc: Global,
@@ -34,15 +48,16 @@ fn add_advice(
     word: &[u8],
     reason: &mut Vec<u8>,
 ) -> Result<(), AllocError> {
-    if wanted == Wanted::Value {
-        reason.extend_from_slice(b": ")?;
-        reason.extend_from_slice(wanted_form(word).as_bytes())?;
+    match wanted {
+        Wanted::Value => {
+            reason.extend_from_slice(b": ")?;
+            reason.extend_from_slice(wanted_form(word).as_bytes())
+        }
+        Wanted::Data => reason.extend_from_slice(
+            b": whole values in hexadecimal wanted, or each by its kind, as real:72.5",
+        ),
+        _ => add_name_like(alloc, wanted, word, reason),
     }
-    if let Some(name) = name_like(alloc, wanted, word)? {
-        reason.extend_from_slice(b", did you mean ")?;
-        reason.extend_from_slice(name.as_bytes())?;
-    }
-    Ok(())
 }
 
 /// Which word is bad, what was wanted, and what to write in its place.

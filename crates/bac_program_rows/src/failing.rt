@@ -5,6 +5,9 @@ use crate::sink::Sink;
 use std::alloc::Global;
 use std::io::ErrorKind;
 
+/// What is complained of where a write or a flush fails.
+const FULL: &str = "cannot write\nstandard output: permission denied\n";
+
 /// A command line beside files, whose output fails.
 #[derive(Clone, Copy)]
 pub(crate) struct Failing<'a> {
@@ -25,7 +28,7 @@ impl Failing<'_> {
     fn is_told(&self, writes: u32) -> bool {
         let full = Sink::weak(self.alloc, writes, ErrorKind::PermissionDenied);
         let starved = Sink::weak(self.alloc, writes, ErrorKind::OutOfMemory);
-        self.ends_so(full, 3, "cannot write\n") && self.ends_so(starved, 4, "no memory\n")
+        self.ends_so(full, 3, FULL) && self.ends_so(starved, 4, "no memory\n")
     }
 
     /// Whether so many writes are enough, and the output is flushed behind them.
@@ -60,7 +63,7 @@ impl Failing<'_> {
     fn is_flush_told(&self) -> bool {
         let full = self.full(ErrorKind::PermissionDenied);
         let starved = self.full(ErrorKind::OutOfMemory);
-        self.ends_so(full, 3, "cannot write\n") && self.ends_so(starved, 4, "no memory\n")
+        self.ends_so(full, 3, FULL) && self.ends_so(starved, 4, "no memory\n")
     }
 
     /// Whether that is so of what a line `writes` says.

@@ -6,13 +6,15 @@ use std::io;
 use std::io::{BufReader, ErrorKind, Read, Write};
 use std::test::Fail;
 
+/// What is complained of where an output is too short.
+const FULL: &str = "cannot write\nstandard output: failed to write whole buffer\n";
+
 /// Whether decoding tells that an output of 3 octets is too short, and nothing more.
 fn fails_to_decode(alloc: Global) -> bool {
     let mut room = [0u8; 3];
     let mut out = room.as_mut_slice();
     let mut err = Vec::new(alloc);
-    decode_over(alloc, "", &mut out, &mut err).code() == 3
-        && err.as_slice() == b"cannot write\n".as_slice()
+    decode_over(alloc, "", &mut out, &mut err).code() == 3 && err.as_slice() == FULL.as_bytes()
 }
 
 /// The same of a check with an output of 30 octets.
@@ -22,7 +24,7 @@ fn fails_to_check(alloc: Global) -> bool {
     let mut out = room.as_mut_slice();
     let mut err = Vec::new(alloc);
     check_over(alloc, &mut input, &mut out, &mut err).code() == 3
-        && err.as_slice() == b"cannot write\n".as_slice()
+        && err.as_slice() == FULL.as_bytes()
 }
 
 #[test]

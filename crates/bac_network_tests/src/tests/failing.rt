@@ -86,7 +86,7 @@ fn writes_of(alloc: Global, fault: ErrorKind, status: u8) -> Option<usize> {
 fn tells_of_flush(alloc: Global) -> bool {
     let ended = ends(alloc, 1_000, false, ErrorKind::PermissionDenied);
     ended.status == 3
-        && ended.err.as_slice() == b"cannot write\n".as_slice()
+        && ended.err.as_slice() == b"cannot write\nstandard output: permission denied\n".as_slice()
         && ended.out.as_slice() == LINES.as_bytes()
 }
 
