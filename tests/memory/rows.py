@@ -1,5 +1,5 @@
 #!/usr/bin/env python3
-"""Takes the rows out of a file stdin whose titles end in [memory], each with the scene that it is played on, and what has to be printed of them out of a file
+"""Takes the rows of nodes out of a file stdin whose titles end in [memory], each with the scene that it is played on, and what has to be printed of them out of a file
 stdout:
     python3 tests/memory/rows.py STDIN STDOUT FOLDER
 writes FOLDER/N.in and FOLDER/N.out for the row of number N, and prints the names of the first ones."""
@@ -8,8 +8,12 @@ import sys
 from pathlib import Path
 
 
+SECTION = "@ nodes\n"
+
+
 def rows_of(path):
-    return ["=" + row for row in ("\n" + Path(path).read_text()).split("\n=")[1:]]
+    section = Path(path).read_text().partition(SECTION)[2].partition("\n@ ")[0]
+    return ["=" + row for row in ("\n" + section).split("\n=")[1:]]
 
 
 def main(stdin, stdout, folder):
@@ -19,8 +23,8 @@ def main(stdin, stdout, folder):
         if title.startswith("=scene "):
             scene, scene_printed = row.rstrip("\n") + "\n\n", "\n" + printed.rstrip("\n") + "\n"
         elif title.endswith("[memory]"):
-            (Path(folder) / f"{number}.in").write_text(scene + row.rstrip("\n") + "\n")
-            (Path(folder) / f"{number}.out").write_text(scene_printed + "\n" + printed.rstrip("\n") + "\n")
+            (Path(folder) / f"{number}.in").write_text(SECTION + scene + row.rstrip("\n") + "\n")
+            (Path(folder) / f"{number}.out").write_text(SECTION + scene_printed + "\n" + printed.rstrip("\n") + "\n\n")
             print(Path(folder) / f"{number}.in")
 
 

@@ -1,5 +1,5 @@
 #!/usr/bin/env python3
-"""Holds the frames of crates/bac_capture_rows/stdin against tshark: each that carries a datagram, by the file stdout beside it, must
+"""Holds the frames of captures in crates/bac_all_rows/stdin against tshark: each that carries a datagram, by the file stdout beside it, must
 carry it there too, and no other may. Prints what differs and is not known to, and a count. Needs tshark; needs no build."""
 import ipaddress
 import os
@@ -12,7 +12,8 @@ import tempfile
 
 import captures
 
-ROWS = os.path.join(os.path.dirname(__file__), "../../crates/bac_capture_rows")
+ROWS = os.path.join(os.path.dirname(__file__), "../../crates/bac_all_rows")
+SECTION = "@ captures\n"
 FRAME = re.compile(r"^(.*); (\d+) ([0-9A-F]*)$", re.M)
 CARRIED = re.compile(r"^(.*); (.*)$", re.M)
 OTHER = "another link layer"
@@ -43,6 +44,11 @@ def text_of(line):
     return f"{host(from4 or from6)}:{source} {host(to4 or to6)}:{target} {octets.upper()}"
 
 
+def section_of(name):
+    with open(f"{ROWS}/{name}") as file:
+        return file.read().partition(SECTION)[2].partition("\n@ ")[0]
+
+
 def rows_of(frames, carried):
     both = zip(FRAME.findall(frames), CARRIED.findall(carried), strict=True)
     named = [(*frame, text) for frame, (name, text) in both if frame[0] == name]
@@ -51,7 +57,7 @@ def rows_of(frames, carried):
 
 def main():
     captures.need("tshark")
-    rows = rows_of(open(f"{ROWS}/stdin").read(), open(f"{ROWS}/stdout").read())
+    rows = rows_of(section_of("stdin"), section_of("stdout"))
     wrong = 0
     for link in sorted({row[1] for row in rows}):
         some = [row for row in rows if row[1] == link]

@@ -102,8 +102,8 @@ fn play(alloc: Global, row: &str, out: &mut Vec<u8>) -> Option<()> {
     play_lines(alloc, kind_of(first(title).0)?, lines, out)
 }
 
-/// Each row of a text.
-pub(crate) fn play_all(alloc: Global, text: &str, out: &mut Vec<u8>) -> io::Result<()> {
+/// Plays each row of a text, and prints what comes of it. An Err is out of memory.
+pub fn play_all(alloc: Global, text: &str, out: &mut Vec<u8>) -> io::Result<()> {
     let rows = text.strip_prefix('=').unwrap_or(text);
     for row in rows.split("\n=") {
         if play(alloc, row, out).is_none() {

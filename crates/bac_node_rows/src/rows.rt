@@ -112,8 +112,8 @@ impl<'a, R: Net + Clock> Rows<'a, R> {
     }
 }
 
-/// Plays each row of a text; a row begins with `=`.
-pub(crate) fn play_all<R: Net + Clock>(
+/// Plays each row of a text, on links, clocks and sockets of that runtime, and prints what comes of it. An Err is out of memory.
+pub fn play_all<R: Net + Clock>(
     rt: &R,
     alloc: Global,
     text: &str,

@@ -1,6 +1,6 @@
-//! Plays rows from standard input: files, what is behind the links of a machine, a command line of `bac`, and what it has to print; and prints which rows hold.
+//! Plays rows of text: files, what is behind the links of a machine, a command line of `bac`, and what it has to print; and prints which rows hold.
 //!
-//! The file stdin beside src/ holds the rows, and stdout what the program has to print. A line that begins with `=` begins a group, and is its title. Blank
+//! The section `commands` of bac_all_rows/stdin holds the rows, and that of stdout what has to be printed. A line that begins with `=` begins a group, and is its title. Blank
 //! lines part its paragraphs. A paragraph with a line `$ WORDS` is a row: above that line stand the lines that set its scene, below it what the command line
 //! prints. Several `$` lines of a paragraph have one folder, one after the other. A paragraph without `$` sets the scene of all rows that follow in its group.
 //! For each group the program prints how many rows hold, of how many, and for each row that does not hold its command line after `! `, what that printed, and
@@ -54,13 +54,4 @@ mod sink;
 mod spelling;
 mod wanted;
 
-use std::io;
-use std::io::{Read, Write};
-
-fn main(rt: HostRuntime) -> io::Result<()> {
-    let mut text = String::new(rt.alloc());
-    rt.stdin().read_to_string(&mut text)?;
-    let mut out = Vec::new(rt.alloc());
-    rows::play_all(&rt, &text, &mut out)?;
-    rt.stdout().write_all(&out)
-}
+pub use rows::play_all;
