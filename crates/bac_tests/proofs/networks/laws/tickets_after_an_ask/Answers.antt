@@ -1,5 +1,5 @@
 -- The law of repeats, of keys that are apart.
-use Rattle.bac_network_tests.proofs.tests.laws.tickets_after_an_ask.Goals as goal
+use Rattle.bac_tests.proofs.networks.laws.tickets_after_an_ask.Goals as goal
 
 pub returns : goal.returns
 returns c =

@@ -1,7 +1,7 @@
 //! A link in memory that tells its calls.
 ghost use Rattle.std.specs.Prelude.{◌≡◌, ◌∷◌, ◌++◌, [], map, Some, IfOk, IfSome, IsOk, length, ◌≤◌};
 ghost use Rattle.bac_driver.specs.Calls.{received};
-ghost use Rattle.bac_network_tests.specs.Calls.{call_view};
+ghost use Rattle.bac_tests.specs.Calls.{call_view};
 
 use crate::noted_call::NotedCall;
 use bac_driver::{Link, LinkFault};

@@ -1,5 +1,5 @@
 -- The law of retries, of keys that are apart.
-use Rattle.bac_network_tests.proofs.tests.laws.replies_after_a_datagram.Goals as goal
+use Rattle.bac_tests.proofs.networks.laws.replies_after_a_datagram.Goals as goal
 
 pub returns : goal.returns
 returns c =

@@ -1,5 +1,5 @@
 use Rattle.std.proofs.Common.{◌≡◌}
-use Rattle.bac_keep_tests.proofs.tests.playing.keep_rounds.Given as goal
+use Rattle.bac_tests.proofs.keeping.playing.keep_rounds.Given as goal
 
 abbrev pub invariant-loop-at : goal.invariant-loop-at
 invariant-loop-at g l =
