@@ -92,6 +92,8 @@ pub(crate) struct ScriptFile<'a> {
     pub path: &'a str,
     /// Whether notes are taken.
     pub notes: bool,
+    /// Whether more is told of a bad line than that it is one, also where that is not wanted in words: on a terminal.
+    pub reasons: bool,
 }
 
 /// Checks the capture in a file: one of pcap or pcapng, or of lines; with counts of other functions by name or not. A file that cannot be opened: `cannot read`
@@ -171,8 +173,17 @@ pub(crate) fn simulate<F: OpenFiles, O: Write, E: Write>(
 {
     match opened(files, script.path, err) {
         Ok(mut file) => {
-            let status = simulate_lines_over(alloc, script.notes, &mut file, out, err);
-            print_unfit(status, script.path, NOTHING_HAPPENED, err);
+            let status = simulate_lines_over(
+                alloc,
+                script.notes,
+                script.reasons,
+                &mut file,
+                out,
+                err,
+            );
+            if script.reasons {
+                print_unfit(status, script.path, NOTHING_HAPPENED, err);
+            }
             status
         }
         Err(status) => status,

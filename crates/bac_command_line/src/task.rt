@@ -163,11 +163,11 @@ impl<'m, 'a> Task<'m, 'a> {
     }
 }
 
-/// None where there is no subcommand, or its word is missing; clap refuses such words itself. Also where an address is none of IPv4. The progress of asks is
-/// shown or not.
+/// None where there is no subcommand, or its word is missing; clap refuses such words itself. Also where an address is none of IPv4. On a terminal
+/// the progress of asks is shown, and what is wrong with a line of a script.
 pub(crate) fn task_of<'m, 'a>(
     matches: &'m ArgMatches<'a>,
-    shows_progress: bool,
+    is_terminal: bool,
 ) -> Option<Task<'m, 'a>> {
     match matches.subcommand()? {
         ("answer", given) => {
@@ -218,7 +218,11 @@ pub(crate) fn task_of<'m, 'a>(
         ("simulate", given) => {
             let path = given.get_str("FILE")?;
             let notes = given.get_flag("notes");
-            let script = ScriptFile { path, notes };
+            let script = ScriptFile {
+                path,
+                notes,
+                reasons: is_terminal,
+            };
             match view_of(given) {
                 Some(view) => Some(Task::Show { view, script }),
                 None => Some(Task::Simulate(script)),
@@ -256,7 +260,7 @@ pub(crate) fn task_of<'m, 'a>(
         }
         ("ask", given) if bad_pace(given).is_some() => None,
         ("ask", given) => {
-            let asking = asking_of(given, shows_progress);
+            let asking = asking_of(given, is_terminal);
             if let Some(path) = given.get_str("lines") {
                 let default = default_of(given)?;
                 return Some(Task::AskLines {
@@ -278,11 +282,11 @@ pub(crate) fn task_of<'m, 'a>(
             })
         }
         ("backup", given) => Some(Task::Files {
-            task: file_task_of(given, shows_progress)?,
+            task: file_task_of(given, is_terminal)?,
             work: backup_of(given)?,
         }),
         ("restore", given) => Some(Task::Files {
-            task: file_task_of(given, shows_progress)?,
+            task: file_task_of(given, is_terminal)?,
             work: FileWork::Restore(given.get_str("folder")?),
         }),
         ("pair", _) => Some(Task::Pair),

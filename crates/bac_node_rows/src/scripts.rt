@@ -17,8 +17,8 @@ pub(crate) enum Way {
 fn status_of(alloc: Global, way: Way, script: &str, out: &mut Vec<u8>, err: &mut Vec<u8>) -> u8 {
     let mut input = script.as_bytes();
     let status = match way {
-        Way::Plain => simulate_lines_over(alloc, false, &mut input, out, err),
-        Way::Noted => simulate_lines_over(alloc, true, &mut input, out, err),
+        Way::Plain => simulate_lines_over(alloc, false, true, &mut input, out, err),
+        Way::Noted => simulate_lines_over(alloc, true, true, &mut input, out, err),
         Way::Shown(view) => show_over(alloc, view, true, &mut input, out, err),
     };
     status.code()

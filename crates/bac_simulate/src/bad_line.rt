@@ -194,8 +194,8 @@ fn reason_of(
     }
 }
 
-/// Complains of the line with that number, and tells what is wrong with it, where memory suffices for that: behind it, or on a line of its own.
-fn print_bad_line<E: Write>(
+/// Tells what is wrong with the line of that number, behind a text, where memory suffices for that.
+fn print_reason<E: Write>(
     alloc: Global,
     notes: bool,
     text: &[u8],
@@ -203,22 +203,37 @@ fn print_bad_line<E: Write>(
     before_reason: &str,
     err: &mut E,
 ) {
-    // if that fails too, only the status is left
-    let _ = write!(err, "line {number}: not a script line");
     if let Ok(Some(reason)) = reason_of(alloc, notes, text, number) {
+        // if that fails too, only the status is left
         let _ = err.write_all(before_reason.as_bytes());
         let _ = err.write_all(reason.as_slice());
+    }
+}
+
+/// Complains of the line with that number, and tells what is wrong with it, if there is a text to stand before that.
+fn print_bad_line<E: Write>(
+    alloc: Global,
+    notes: bool,
+    text: &[u8],
+    number: u64,
+    before_reason: Option<&str>,
+    err: &mut E,
+) {
+    // if that fails too, only the status is left
+    let _ = write!(err, "line {number}: not a script line");
+    if let Some(before_reason) = before_reason {
+        print_reason(alloc, notes, text, number, before_reason, err);
     }
     let _ = err.write_all(b"\n");
 }
 
-/// Complains of octets that are no script, and tells what is wrong with the bad line: behind that text, which follows the complaint.
+/// Complains of octets that are no script, and tells what is wrong with the bad line, behind that text, which follows the complaint; not where there is none.
 pub(crate) fn refuse<E: Write>(
     alloc: Global,
     notes: bool,
     text: &[u8],
     fault: ScriptFault,
-    before_reason: &str,
+    before_reason: Option<&str>,
     err: &mut E,
 ) -> Status
     ensures { result ≡ status_for fault }

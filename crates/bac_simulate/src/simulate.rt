@@ -298,10 +298,16 @@ fn run_script<O: Write, E: Write>(
     run_said(alloc, &mut world, before, &lines, out, err)
 }
 
+/// What parts a complaint from its reason: that stands on the next line, where it is wanted.
+fn before_reason(reasons: bool) -> Option<&'static str> {
+    if reasons { Some("\n") } else { None }
+}
+
 /// Runs the script that these octets are; all its lines are read before the first event.
 fn simulate<O: Write, E: Write>(
     alloc: Global,
     notes: bool,
+    reasons: bool,
     text: &[u8],
     out: &mut O,
     err: &mut E,
@@ -310,7 +316,7 @@ fn simulate<O: Write, E: Write>(
 {
     match read_script(alloc, notes, text) {
         Ok(script) => run_script(alloc, script, out, err),
-        Err(fault) => refuse(alloc, notes, text, fault, "\n", err),
+        Err(fault) => refuse(alloc, notes, text, fault, before_reason(reasons), err),
     }
 }
 
@@ -338,12 +344,12 @@ pub(crate) fn unread<E: Write>(error: &io::Error, err: &mut E) -> Status
 ///
 /// An event that names no node or no copy, a link of a node as a stranger's, or that the clock or the memory has no room for, and a clock of no node, print
 /// `line L: fault F` and end the run with `Faulty`. A refused
-/// ask, and a change that a node's store refuses, print `refused F`, and the run goes on. A line of no form: `line L: not a script line` on `err`, and on the
-/// next line what is wrong with it, where memory suffices; an input
-/// that cannot be read: `cannot read`; out of memory outside an event: `no memory`. `Output` where `out` cannot be written.
+/// ask, and a change that a node's store refuses, print `refused F`, and the run goes on. A line of no form: `line L: not a script line` on `err`, and with
+/// `reasons` on the next line what is wrong with it, where memory suffices; an input that cannot be read: `cannot read`; out of memory outside an event: `no memory`. `Output` where `out` cannot be written.
 pub fn simulate_lines_over<R: Read, O: Write, E: Write>(
     alloc: Global,
     notes: bool,
+    reasons: bool,
     input: &mut R,
     out: &mut O,
     err: &mut E,
@@ -351,12 +357,12 @@ pub fn simulate_lines_over<R: Read, O: Write, E: Write>(
     ensures { SimulatesAs notes (R.remaining input.old) (O.contents out.old) (O.contents out.new) result }
 {
     match octets_of(alloc, input) {
-        Ok(text) => simulate(alloc, notes, &text, out, err),
+        Ok(text) => simulate(alloc, notes, reasons, &text, out, err),
         Err(error) => unread(&error, err),
     }
 }
 
-/// The same without notes: each line is one of the script.
+/// The same without notes and reasons: each line is one of the script.
 pub fn simulate_over<R: Read, O: Write, E: Write>(
     alloc: Global,
     input: &mut R,
@@ -365,5 +371,5 @@ pub fn simulate_over<R: Read, O: Write, E: Write>(
 ) -> Status
     ensures { Simulates (R.remaining input.old) (O.contents out.old) (O.contents out.new) result }
 {
-    simulate_lines_over(alloc, false, input, out, err)
+    simulate_lines_over(alloc, false, false, input, out, err)
 }

@@ -149,7 +149,7 @@ fn show<O: Write, E: Write>(
             let flushed = out.flush();
             ended(ran, flushed, err)
         }
-        Err(fault) => refuse(alloc, notes, text, fault, before_reason(view), err),
+        Err(fault) => refuse(alloc, notes, text, fault, Some(before_reason(view)), err),
     }
 }
 
