@@ -278,6 +278,17 @@ impl<F: OpenFiles, M: Machine> Backup<'_, F, M> {
         Ok(comparison == Comparison::Same)
     }
 
+    /// The octets of a file of the folder; None where it cannot be read, which `err` says: the others can be restored.
+    fn kept<E: Write>(&self, name: &str, err: &mut E) -> Result<Option<Vec<u8>>, Status>
+        ensures told { IfErr result IsStop }
+    {
+        match self.folder.read(name, err) {
+            Ok(octets) => Ok(Some(octets)),
+            Err(Status::CommandLine) => Ok(None),
+            Err(status) => Err(status),
+        }
+    }
+
     /// Writes a file of the folder back, and reads it again. Answers whether the peer has it then.
     fn restore<O: Write, E: Write>(
         &mut self,
@@ -288,7 +299,9 @@ impl<F: OpenFiles, M: Machine> Backup<'_, F, M> {
         ensures told { IfErr result IsStop }
     {
         let name = name_in(self.folder.alloc, file.object, err)?;
-        let octets = self.folder.read(&name, err)?;
+        let Some(octets) = self.kept(&name, err)? else {
+            return Ok(false);
+        };
         if !are_saved(file, &octets) {
             self.print_damaged(file.object, out, err)?;
             return Ok(false);

@@ -31,6 +31,11 @@ pub trait OpenFiles {
         Err(io::Error::from(io::ErrorKind::Unsupported))
     }
 
+    /// Gives a file another name, in place of the file that has it. An Err where the system refuses it; files that are only read answer `Unsupported`.
+    fn rename(&self, _from: &str, _to: &str) -> io::Result<()> {
+        Err(io::Error::from(io::ErrorKind::Unsupported))
+    }
+
     /// Makes a folder, and those that it is in, where they are not there. An Err where the system refuses it; files that are only read answer `Unsupported`.
     fn make_folder(&self, _path: &str) -> io::Result<()> {
         Err(io::Error::from(io::ErrorKind::Unsupported))

@@ -7,10 +7,14 @@ use crate::objects::octets_of;
 use crate::reasons::print_unwritten;
 use bac_text::{Status, no_memory};
 use std::alloc::Global;
+use std::io;
 use std::io::{ErrorKind, Write};
 
 /// The name of the list of the files of a backup.
 pub(crate) const MANIFEST: &str = "manifest";
+
+/// The name of a file that is being written. It gets its own name once it is whole.
+const UNFINISHED: &str = "unfinished";
 
 /// A folder, and the files that it is among.
 #[derive(Drop)]
@@ -42,7 +46,7 @@ impl<F: OpenFiles> Folder<'_, F> {
         }
     }
 
-    /// Writes octets to a file in it. Where they cannot be written, `err` and the status say so.
+    /// Writes octets to a file in it. Where they cannot be written, `err` and the status say so, and the file is as it was.
     pub(crate) fn write<E: Write>(
         &self,
         name: &str,
@@ -52,10 +56,17 @@ impl<F: OpenFiles> Folder<'_, F> {
         ensures told { IfErr result IsStop }
     {
         let path = self.path_of(name, err)?;
-        match self.files.write(&path, octets) {
+        let unfinished = self.path_of(UNFINISHED, err)?;
+        match self.replace(&path, &unfinished, octets) {
             Ok(()) => Ok(()),
             Err(error) => Err(print_unwritten(&path, &error, err)),
         }
+    }
+
+    /// Writes octets to a file, which then gets the name of another one.
+    fn replace(&self, path: &str, unfinished: &str, octets: &[u8]) -> io::Result<()> {
+        self.files.write(unfinished, octets)?;
+        self.files.rename(unfinished, path)
     }
 
     /// The octets of a file in it, or None where there is no such file. Where it cannot be read, `err` and the status say so.

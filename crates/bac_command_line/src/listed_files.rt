@@ -67,6 +67,10 @@ fn files_in(
     Ok(Some(files))
 }
 
+/// What stands behind how the ask for the list ended.
+const ADVICE: &[u8] =
+    b"\n--device N reads the list of another device; words as file:1 name files\n";
+
 /// The files that a peer lists, in the object-list of the device with this instance. None where it does not answer with that: `err` says how the ask ended.
 pub(crate) fn listed_files<M: Machine, E: Write>(
     asking: &Asking,
@@ -93,7 +97,7 @@ pub(crate) fn listed_files<M: Machine, E: Write>(
         // if that fails too, only the status is left
         let _ = err.write_all(b"object-list: ");
         let _ = err.write_all(&words);
-        let _ = err.write_all(b"\n");
+        let _ = err.write_all(ADVICE);
     }
     Ok(files)
 }

@@ -79,7 +79,7 @@ pub(crate) fn print_bad_pace<E: Write>(text: &str, err: &mut E) {
     // if that fails too, only the status is left
     let _ = write!(err, "error: invalid value '{text}' for '--every <S>': ");
     let _ = match text.parse::<u64>() {
-        Ok(seconds) => write!(err, "{seconds} is not in 1..={MOST}"),
+        Ok(seconds) => write!(err, "{seconds} is not in 0.001..={MOST}"),
         Err(_) if text.contains('.') => {
             write!(
                 err,

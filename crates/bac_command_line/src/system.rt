@@ -116,6 +116,10 @@ impl<R: Files> OpenFiles for System<'_, R> {
         file.flush()
     }
 
+    fn rename(&self, from: &str, to: &str) -> io::Result<()> {
+        fs::rename(self.runtime, from, to)
+    }
+
     fn make_folder(&self, path: &str) -> io::Result<()> {
         fs::create_dir_all(self.runtime, path)
     }

@@ -16,7 +16,7 @@ pub enum OpenFault {
     #[error("a database of something else")]
     Foreign,
     /// The file can't be opened or made.
-    #[error("it cannot be opened; is its folder there, and may it be written?")]
+    #[error("it cannot be opened; a file wanted, or a new one in a folder that may be written")]
     CannotOpen,
     /// The disk failed, or it is full.
     #[error("the disk failed or is full")]

@@ -13,6 +13,9 @@ pub const LOCAL_HOST: [u8; 4] = [127, 0, 0, 1];
 /// Each address of this machine.
 pub const EVERY_HOST: [u8; 4] = [0, 0, 0, 0];
 
+/// The first octet of the first address of a group of hosts (multicast); no host has an address from there on.
+const FIRST_GROUP: u8 = 224;
+
 /// The port of BACnet/IP, BAC0 (clause J.1.2).
 pub const BACNET_PORT: u16 = 47_808;
 
@@ -39,14 +42,20 @@ fn read_port(text: &str) -> Option<u16> {
     if port == 0 { None } else { Some(port) }
 }
 
+/// Whether a node can have an address: not where it is 0.0.0.0, of a group, reserved, or that of all hosts of a link.
+fn is_of_node(host: [u8; 4]) -> bool {
+    host != EVERY_HOST && host[0] < FIRST_GROUP
+}
+
 /// The address of a node that a text as `192.168.1.20:47809` is; without a port, which is 1 to 65,535, it is that of BACnet/IP. None of any other text, and of
-/// 0.0.0.0, which is no node's.
+/// an address that no node has: 0.0.0.0, and those from 224.0.0.0 on.
 pub fn read_link(text: &str) -> Option<LinkAddress> {
     let (host, port) = read_end(text)?;
-    if host == EVERY_HOST {
-        return None;
+    if is_of_node(host) {
+        Some(link_at(host, port.unwrap_or(BACNET_PORT)))
+    } else {
+        None
     }
-    Some(link_at(host, port.unwrap_or(BACNET_PORT)))
 }
 
 /// The address that a text as `192.168.1.20` or `192.168.1.20:47809` is, and its port, 1 to 65,535, if there is one. None of any other text.

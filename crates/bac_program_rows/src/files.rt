@@ -184,6 +184,13 @@ impl OpenFiles for Files<'_> {
         self.keep(path, octets)
     }
 
+    fn rename(&self, from: &str, to: &str) -> io::Result<()> {
+        match self.written_at(from) {
+            Some(octets) => self.keep(to, &octets),
+            None => Err(io::Error::from(ErrorKind::NotFound)),
+        }
+    }
+
     fn make_folder(&self, _path: &str) -> io::Result<()> {
         if self.setup.has("disk") {
             Ok(())

@@ -302,7 +302,7 @@ Each later line is an event; nodes and datagrams count from 0:
   ask C S REQUEST      node C asks node S; requests as of `bac ask`
   ask C LINK REQUEST   node C asks a stranger at LINK, A.B.C.D:PORT
   deliver K            datagram K arrives at its node
-  lose K               datagram K counts as lost
+  lose K               a copy of datagram K counts as lost
   noise N HEX          octets that no node sent arrive at node N
   stranger N LINK HEX  octets of a stranger arrive at node N
   tick N               node N looks at its timers
@@ -558,9 +558,9 @@ Example: bac ask --port 47808 --text read analog-input:5 present-value
 Example: bac ask --to 192.168.1.20 --route 5:2A --timeout 3 read device:7 object-name
 Example: bac ask --to 192.168.1.20 write analog-value:1 present-value real:72.5 priority 8
 Example: bac ask --to 192.168.1.20 --text --lines requests.txt --window 8
-Example: bac ask --text --lines points.txt --window 64 --every 10
+Example: bac ask --to 192.168.1.20 --text --lines points.txt --every 10
 Example: bac ask --to 192.168.1.20 --text --every 60 read analog-input:5 present-value
-Example: bac ask --lines points.txt --csv --every 60 --times 60
+Example: bac ask --to 192.168.1.20 --lines points.txt --csv --every 60 --times 60
 Example: bac ask --to 192.168.1.20 --json read analog-input:5 present-value
 Example: bac ask --port 47808 put file:1 0 @log.bin
 Example: bac ask --port 47808 --raw get file:1 0 1000 > log.bin
