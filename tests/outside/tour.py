@@ -32,7 +32,7 @@ WRITTEN = re.compile(r'(?:script|file|list) `([\w.]+)`$')  # so: the block is th
 ENDED = re.compile(r'ends with `(served \d+)`')
 ASKS = 'for ask in $(seq 65); do out/bac ask --port 47808 read 0:5 85; done | tail -n 1'
 SAID = [  # a text of a sentence, and a command of which it is a line
-    ('bad words: property "presentvalue" is no name and no number', 'out/bac ask --port 47808 --text read analog-input:5 presentvalue'),
+    ('bad words: property "presentvalue" is no name and no number, did you mean present-value', 'out/bac ask --port 47808 --text read analog-input:5 presentvalue'),
     ('plant.toml: object 2 (analog-input 5): present-value: real wanted, text given',
      "sed 's/real = 72.3/text = \"flow\"/' ../../docs/house.toml > plant.toml; out/bac serve --port 47808 --objects plant.toml"),
     ('serving from 65001', 'out/bac serve --port 47808 --seconds 1 --restarted'),
