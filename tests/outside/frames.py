@@ -50,7 +50,10 @@ def section_of(name):
 
 
 def rows_of(frames, carried):
-    both = zip(FRAME.findall(frames), CARRIED.findall(carried), strict=True)
+    found = FRAME.findall(frames)
+    names = {frame[0] for frame in found}
+    # (a page of HTML has lines of this form too)
+    both = zip(found, (line for line in CARRIED.findall(carried) if line[0] in names), strict=True)
     named = [(*frame, text) for frame, (name, text) in both if frame[0] == name]
     return [(name, int(link), octets, text) for name, link, octets, text in named if text != OTHER]
 
