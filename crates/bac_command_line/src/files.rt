@@ -26,7 +26,7 @@ pub trait OpenFiles {
     fn open(&self, path: &str) -> io::Result<Self::File>
         ensures { IfOk result (λ f. Self.is_file path.now f) };
 
-    /// Writes octets to a file, in place of what it has. An Err where the system refuses it; files that are only read answer `Unsupported`.
+    /// Writes octets to a file, in place of what it has; on a disk they are when this returns. An Err where the system refuses it; files that are only read answer `Unsupported`.
     fn write(&self, _path: &str, _octets: &[u8]) -> io::Result<()> {
         Err(io::Error::from(io::ErrorKind::Unsupported))
     }

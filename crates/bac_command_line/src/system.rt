@@ -113,7 +113,12 @@ impl<R: Files> OpenFiles for System<'_, R> {
     fn write(&self, path: &str, octets: &[u8]) -> io::Result<()> {
         let mut file = fs::create(self.runtime, path)?;
         file.write_all(octets)?;
-        file.flush()
+        file.flush()?;
+        match file.sync_all() {
+            // (a pipe or a terminal has nothing to sync)
+            Err(error) if error.kind() == ErrorKind::InvalidInput => Ok(()),
+            synced => synced,
+        }
     }
 
     fn rename(&self, from: &str, to: &str) -> io::Result<()> {
