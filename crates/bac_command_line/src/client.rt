@@ -174,17 +174,24 @@ impl<'m, M: Machine> Client<'m, M> {
         }
     }
 
+    /// The time of day, in milliseconds since 1970 began in UTC; None where it cannot be read.
+    pub(crate) fn time_of_day(&self) -> Option<u64> {
+        self.machine.time_of_day()
+    }
+
     /// What the ends of asks are stamped with now.
     pub(crate) fn stamp(&self) -> Stamp {
+        self.stamp_at(self.time_of_day())
+    }
+
+    /// What the ends of asks are stamped with at a time of day.
+    pub(crate) fn stamp_at(&self, time: Option<u64>) -> Stamp {
         let round = if self.rounds == 0 {
             None
         } else {
             Some(self.rounds)
         };
-        Stamp {
-            time: self.machine.time_of_day(),
-            round,
-        }
+        Stamp { time, round }
     }
 
     /// The next node, on a link of its own at another port; the one before asks no more. Where there is none, `err` and the status say so, and nothing has

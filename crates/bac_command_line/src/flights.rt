@@ -12,6 +12,7 @@ use bac_npdu::Peer;
 use bac_requester::{AskFault, Ended};
 use bac_text::{Status, no_memory};
 use std::alloc::{AllocError, Global};
+use std::cell::Cell;
 use std::collections::VecDeque;
 use std::io::Write;
 use std::mem;
@@ -78,6 +79,19 @@ pub(crate) struct Flights {
     under_way: Vec<Flight>,
     /// How the ask of each line has ended, by its place; None where it has not, or that is printed.
     ends: Vec<Option<AskEnd>>,
+    /// The time of day when it ended, where that can be read, by its place.
+    times: Vec<Option<u64>>,
+    /// The time of day of the asks that end next.
+    time: Cell<Option<u64>>,
+}
+
+/// No time for each of so many lines.
+fn no_times(alloc: Global, count: usize) -> Result<Vec<Option<u64>>, AllocError> {
+    let mut times = Vec::new(alloc);
+    for _ in 0..count {
+        times.push(None)?;
+    }
+    Ok(times)
 }
 
 impl Flights {
@@ -85,6 +99,7 @@ impl Flights {
     pub(crate) fn new(alloc: Global, lines: &[LineQuestion]) -> Result<Flights, AllocError>
         ensures { IfOk result (λ f. IsNewSky lines.now (sky f)) }
     {
+        let times = no_times(alloc, lines.len())?;
         let mut waiting = VecDeque::new(alloc);
         let mut ends = Vec::new(alloc);
         for (place, line) in lines.iter().enumerate() {
@@ -96,7 +111,22 @@ impl Flights {
             waiting,
             under_way: Vec::new(alloc),
             ends,
+            times,
+            time: Cell::new(None),
         })
+    }
+
+    /// The asks that end from now on end at this time of day, in milliseconds since 1970 began in UTC.
+    pub(crate) fn come_at(&self, time: Option<u64>) {
+        self.time.set(time);
+    }
+
+    /// The time of day when the ask of the line at that place ended.
+    pub(crate) fn time_of(&self, place: usize) -> Option<u64> {
+        match self.times.get(place) {
+            Some(time) => *time,
+            None => None,
+        }
     }
 
     /// Whether none is under way.
@@ -174,6 +204,9 @@ impl Flights {
     {
         if place < self.ends.len() {
             self.ends[place] = Some(end);
+        }
+        if place < self.times.len() {
+            self.times[place] = self.time.get();
         }
     }
 

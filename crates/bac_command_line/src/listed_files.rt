@@ -67,9 +67,8 @@ fn files_in(
     Ok(Some(files))
 }
 
-/// What stands behind how the ask for the list ended.
-const ADVICE: &[u8] =
-    b"\n--device N reads the list of another device; words as file:1 name files\n";
+/// What stands behind how the ask for the list ended, where it was answered.
+const ADVICE: &[u8] = b"--device N reads the list of device N; words as file:1 name files\n";
 
 /// The files that a peer lists, in the object-list of the device with this instance. None where it does not answer with that: `err` says how the ask ended.
 pub(crate) fn listed_files<M: Machine, E: Write>(
@@ -97,7 +96,10 @@ pub(crate) fn listed_files<M: Machine, E: Write>(
         // if that fails too, only the status is left
         let _ = err.write_all(b"object-list: ");
         let _ = err.write_all(&words);
-        let _ = err.write_all(ADVICE);
+        let _ = err.write_all(b"\n");
+        if reply_of(&asked.end).is_some() {
+            let _ = err.write_all(ADVICE);
+        }
     }
     Ok(files)
 }

@@ -46,6 +46,20 @@ pub(crate) struct Printer<'a> {
     pub stamp: Stamp,
 }
 
+impl<'a> Printer<'a> {
+    /// The same for an ask that ended at another time of day.
+    pub(crate) fn at(&self, time: Option<u64>) -> Printer<'a> {
+        Printer {
+            alloc: self.alloc,
+            asking: self.asking,
+            stamp: Stamp {
+                time,
+                round: self.stamp.round,
+            },
+        }
+    }
+}
+
 // ---- how an ask ended
 
 fn outcome_of_ending(ending: &Ending) -> Outcome<'_>

@@ -105,6 +105,7 @@ fn begin_next<M: Machine, E: Write>(
     match begin_on(plan.asking, client, &line.question, is_idle, err)? {
         None => Ok(false),
         Some(begun) => {
+            flights.come_at(client.time_of_day());
             flights.take_up(at, begun, err)?;
             Ok(true)
         }
@@ -132,25 +133,27 @@ fn begin_more<M: Machine, E: Write>(
     Ok(())
 }
 
-/// A node takes a turn, and how tickets ended in it is noted. Where no time is left for the first that is under way, that is waited for no longer; where none
-/// is, nothing happens.
-fn go_on<L: Link, C: Clock, E: Write>(
-    station: &mut Station<L, C>,
+/// A client's node takes a turn, and how tickets ended in it is noted. Where no time is left for the first that is under way, that is waited for no longer;
+/// where none is, nothing happens.
+fn go_on<M: Machine, E: Write>(
+    client: &mut Client<'_, M>,
     flights: &mut Flights,
     err: &mut E,
 ) -> Result<(), Status>
     ensures went { IfOk result (λ _. MayGoOn
-        (aloft (timed station.old.bound_node (C.told station.old.clock)) (sky flights.old))
-        (aloft (timed station.new.bound_node (C.told station.new.clock)) (sky flights.new))) }
+        (aloft (timed client.old.station.bound_node (M.Timer.told client.old.station.clock)) (sky flights.old))
+        (aloft (timed client.new.station.bound_node (M.Timer.told client.new.station.clock)) (sky flights.new))) }
     ensures failed { IfErr result IsFailure }
 {
     let Some(wait_limit) = flights.first_patience() else {
         return Ok(());
     };
-    match station
+    let station = &mut client.station;
+    let turn = station
         .bound_node
-        .turn_before(&mut station.clock, &wait_limit)
-    {
+        .turn_before(&mut station.clock, &wait_limit);
+    flights.come_at(client.time_of_day());
+    match turn {
         Ok(Some(turn)) => {
             flights.note_turn(turn);
             Ok(())
@@ -181,7 +184,7 @@ fn end_line<M: Machine, E: Write>(
         if let Some(end) = flights.take_end(place) {
             return Ok(end);
         }
-        go_on(&mut client.station, flights, err)?;
+        go_on(client, flights, err)?;
     }
     Err(link_fault(err))
 }
@@ -197,7 +200,10 @@ fn print_stranded<O: Write, E: Write>(
 ) {
     for (place, line) in plan.lines.iter().enumerate().skip(from) {
         let printed = match flights.take_end(place) {
-            Some(end) => print_line(printer, line, &end, out, err).is_ok(),
+            Some(end) => {
+                let printer = printer.at(flights.time_of(place));
+                print_line(&printer, line, &end, out, err).is_ok()
+            }
             None => print_unasked(printer, line, out).is_ok(),
         };
         if !printed {
@@ -228,7 +234,7 @@ fn tell_line<M: Machine, O: Write, E: Write>(
             let printer = Printer {
                 alloc: client.station.alloc,
                 asking: plan.asking,
-                stamp: client.stamp(),
+                stamp: client.stamp_at(flights.time_of(place)),
             };
             print_line(&printer, &plan.lines[place], &end, out, err)
         }

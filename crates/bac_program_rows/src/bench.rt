@@ -118,6 +118,9 @@ impl Link for BenchLink<'_> {
 /// An IPv4 address and a port.
 pub(crate) type Bound = ([u8; 4], u16);
 
+/// 2026-11-27, 7:10 in UTC, in milliseconds since 1970 began.
+const MORNING: u64 = 1_795_763_400_000;
+
 /// The first port at which clients begin, of machines of which some are taken.
 const FIRST: u16 = 40_000;
 
@@ -130,6 +133,8 @@ pub(crate) struct BenchMachine<'a> {
     last_free: Cell<u16>,
     /// The port of the next client, where some are taken.
     next: Cell<u16>,
+    /// The time of day of the next look.
+    time: Cell<u64>,
     /// Where its last link is bound.
     pub bound: Cell<Option<Bound>>,
 }
@@ -142,6 +147,7 @@ impl<'a> BenchMachine<'a> {
             scene,
             last_free: Cell::new(50_000),
             next: Cell::new(FIRST),
+            time: Cell::new(MORNING),
             bound: Cell::new(None),
         }
     }
@@ -227,12 +233,12 @@ impl<'a> Machine for BenchMachine<'a> {
         Some(ClientPair { port: 0, first_id })
     }
 
-    /// 2026-11-27, 7:10 in UTC; none where there is no clock.
+    /// That of the scene; none where there is no clock.
     fn time_of_day(&self) -> Option<u64> {
-        match self.scene.clock {
-            Some(_) => Some(1_795_763_400_000),
-            None => None,
-        }
+        let _clock = self.scene.clock?;
+        let time = self.time.get();
+        self.time.set(time.saturating_add(self.scene.day));
+        Some(time)
     }
 
     fn source_towards(&self, _link: [u8; 6]) -> Option<[u8; 4]> {

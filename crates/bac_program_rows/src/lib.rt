@@ -11,6 +11,7 @@
 //! - `links WORDS` is what is behind the links (`behind`); without it the system refuses each link.
 //! - `clock MOMENT +STEP`, or `-STEP`: the clock begins at that moment and goes on, or back, by so many milliseconds each time that it is looked at;
 //!   `clock none` can't be read. Without it the clock stands at 0.
+//! - `day +STEP`: the time of day goes on by so many milliseconds each time that it is looked at; it is 2026-11-27, 7:10 in UTC, at first.
 //! - `file NAME` is a file of the lines below it, each after `| `; `file NAME denied` and `file NAME memory` fail behind them, with permission denied or want of
 //!   memory, and `file NAME unopened` can't be opened for want of memory. A file that is there twice has the second text where it is opened again, and so on.
 //! - `hex NAME` is a file of octets, in hexadecimal, with blanks between them.

@@ -66,8 +66,8 @@ impl<'a> Setup<'a> {
 
 /// The words that begin lines of a setup.
 const WORDS: &[&str] = &[
-    "|", "#", "links", "clock", "file", "hex", "disk", "database", "terminal", "errors", "taken",
-    "source", "machine", "pairs",
+    "|", "#", "links", "clock", "day", "file", "hex", "disk", "database", "terminal", "errors",
+    "taken", "source", "machine", "pairs",
 ];
 
 /// Whether each line of a text begins with a word that sets a scene.
@@ -92,6 +92,8 @@ pub(crate) struct Scene<'a> {
     pub place: Place,
     pub behind: Behind<'a>,
     pub clock: Option<BenchClock>,
+    /// How many milliseconds the time of day goes on each time that it is looked at.
+    pub day: u64,
     /// How many of the ports are taken at which clients begin; None where a client begins at any free port.
     pub taken: Option<u16>,
     /// The address that it sends from.
@@ -119,6 +121,14 @@ fn clock_in(setup: Setup<'_>) -> Option<Option<BenchClock>> {
             moment: 0,
             pace: Pace::On(0),
         })),
+    }
+}
+
+/// `+STEP`; the time of day stands where nothing is said.
+fn day_in(setup: Setup<'_>) -> Option<u64> {
+    match setup.line("day") {
+        Some(heading) => heading.words.strip_prefix('+')?.parse::<u64>().ok(),
+        None => Some(0),
     }
 }
 
@@ -171,6 +181,7 @@ pub(crate) fn scene_of(setup: Setup<'_>) -> Option<Scene<'_>> {
         place: place_in(setup)?,
         behind,
         clock: clock_in(setup)?,
+        day: day_in(setup)?,
         taken: taken_in(setup)?,
         source: source_in(setup)?,
         is_terminal: setup.has("terminal"),
