@@ -100,11 +100,15 @@ const ONE_HOST: &str =
 /// The text behind `--at` that is no address of a server, and what is wanted.
 fn bad_host<'a>(given: &ArgMatches<'a>) -> Option<(&'a str, &'static str)> {
     let at = given.get_str("at")?;
-    match read_host(at) {
-        None => Some((at, "A.B.C.D")),
-        Some(EVERY_HOST) => Some((at, ONE_HOST)),
-        Some(host) if !is_of_node(host) => Some((at, NODE_HOST)),
-        Some(_) => None,
+    let Some(host) = read_host(at) else {
+        return Some((at, "A.B.C.D"));
+    };
+    if host == EVERY_HOST {
+        Some((at, ONE_HOST))
+    } else if is_of_node(host) {
+        None
+    } else {
+        Some((at, NODE_HOST))
     }
 }
 
