@@ -70,25 +70,25 @@ within_at [] b at r e l = absurd cc
 within_at (q ∷ bs) zero at r e l = let same : q ≡ r = cc in subst (λ (s : List ℕ). at ≤ length s) (sym same) l
 within_at (q ∷ bs) (suc b) at r e l = within_at bs b at r e l
 
-pub of_held : (bs : List (List ℕ)) (b at : ℕ) → IsHeld (map length bs) b at → (r : List ℕ) × (slice_get bs b ≡ Some r) × (at < length r)
-of_held [] b at h = absurd h
-of_held (q ∷ bs) zero at h = (q, refl, h)
-of_held (q ∷ bs) (suc b) at h = of_held bs b at h
+pub held_in : (bs : List (List ℕ)) (b at : ℕ) → IsHeld (map length bs) b at → b < length bs
+held_in [] b at h = absurd h
+held_in (q ∷ bs) zero at h = omega arith
+held_in (q ∷ bs) (suc b) at h = let l = held_in bs b at h in omega (arith, l)
 
-pub of_within : (bs : List (List ℕ)) (b at : ℕ) → IsWithin (map length bs) b at → (r : List ℕ) × (slice_get bs b ≡ Some r) × (at ≤ length r)
-of_within [] b at h = absurd h
-of_within (q ∷ bs) zero at h = (q, refl, h)
-of_within (q ∷ bs) (suc b) at h = of_within bs b at h
+pub within_in : (bs : List (List ℕ)) (b at : ℕ) → IsWithin (map length bs) b at → b < length bs
+within_in [] b at h = absurd h
+within_in (q ∷ bs) zero at h = omega arith
+within_in (q ∷ bs) (suc b) at h = let l = within_in bs b at h in omega (arith, l)
 
-pub held_block : (sizes : List ℕ) (b at : ℕ) → IsHeld sizes b at → b < length sizes
-held_block [] b at h = absurd h
-held_block (m ∷ sizes) zero at h = omega arith
-held_block (m ∷ sizes) (suc b) at h = let l = held_block sizes b at h in omega (arith, l)
+pub held_read : (bs : List (List ℕ)) (b at : ℕ) (r : List ℕ) → IsHeld (map length bs) b at → slice_get bs b ≡ Some r → at < length r
+held_read [] b at r h e = absurd h
+held_read (q ∷ bs) zero at r h e = let same : q ≡ r = cc in subst (λ (s : List ℕ). at < length s) same h
+held_read (q ∷ bs) (suc b) at r h e = held_read bs b at r h e
 
-pub within_block : (sizes : List ℕ) (b at : ℕ) → IsWithin sizes b at → b < length sizes
-within_block [] b at h = absurd h
-within_block (m ∷ sizes) zero at h = omega arith
-within_block (m ∷ sizes) (suc b) at h = let l = within_block sizes b at h in omega (arith, l)
+pub within_read : (bs : List (List ℕ)) (b at : ℕ) (r : List ℕ) → IsWithin (map length bs) b at → slice_get bs b ≡ Some r → at ≤ length r
+within_read [] b at r h e = absurd h
+within_read (q ∷ bs) zero at r h e = let same : q ≡ r = cc in subst (λ (s : List ℕ). at ≤ length s) same h
+within_read (q ∷ bs) (suc b) at r h e = within_read bs b at r h e
 
 pub within_held : (sizes : List ℕ) (b at : ℕ) → IsHeld sizes b at → IsWithin sizes b at
 within_held [] b at h = absurd h
@@ -105,9 +105,14 @@ within_next [] b at h = absurd h
 within_next (m ∷ sizes) zero at h = omega (arith, h)
 within_next (m ∷ sizes) (suc b) at h = within_next sizes b at h
 
-pub within_first : (sizes : List ℕ) → 0 < length sizes → IsWithin sizes 0 0
+pub within_first : (bs : List (List ℕ)) → 0 < length bs → IsWithin (map length bs) 0 0
 within_first [] l = absurd (omega (arith, l))
-within_first (m ∷ sizes) l = omega arith
+within_first (q ∷ bs) l = omega arith
+
+pub at_least : (sizes : List ℕ) (b at : ℕ) → at ≤ rank_at sizes b at
+at_least sizes zero at = omega arith
+at_least [] (suc b) at = omega arith
+at_least (m ∷ sizes) (suc b) at = let rest = at_least sizes b at in omega (arith, rest)
 
 -- ---- how many numbers are before it
 
@@ -164,10 +169,45 @@ rank_read (q ∷ bs) zero at x r e l f =
     get_left q (concat bs) at here ∙ ap (λ (s : List ℕ). slice_get s at) same ∙ f
 rank_read (q ∷ bs) (suc b) at x r e l f = get_right q (concat bs) (rank_at (map length bs) b at) ∙ rank_read bs b at x r e l f
 
--- the blocks before the n-th
-pub rank_step : (bs : List (List ℕ)) (b : ℕ) (r : List ℕ) → slice_get bs b ≡ Some r
-    → rank_at (map length bs) (b + 1) 0 ≡ rank_at (map length bs) b 0 + length r
-rank_step bs b r e = rank_past bs b r e ∙ rank_more (map length bs) b 0 (length r)
+-- ---- blocks that are passed over
+
+pub rank_add : (bs : List (List ℕ)) (b at : ℕ) (r : List ℕ) → slice_get bs b ≡ Some r
+    → rank_at (map length bs) (b + 1) at ≡ rank_at (map length bs) b at + length r
+rank_add bs b at r e = let next : b + 1 ≡ suc b = omega arith in ap (λ k. rank_at (map length bs) k at) next ∙ go bs b e
+  where
+    go : (bs : List (List ℕ)) (b : ℕ) → slice_get bs b ≡ Some r → rank_at (map length bs) (suc b) at ≡ rank_at (map length bs) b at + length r
+    go [] b e = absurd cc
+    go (q ∷ bs) zero e = let same : q ≡ r = cc in let long = ap length same in omega (arith, long)
+    go (q ∷ bs) (suc b) e = let rest = go bs b e in omega (arith, rest)
+
+pub rank_on : (bs : List (List ℕ)) (b at : ℕ) (r : List ℕ) → slice_get bs b ≡ Some r → length r ≤ at
+    → rank_at (map length bs) (b + 1) (at - length r) ≡ rank_at (map length bs) b at
+rank_on bs b at r e l =
+    let whole : at - length r + length r ≡ at = omega (arith, l) in
+    rank_add bs b (at - length r) r e ∙ sym (rank_more (map length bs) b (at - length r) (length r))
+    ∙ ap (λ k. rank_at (map length bs) b k) whole
+
+pub more_blocks : (bs : List (List ℕ)) (b at : ℕ) (r : List ℕ) → slice_get bs b ≡ Some r → length r ≤ at
+    → rank_at (map length bs) b at < length (concat bs) → b + 1 < length bs
+more_blocks [] b at r e l f = absurd cc
+more_blocks (q ∷ []) zero at r e l f =
+    let same : q ≡ r = cc in
+    let long = ap length same in
+    let both = length-append q [] in
+    absurd (omega (arith, long, both, l, f))
+more_blocks (q ∷ p ∷ bs) zero at r e l f = omega arith
+more_blocks (q ∷ bs) (suc b) at r e l f =
+    let both = length-append q (concat bs) in
+    let rest = more_blocks bs b at r e l (omega (arith, both, f)) in
+    omega (arith, rest)
+
+pub rank_grows : (sizes : List ℕ) (m k at : ℕ) → m ≤ k → rank_at sizes m at ≤ rank_at sizes k at
+rank_grows sizes zero zero at l = omega arith
+rank_grows [] zero (suc k) at l = omega arith
+rank_grows (s ∷ sizes) zero (suc k) at l = let rest = rank_grows sizes zero k at (omega arith) in omega (arith, rest)
+rank_grows sizes (suc m) zero at l = absurd (omega (arith, l))
+rank_grows [] (suc m) (suc k) at l = omega arith
+rank_grows (s ∷ sizes) (suc m) (suc k) at l = let rest = rank_grows sizes m k at (omega (arith, l)) in omega (arith, rest)
 
 -- ---- one number more or fewer
 
@@ -251,6 +291,17 @@ joined bs n r q s l e f g =
         let less : n - 1 ≡ k = omega (arith, next) in
         ap (λ m. concat (set (remove bs n) m s)) less ∙ ap (λ m. concat (set (remove bs m) k s)) next ∙ step bs k e f
 
+pub get_removed : (bs : List (List ℕ)) (n : ℕ) → 0 < n → slice_get (remove bs n) (n - 1) ≡ slice_get bs (n - 1)
+get_removed bs n l =
+    let k : ℕ = n - 1 in
+    let next : n ≡ suc k = omega (arith, l) in
+    ap (λ m. slice_get (remove bs m) k) next ∙ go bs k
+  where
+    go : (bs : List (List ℕ)) (k : ℕ) → slice_get (remove bs (suc k)) k ≡ slice_get bs k
+    go [] k = refl
+    go (a ∷ bs) zero = refl
+    go (a ∷ bs) (suc k) = go bs k
+
 -- no two neighbours before the n-th fit in one block
 abbrev pub Crowded : ℕ → List (List ℕ) → Type 0
 Crowded n bs = (k : ℕ) (r q : List ℕ) → k + 1 < n → slice_get bs k ≡ Some r → slice_get bs (k + 1) ≡ Some q → 128 < length r + length q
@@ -277,7 +328,9 @@ pub crowded_few : (bs : List (List ℕ)) → Crowded (length bs) bs → 64 * len
 crowded_few [] c = omega arith
 crowded_few (r ∷ []) c = let both = length-append r [] in omega (arith, both)
 crowded_few (r ∷ q ∷ bs) c =
-    let rest = crowded_few bs (λ k a b l e f. c (suc (suc k)) a b (omega (arith, l)) e f) in
+    let rest = crowded_few bs (λ k a b l e f.
+        let after : suc (suc k) + 1 ≡ suc (suc (k + 1)) = omega arith in
+        c (suc (suc k)) a b (omega (arith, l)) e (ap (λ m. slice_get (r ∷ q ∷ bs) m) after ∙ f)) in
     let pair = c 0 r q (omega arith) refl refl in
     let one = length-append r (q ++ concat bs) in
     let two = length-append q (concat bs) in
@@ -287,3 +340,7 @@ crowded_few (r ∷ q ∷ bs) c =
 pub concat_map : (f : ℕ → ℕ) (bs : List (List ℕ)) → concat (map (λ r. map f r) bs) ≡ map f (concat bs)
 concat_map f [] = refl
 concat_map f (r ∷ bs) = ap (λ l. map f r ++ l) (concat_map f bs) ∙ sym (map-append f r (concat bs))
+
+pub length_settled : (f : ℕ → ℕ) (bs : List (List ℕ)) → length (map (λ r. map f r) bs) ≡ length bs
+length_settled f [] = refl
+length_settled f (r ∷ bs) = let rest = length_settled f bs in omega (arith, rest)

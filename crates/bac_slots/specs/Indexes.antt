@@ -62,6 +62,10 @@ IsWithin [] block at = ⊥
 IsWithin (size ∷ sizes) zero at = at ≤ size
 IsWithin (size ∷ sizes) (suc block) at = IsWithin sizes block at
 
+-- a block and the one before it have no more than 128 numbers
+abbrev pub AreJoinable : (n : ℕ) → (blocks : List (List ℕ)) → Type 0
+AreJoinable n blocks = (r q : List ℕ) → slice_get blocks (n - 1) ≡ Some r → slice_get blocks n ≡ Some q → length r + length q ≤ 128
+
 -- the same where the index is in blocks of these sizes: where the key is, or where it would be inserted
 abbrev pub IsSeen : {K T : Type 0} → (K → K → Bool) → (K → K → Ordering) → K → List (Slot K T) → (sizes : List ℕ) → Result Seen Spot → Type 0
 IsSeen eq cmp key slots sizes (Ok seen) =

@@ -1,7 +1,7 @@
 //! Numbers in an order, in blocks: one is inserted or removed in its block alone.
 ghost use Rattle.std.specs.Prelude.{◌≡◌, ◌-◌, ◌+◌, ◌*◌, ◌<◌, ◌≤◌, true, false, [], length, map, vec_capacity, Some, IfOk, slice_get};
 ghost use Rattle.std.specs.List.{concat, insert, remove};
-ghost use Rattle.bac_slots.specs.Indexes.{lowered, rank_at, IsHeld, IsWithin};
+ghost use Rattle.bac_slots.specs.Indexes.{lowered, rank_at, AreJoinable, IsHeld, IsWithin};
 
 use crate::block::{Block, EACH};
 use crate::spot::Spot;
@@ -27,17 +27,19 @@ pub(crate) enum Change {
 pub(crate) struct Blocks {
     blocks: Vec<Block>,
     len: usize,
+    room: usize,
 }
 
 impl Model for Blocks {
-    ghost use Rattle.std.specs.Prelude.{◌≡◌, ℕ, ◌-◌, ◌*◌, ◌<◌, List, length, map, vec_capacity};
+    ghost use Rattle.std.specs.Prelude.{◌≡◌, ℕ, ◌+◌, ◌*◌, ◌<◌, ◌≤◌, List, length, map, vec_capacity};
     ghost use Rattle.std.specs.List.{concat};
 
     ghost Value = { List ℕ × ℕ × List ℕ };
 
-    ghost view = { λ b. (concat b.blocks.items, vec_capacity b.blocks * 64 - 65, map length b.blocks.items) };
+    ghost view = { λ b. (concat b.blocks.items, b.room, map length b.blocks.items) };
 
-    ghost invariant = { λ b. (0 < length b.blocks.items) × (length b.blocks.items < vec_capacity b.blocks) × (b.len ≡ length (concat b.blocks.items)) };
+    ghost invariant = { λ b. (0 < length b.blocks.items) × (length b.blocks.items < vec_capacity b.blocks)
+        × (b.len ≡ length (concat b.blocks.items)) × (b.room + 65 ≤ 64 * vec_capacity b.blocks) };
 }
 
 impl Blocks {
@@ -47,7 +49,11 @@ impl Blocks {
     {
         let mut blocks = Vec::with_capacity(alloc, room / LEAST + 2)?;
         blocks.push(Block::new())?;
-        Ok(Blocks { blocks, len: 0 })
+        Ok(Blocks {
+            blocks,
+            len: 0,
+            room,
+        })
     }
 
     /// How many numbers there are.
@@ -89,7 +95,8 @@ impl Blocks {
 
     /// Whether the spot is that of a number, or the one behind the numbers of a block.
     pub(crate) fn has(&self, spot: Spot) -> bool
-        ensures { result ≡ true → IsWithin self.now.2 spot.block spot.at }
+        ensures within { result ≡ true → IsWithin self.now.2 spot.block spot.at }
+        ensures small { result ≡ true → rank_at self.now.2 spot.block spot.at ≤ length self.now.0 }
     {
         match self.blocks.get(spot.block) {
             Some(block) => spot.at <= block.len(),
@@ -117,15 +124,14 @@ impl Blocks {
 
     /// The same place as the first of the next block, where the spot is behind the numbers of a block.
     pub(crate) fn next(&self, spot: Spot) -> Spot
-        requires { IsWithin self.now.2 spot.block spot.at }
         ensures { rank_at self.now.2 result.block result.at ≡ rank_at self.now.2 spot.block spot.at }
     {
-        if self.holds(spot) {
-            return spot;
-        }
-        Spot {
-            block: spot.block + 1,
-            at: 0,
+        match self.blocks.get(spot.block) {
+            Some(block) if spot.at == block.len() => Spot {
+                block: spot.block + 1,
+                at: 0,
+            },
+            _ => spot,
         }
     }
 
@@ -150,6 +156,8 @@ impl Blocks {
         ensures within { IsWithin self.now.2 result.block result.at }
         ensures rank { rank_at self.now.2 result.block result.at ≡ n }
     {
+        // there is a block
+        let _len = self.len;
         if n == 0 {
             return Spot { block: 0, at: 0 };
         }
@@ -165,6 +173,8 @@ impl Blocks {
         requires { IsWithin self.now.2 spot.block spot.at }
         ensures { result ≡ rank_at self.now.2 spot.block spot.at }
     {
+        // no sum is greater
+        let _len = self.len();
         let mut rank = spot.at;
         for n in 0..spot.block {
             rank += self.blocks[n].len();
@@ -181,14 +191,7 @@ impl Blocks {
     {
         let is_opened = enter(&mut self.blocks, spot, number);
         self.len += 1;
-        if !is_opened {
-            return Change::Same;
-        }
-        if self.blocks.len() < self.blocks.capacity() {
-            return Change::Opened;
-        }
-        join(&mut self.blocks);
-        Change::Joined
+        leave_room(&mut self.blocks, is_opened)
     }
 
     /// Removes the number at the spot. Returns whether its block left.
@@ -216,31 +219,52 @@ fn enter(blocks: &mut Vec<Block>, spot: Spot, number: u32) -> bool
     requires within { IsWithin (map length blocks.old.items) spot.block spot.at }
     requires room { length blocks.old.items < vec_capacity blocks.old }
     ensures numbers { concat blocks.new.items ≡ insert (concat blocks.old.items) (rank_at (map length blocks.old.items) spot.block spot.at) number }
-    ensures some { 0 < length blocks.new.items }
     ensures within { length blocks.new.items ≤ vec_capacity blocks.new }
+    ensures some { 0 < length blocks.new.items }
     ensures same { result ≡ false → length blocks.new.items < vec_capacity blocks.new }
     ensures room { vec_capacity blocks.old ≤ vec_capacity blocks.new }
 {
     match blocks[spot.block].enter(spot.at, number) {
         None => false,
         Some(more) => {
-            put(blocks, spot.block + 1, more);
+            put_behind(blocks, spot.block, more);
             true
         }
     }
 }
 
-/// Inserts a block before the n-th, where there is room for it.
-fn put(blocks: &mut Vec<Block>, n: usize, block: Block)
-    requires within { n ≤ length blocks.old.items }
+/// Inserts a block behind the n-th, where there is room for it.
+fn put_behind(blocks: &mut Vec<Block>, n: usize, block: Block)
+    requires within { n < length blocks.old.items }
     requires room { length blocks.old.items < vec_capacity blocks.old }
-    ensures blocks { blocks.new.items ≡ insert blocks.old.items n block }
+    ensures blocks { blocks.new.items ≡ insert blocks.old.items (n + 1) block }
     ensures room { vec_capacity blocks.old ≤ vec_capacity blocks.new }
 {
-    match blocks.insert(n, block) {
+    match blocks.insert(n + 1, block) {
         Ok(()) => {}
         Err(_) => unreachable!(),
     }
+}
+
+/// Where there is no room for another block, two neighbours become one.
+fn leave_room(blocks: &mut Vec<Block>, is_opened: bool) -> Change
+    requires some { 0 < length blocks.old.items }
+    requires within { length blocks.old.items ≤ vec_capacity blocks.old }
+    requires same { is_opened ≡ false → length blocks.old.items < vec_capacity blocks.old }
+    requires few { length (concat blocks.old.items) + 65 ≤ 64 * vec_capacity blocks.old }
+    ensures same { concat blocks.new.items ≡ concat blocks.old.items }
+    ensures some { 0 < length blocks.new.items }
+    ensures fewer { length blocks.new.items < vec_capacity blocks.new }
+    ensures room { vec_capacity blocks.new ≡ vec_capacity blocks.old }
+{
+    if !is_opened {
+        return Change::Same;
+    }
+    if blocks.len() < blocks.capacity() {
+        return Change::Opened;
+    }
+    join(blocks);
+    Change::Joined
 }
 
 /// A block without numbers leaves, unless it is the only one. Returns whether it does.
@@ -258,20 +282,29 @@ fn close(blocks: &mut Vec<Block>, n: usize) -> bool
     true
 }
 
-/// Makes one block of two neighbours that fit in one. There are some where the numbers are so few.
+/// Makes one block of two neighbours that fit in one.
 fn join(blocks: &mut Vec<Block>)
-    requires some { 0 < length blocks.old.items }
-    requires few { length (concat blocks.old.items) + 64 < 64 * length blocks.old.items }
+    requires { length (concat blocks.old.items) + 64 < 64 * length blocks.old.items }
     ensures same { concat blocks.new.items ≡ concat blocks.old.items }
     ensures some { 0 < length blocks.new.items }
     ensures fewer { length blocks.new.items < length blocks.old.items }
     ensures room { vec_capacity blocks.new ≡ vec_capacity blocks.old }
 {
+    let n = joinable(blocks);
+    let block = blocks.remove(n);
+    blocks[n - 1].append(block.as_slice());
+}
+
+/// The first block that fits in one with the block before it. There is one where the numbers are so few.
+fn joinable(blocks: &Vec<Block>) -> usize
+    requires { length (concat blocks.now.items) + 64 < 64 * length blocks.now.items }
+    ensures later { 0 < result }
+    ensures within { result < length blocks.now.items }
+    ensures fits { AreJoinable result blocks.now.items }
+{
     for n in 1..blocks.len() {
         if blocks[n - 1].len() + blocks[n].len() <= EACH {
-            let block = blocks.remove(n);
-            blocks[n - 1].append(block.as_slice());
-            return;
+            return n;
         }
     }
     unreachable!()
@@ -279,7 +312,8 @@ fn join(blocks: &mut Vec<Block>)
 
 /// Makes each number of the blocks the place itself; places greater than `gone` become one less.
 fn settle_blocks(blocks: &mut Vec<Block>, first: u32, gone: usize)
-    ensures { blocks.new.items ≡ map (λ r. map (λ n. lowered gone (n - first)) r) blocks.old.items }
+    ensures blocks { blocks.new.items ≡ map (λ r. map (λ n. lowered gone (n - first)) r) blocks.old.items }
+    ensures room { vec_capacity blocks.new ≡ vec_capacity blocks.old }
 {
     for block in blocks.iter_mut() {
         block.settle(first, gone);

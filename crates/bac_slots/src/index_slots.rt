@@ -143,7 +143,7 @@ impl<K: Ord + Copy + Drop, T: Drop> SlotTable<K, T> for IndexSlots<K, T> {
     }
 
     fn set(&mut self, key: &K, value: T) -> Option<T> {
-        let Ok(seen) = locate(&self.slots, &self.places, &self.guide, key) else {
+        let Some(seen) = look_up(&self.slots, &self.places, &self.guide, key) else {
             return None;
         };
         let slot = &mut self.slots[seen.place];
@@ -157,7 +157,7 @@ impl<K: Ord + Copy + Drop, T: Drop> SlotTable<K, T> for IndexSlots<K, T> {
         let is_closed = self.places.take(seen.spot, seen.place);
         match self.slots.remove(seen.place) {
             Some(slot) => {
-                self.near = left(self.near, seen.spot, is_closed);
+                self.near = left(&self.places, self.near, seen.spot, is_closed);
                 guide_out(&mut self.guide, &self.slots, &self.places, seen.spot, is_closed);
                 Some(slot.value)
             }
@@ -264,62 +264,7 @@ fn is_above<K: Ord, T>(slots: &VecDeque<Slot<K, T>>, places: &Places, spot: Spot
     }
 }
 
-/// Whether all keys from this spot on are greater; the first of them decides.
-fn is_below<K: Ord, T>(slots: &VecDeque<Slot<K, T>>, places: &Places, spot: Spot, key: &K) -> bool
-    requires distinct { IsDistinct K.eq slots.now.items }
-    requires index { IsIndex K.cmp places.now.0 slots.now.items }
-    requires within { IsWithin places.now.2 spot.block spot.at }
-    ensures { result ≡ true → AllAbove K.cmp key.now (rank_at places.now.2 spot.block spot.at) (in_order K.cmp slots.now.items) }
-{
-    let next = places.next(spot);
-    if !places.holds(next) {
-        return places.is_end(spot);
-    }
-    match slot_at(slots, places, next).key.cmp(key) {
-        Ordering::Greater => true,
-        _ => false,
-    }
-}
-
-/// The key's place, if its slot is at the spot.
-fn found_at<K: Ord, T>(
-    slots: &VecDeque<Slot<K, T>>,
-    places: &Places,
-    spot: Spot,
-    key: &K,
-) -> Option<Seen>
-    requires distinct { IsDistinct K.eq slots.now.items }
-    requires index { IsIndex K.cmp places.now.0 slots.now.items }
-    ensures { IfSome result (λ seen. IsSeen K.eq K.cmp key.now slots.now.items places.now.2 (Ok seen)) }
-{
-    if !places.holds(spot) {
-        return None;
-    }
-    match slot_at(slots, places, spot).key.cmp(key) {
-        Ordering::Equal => Some(Seen {
-            spot,
-            place: places.at_spot(spot),
-        }),
-        _ => None,
-    }
-}
-
-/// Whether all keys before this spot are less, and all others greater.
-fn is_gap<K: Ord, T>(slots: &VecDeque<Slot<K, T>>, places: &Places, spot: Spot, key: &K) -> bool
-    requires distinct { IsDistinct K.eq slots.now.items }
-    requires index { IsIndex K.cmp places.now.0 slots.now.items }
-    ensures { result ≡ true → IsSeen K.eq K.cmp key.now slots.now.items places.now.2 (Err spot) }
-{
-    if !places.has(spot) {
-        return false;
-    }
-    if !is_above(slots, places, spot, key) {
-        return false;
-    }
-    is_below(slots, places, spot, key)
-}
-
-/// Whether the key is at this spot, or would be; None where it is elsewhere, or that is not known.
+/// Whether the key is at this spot, or would be; None where it is elsewhere, or that is not known. The slots on both sides decide.
 fn look_at<K: Ord, T>(
     slots: &VecDeque<Slot<K, T>>,
     places: &Places,
@@ -330,13 +275,48 @@ fn look_at<K: Ord, T>(
     requires index { IsIndex K.cmp places.now.0 slots.now.items }
     ensures { IfSome result (λ r. IsSeen K.eq K.cmp key.now slots.now.items places.now.2 r) }
 {
-    if let Some(seen) = found_at(slots, places, spot, key) {
-        return Some(Ok(seen));
+    if !places.has(spot) {
+        return None;
     }
-    if is_gap(slots, places, spot, key) {
-        return Some(Err(spot));
+    let next = places.next(spot);
+    if !places.holds(next) {
+        return gap_at_end(slots, places, spot, key);
     }
-    None
+    match slot_at(slots, places, next).key.cmp(key) {
+        Ordering::Less => None,
+        Ordering::Equal => Some(Ok(Seen {
+            spot: next,
+            place: places.at_spot(next),
+        })),
+        Ordering::Greater => {
+            if is_above(slots, places, spot, key) {
+                Some(Err(spot))
+            } else {
+                None
+            }
+        }
+    }
+}
+
+/// Whether the key would be at this spot, behind all others; None where that is not known.
+fn gap_at_end<K: Ord, T>(
+    slots: &VecDeque<Slot<K, T>>,
+    places: &Places,
+    spot: Spot,
+    key: &K,
+) -> Option<Result<Seen, Spot>>
+    requires distinct { IsDistinct K.eq slots.now.items }
+    requires index { IsIndex K.cmp places.now.0 slots.now.items }
+    requires within { IsWithin places.now.2 spot.block spot.at }
+    ensures { IfSome result (λ r. IsSeen K.eq K.cmp key.now slots.now.items places.now.2 r) }
+{
+    if !places.is_end(spot) {
+        return None;
+    }
+    if !is_above(slots, places, spot, key) {
+        return None;
+    }
+    Some(Err(spot))
 }
 
 /// Where a key is or would be in a block, if it is one of its keys or between them: halves the part of the block in which it can be.
@@ -346,11 +326,12 @@ fn place_in<K: Ord, T>(
     block: usize,
     key: &K,
 ) -> Spot {
+    let numbers = places.numbers_of(block);
     let mut first = 0;
-    let mut end = places.len_of(block);
+    let mut end = numbers.len();
     while first < end {
         let middle = first + (end - first) / 2;
-        if is_before(slots, places.of_block(block, middle), key) {
+        if is_before(slots, places, numbers.get(middle), key) {
             first = middle + 1;
         } else {
             end = middle;
@@ -359,12 +340,17 @@ fn place_in<K: Ord, T>(
     Spot { block, at: first }
 }
 
-/// Whether a slot has a lesser key.
-fn is_before<K: Ord, T>(slots: &VecDeque<Slot<K, T>>, place: Option<usize>, key: &K) -> bool {
-    let Some(place) = place else {
+/// Whether the slot that a number stands for has a lesser key.
+fn is_before<K: Ord, T>(
+    slots: &VecDeque<Slot<K, T>>,
+    places: &Places,
+    number: Option<&u32>,
+    key: &K,
+) -> bool {
+    let Some(number) = number else {
         return false;
     };
-    match slots.get(place) {
+    match slots.get(places.place_of(*number)) {
         Some(slot) => match slot.key.cmp(key) {
             Ordering::Less => true,
             _ => false,
@@ -444,7 +430,36 @@ fn spot_near<K: Ord, T>(
     }
 }
 
-/// Where the key is, or None if it is absent. The oldest slot's place is looked for in its block, and no key but its own is compared there.
+/// Whether the key is that of the oldest slot.
+fn is_oldest<K: Ord, T>(slots: &VecDeque<Slot<K, T>>, key: &K) -> bool {
+    match slots.get(0) {
+        Some(slot) => match slot.key.cmp(key) {
+            Ordering::Equal => true,
+            _ => false,
+        },
+        None => false,
+    }
+}
+
+/// Where the key is or would be. The place of the oldest slot is looked for in its block, where no other key is compared.
+fn guess<K: Ord, T>(
+    slots: &VecDeque<Slot<K, T>>,
+    places: &Places,
+    guide: &Guide<K>,
+    key: &K,
+) -> Spot {
+    let block = guide.block_of(key);
+    if is_oldest(slots, key) {
+        Spot {
+            block,
+            at: places.first_in(block),
+        }
+    } else {
+        place_in(slots, places, block, key)
+    }
+}
+
+/// Where the key is, or None if it is absent.
 fn look_up<K: Ord, T>(
     slots: &VecDeque<Slot<K, T>>,
     places: &Places,
@@ -456,35 +471,28 @@ fn look_up<K: Ord, T>(
     ensures { MatchOption result (value_at K.eq key.now slots.now.items ≡ None)
         (λ seen. IsSeen K.eq K.cmp key.now slots.now.items places.now.2 (Ok seen)) }
 {
-    let block = guide.block_of(key);
-    let oldest = Spot {
-        block,
-        at: places.first_in(block),
-    };
-    if let Some(seen) = found_at(slots, places, oldest, key) {
-        return Some(seen);
-    }
-    match locate(slots, places, guide, key) {
+    match search_near(slots, places, guide, guess(slots, places, guide, key), key) {
         Ok(seen) => Some(seen),
         Err(_) => None,
     }
 }
 
-/// A spot after a place at another spot was removed, and its block with it if that had no other.
-fn left(spot: Spot, gone: Spot, is_closed: bool) -> Spot {
-    if is_closed && gone.block < spot.block {
-        return Spot {
-            block: spot.block - 1,
-            at: spot.at,
-        };
+/// A spot after a place at another spot was removed, and its block with it if that had no other. It stays behind the place that it was behind.
+fn left(places: &Places, spot: Spot, gone: Spot, is_closed: bool) -> Spot {
+    let mut block = spot.block;
+    let mut at = spot.at;
+    if is_closed && gone.block < block {
+        block -= 1;
+    } else if gone.block == block && gone.at < at {
+        at -= 1;
     }
-    if spot.block == gone.block && gone.at < spot.at {
-        return Spot {
-            block: spot.block,
-            at: spot.at - 1,
-        };
+    if at > 0 || block == 0 {
+        return Spot { block, at };
     }
-    spot
+    Spot {
+        block: block - 1,
+        at: places.numbers_of(block - 1).len(),
+    }
 }
 
 /// The first key of a block.
@@ -493,8 +501,8 @@ fn first_key<K: Ord + Copy, T>(
     places: &Places,
     block: usize,
 ) -> Option<K> {
-    let place = places.of_block(block, 0)?;
-    let slot = slots.get(place)?;
+    let number = places.numbers_of(block).get(0)?;
+    let slot = slots.get(places.place_of(*number))?;
     Some(slot.key)
 }
 
@@ -521,8 +529,9 @@ fn guide_in<K: Ord + Copy + Drop, T>(
     match change {
         Change::Same => {}
         Change::Opened => {
-            if let Some(first) = first_key(slots, places, spot.block + 1) {
-                guide.open(spot.block + 1, first);
+            let next = spot.block.saturating_add(1);
+            if let Some(first) = first_key(slots, places, next) {
+                guide.open(next, first);
             }
         }
         Change::Joined => {

@@ -59,15 +59,14 @@ impl Places {
         self.numbers.most()
     }
 
-    /// How many places a block has; none where there is no such block.
-    pub(crate) fn len_of(&self, block: usize) -> usize {
-        self.numbers.of_block(block).len()
+    /// The numbers of a block; none where there is no such block.
+    pub(crate) fn numbers_of(&self, block: usize) -> &[u32] {
+        self.numbers.of_block(block)
     }
 
-    /// The n-th place of a block, or None where there is none.
-    pub(crate) fn of_block(&self, block: usize, n: usize) -> Option<usize> {
-        let number = self.numbers.of_block(block).get(n)?;
-        Some(number.saturating_sub(self.gone) as usize)
+    /// The place that a number stands for.
+    pub(crate) fn place_of(&self, number: u32) -> usize {
+        number.saturating_sub(self.gone) as usize
     }
 
     /// Where the first place of all is in a block that has it.
@@ -90,7 +89,8 @@ impl Places {
 
     /// Whether the spot is that of a place, or the one behind the places of a block.
     pub(crate) fn has(&self, spot: Spot) -> bool
-        ensures { result ≡ true → IsWithin self.now.2 spot.block spot.at }
+        ensures within { result ≡ true → IsWithin self.now.2 spot.block spot.at }
+        ensures small { result ≡ true → rank_at self.now.2 spot.block spot.at ≤ length self.now.0 }
     {
         self.numbers.has(spot)
     }
@@ -112,7 +112,6 @@ impl Places {
 
     /// The same as the first spot of the next block, where the spot is behind the places of a block.
     pub(crate) fn next(&self, spot: Spot) -> Spot
-        requires { IsWithin self.now.2 spot.block spot.at }
         ensures { rank_at self.now.2 result.block result.at ≡ rank_at self.now.2 spot.block spot.at }
     {
         self.numbers.next(spot)
@@ -173,10 +172,11 @@ impl Places {
         let is_closed = self.numbers.remove(spot);
         if place == 0 && self.gone < MOST_PLACES {
             self.gone += 1;
+            is_closed
         } else {
             self.numbers.settle(self.gone, place);
             self.gone = 0;
+            is_closed
         }
-        is_closed
     }
 }
