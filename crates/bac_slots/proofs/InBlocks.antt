@@ -1,10 +1,10 @@
 -- Numbers in blocks.
-use Rattle.std.proofs.Common.{◌≡◌, ℕ, zero, suc, ◌+◌, ◌-◌, ◌*◌, ◌<◌, ◌≤◌, List, [], ◌∷◌, ◌++◌, map, length, Some, slice_get, take, drop, set}
+use Rattle.std.proofs.Common.{◌≡◌, ℕ, zero, suc, ◌+◌, ◌-◌, ◌*◌, ◌<◌, ◌≤◌, List, [], ◌∷◌, ◌++◌, map, length, Some, slice_get, take, set}
 use Rattle.std.proofs.Common.{Bool, true, false, nat_lt, refl, ap, sym, subst, ◌∙◌, arith}
 use Rattle.std.specs.List.{concat, insert, remove}
 use Rattle.std.proofs.lemmas.Bool.Decides.{nat_tests}
-use Rattle.std.proofs.lemmas.List.{append_assoc, length-append, length-map, map-append}
-use Rattle.std.proofs.lemmas.List.Edits.{insert-append_left, insert-append_right, remove-append_left, remove-append_right, length-insert, length-remove}
+use Rattle.std.proofs.lemmas.List.{append_assoc, length-append, map-append}
+use Rattle.std.proofs.lemmas.List.Edits.{insert-append_left, insert-append_right, remove-append_left, remove-append_right, length-remove}
 use Rattle.bac_slots.specs.Indexes.{rank_at, IsHeld, IsWithin}
 
 -- ---- the first cells
@@ -285,6 +285,7 @@ joined bs n r q s l e f g =
         let second : b ≡ q = cc in
         ap (λ t. t ++ concat bs) (g ∙ ap (λ t. t ++ q) (sym first) ∙ ap (λ t. a ++ t) (sym second)) ∙ append_assoc a b (concat bs)
     step (a ∷ bs) (suc k) e f = ap (λ t. a ++ t) (step bs k e f)
+
     go : (bs : List (List ℕ)) (k : ℕ) → slice_get bs (suc k) ≡ Some q → slice_get (remove bs (suc k)) k ≡ Some r → n ≡ suc k
         → concat (set (remove bs n) (n - 1) s) ≡ concat bs
     go bs k e f next =
@@ -329,8 +330,8 @@ crowded_few [] c = omega arith
 crowded_few (r ∷ []) c = let both = length-append r [] in omega (arith, both)
 crowded_few (r ∷ q ∷ bs) c =
     let rest = crowded_few bs (λ k a b l e f.
-        let after : suc (suc k) + 1 ≡ suc (suc (k + 1)) = omega arith in
-        c (suc (suc k)) a b (omega (arith, l)) e (ap (λ m. slice_get (r ∷ q ∷ bs) m) after ∙ f)) in
+    let after : suc (suc k) + 1 ≡ suc (suc (k + 1)) = omega arith in
+    c (suc (suc k)) a b (omega (arith, l)) e (ap (λ m. slice_get (r ∷ q ∷ bs) m) after ∙ f)) in
     let pair = c 0 r q (omega arith) refl refl in
     let one = length-append r (q ++ concat bs) in
     let two = length-append q (concat bs) in

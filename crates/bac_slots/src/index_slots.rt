@@ -158,7 +158,13 @@ impl<K: Ord + Copy + Drop, T: Drop> SlotTable<K, T> for IndexSlots<K, T> {
         match self.slots.remove(seen.place) {
             Some(slot) => {
                 self.near = left(&self.places, self.near, seen.spot, is_closed);
-                guide_out(&mut self.guide, &self.slots, &self.places, seen.spot, is_closed);
+                guide_out(
+                    &mut self.guide,
+                    &self.slots,
+                    &self.places,
+                    seen.spot,
+                    is_closed,
+                );
                 Some(slot.value)
             }
             None => unreachable!(),
@@ -360,7 +366,11 @@ fn is_before<K: Ord, T>(
 }
 
 /// Looks for a key in the whole index.
-fn search_all<K: Ord, T>(slots: &VecDeque<Slot<K, T>>, places: &Places, key: &K) -> Result<Seen, Spot>
+fn search_all<K: Ord, T>(
+    slots: &VecDeque<Slot<K, T>>,
+    places: &Places,
+    key: &K,
+) -> Result<Seen, Spot>
     requires distinct { IsDistinct K.eq slots.now.items }
     requires index { IsIndex K.cmp places.now.0 slots.now.items }
     ensures { IsSeen K.eq K.cmp key.now slots.now.items places.now.2 result }

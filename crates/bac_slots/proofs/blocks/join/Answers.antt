@@ -1,5 +1,5 @@
 -- The numbers of the one block are behind those of the other, as before.
-use Rattle.std.proofs.Common.{◌≡◌, ◌+◌, ◌-◌, ◌<◌, ◌++◌, ◌∙◌, ℕ, List, length, Some, slice_get, refl, ap, subst, arith, set}
+use Rattle.std.proofs.Common.{◌≡◌, ◌-◌, ◌++◌, ◌∙◌, ℕ, List, length, Some, slice_get, refl, ap, subst, arith, set}
 use Rattle.std.specs.List.{concat, remove}
 use Rattle.std.proofs.lemmas.List.Edits.{length-remove}
 use Rattle.std.proofs.lemmas.Option.{slice_get_read}

@@ -1,5 +1,5 @@
 -- The number enters the lower or the upper part.
-use Rattle.std.proofs.Common.{◌-◌, ◌∙◌, ◌++◌, ap, sym, arith}
+use Rattle.std.proofs.Common.{◌∙◌, ◌++◌, ap, sym, arith}
 use Rattle.std.specs.List.{insert}
 use Rattle.std.proofs.lemmas.List.Edits.{insert-append_left, insert-append_right}
 use Rattle.bac_slots.proofs.block.Block.enter.Goals.{then-n-keep, else-n-keep}

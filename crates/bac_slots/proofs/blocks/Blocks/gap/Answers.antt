@@ -1,5 +1,5 @@
 -- The spot is behind that of the number before.
-use Rattle.std.proofs.Common.{◌+◌, arith}
+use Rattle.std.proofs.Common.{arith}
 use Rattle.bac_slots.proofs.InBlocks.{within_first, within_next, rank_more, at_least}
 use Rattle.bac_slots.proofs.blocks.Blocks.gap.Goals as goal
 

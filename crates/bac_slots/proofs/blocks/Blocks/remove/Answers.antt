@@ -4,7 +4,6 @@ use Rattle.std.specs.List.{concat}
 use Rattle.std.proofs.lemmas.List.{length-set}
 use Rattle.std.proofs.lemmas.List.Edits.{length-remove}
 use Rattle.std.proofs.lemmas.Option.{slice_get_read}
-use Rattle.bac_slots.specs.Indexes.{rank_at}
 use Rattle.bac_slots.proofs.InBlocks.{held_in, held_read, rank_below, taken_out}
 use Rattle.bac_slots.proofs.blocks.Blocks.remove.Goals as goal
 
