@@ -440,18 +440,7 @@ fn spot_near<K: Ord, T>(
     }
 }
 
-/// Whether the key is that of the oldest slot.
-fn is_oldest<K: Ord, T>(slots: &VecDeque<Slot<K, T>>, key: &K) -> bool {
-    match slots.get(0) {
-        Some(slot) => match slot.key.cmp(key) {
-            Ordering::Equal => true,
-            _ => false,
-        },
-        None => false,
-    }
-}
-
-/// Where the key is or would be. The place of the oldest slot is looked for in its block, where no other key is compared.
+/// Where the key is or would be, if the slot there has it. The oldest slot is looked for by its place, where no key is compared.
 fn guess<K: Ord, T>(
     slots: &VecDeque<Slot<K, T>>,
     places: &Places,
@@ -459,13 +448,9 @@ fn guess<K: Ord, T>(
     key: &K,
 ) -> Spot {
     let block = guide.block_of(key);
-    if is_oldest(slots, key) {
-        Spot {
-            block,
-            at: places.first_in(block),
-        }
-    } else {
-        place_in(slots, places, block, key)
+    match places.first_in(block) {
+        Some(at) => Spot { block, at },
+        None => place_in(slots, places, block, key),
     }
 }
 

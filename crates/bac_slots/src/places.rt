@@ -69,15 +69,13 @@ impl Places {
         number.saturating_sub(self.gone) as usize
     }
 
-    /// Where the first place of all is in a block that has it.
-    pub(crate) fn first_in(&self, block: usize) -> usize {
-        let mut at = 0;
-        for (n, number) in self.numbers.of_block(block).iter().enumerate() {
-            if *number == self.gone {
-                at = n;
-            }
-        }
-        at
+    /// Where the first place of all is in a block, or None where another block has it.
+    pub(crate) fn first_in(&self, block: usize) -> Option<usize> {
+        let first = self.gone;
+        self.numbers
+            .of_block(block)
+            .iter()
+            .position(|number| *number == first)
     }
 
     /// Whether there is a place at the spot.
