@@ -1,8 +1,7 @@
 -- Numbers in blocks.
 use Rattle.std.proofs.Common.{◌≡◌, ℕ, zero, suc, ◌+◌, ◌-◌, ◌*◌, ◌<◌, ◌≤◌, List, [], ◌∷◌, ◌++◌, map, length, Some, slice_get, take, set}
-use Rattle.std.proofs.Common.{Bool, true, false, nat_lt, refl, ap, sym, subst, ◌∙◌, arith}
+use Rattle.std.proofs.Common.{refl, ap, sym, subst, ◌∙◌, arith}
 use Rattle.std.specs.List.{concat, insert, remove}
-use Rattle.std.proofs.lemmas.Bool.Decides.{nat_tests}
 use Rattle.std.proofs.lemmas.List.{append_assoc, length-append, map-append}
 use Rattle.std.proofs.lemmas.List.Edits.{insert-append_left, insert-append_right, remove-append_left, remove-append_right, length-remove}
 use Rattle.bac_slots.specs.Indexes.{rank_at, IsHeld, IsWithin}
@@ -292,38 +291,9 @@ joined bs n r q s l e f g =
         let less : n - 1 ≡ k = omega (arith, next) in
         ap (λ m. concat (set (remove bs n) m s)) less ∙ ap (λ m. concat (set (remove bs m) k s)) next ∙ step bs k e f
 
-pub get_removed : (bs : List (List ℕ)) (n : ℕ) → 0 < n → slice_get (remove bs n) (n - 1) ≡ slice_get bs (n - 1)
-get_removed bs n l =
-    let k : ℕ = n - 1 in
-    let next : n ≡ suc k = omega (arith, l) in
-    ap (λ m. slice_get (remove bs m) k) next ∙ go bs k
-  where
-    go : (bs : List (List ℕ)) (k : ℕ) → slice_get (remove bs (suc k)) k ≡ slice_get bs k
-    go [] k = refl
-    go (a ∷ bs) zero = refl
-    go (a ∷ bs) (suc k) = go bs k
-
 -- no two neighbours before the n-th fit in one block
 abbrev pub Crowded : ℕ → List (List ℕ) → Type 0
 Crowded n bs = (k : ℕ) (r q : List ℕ) → k + 1 < n → slice_get bs k ≡ Some r → slice_get bs (k + 1) ≡ Some q → 128 < length r + length q
-
-pub crowded_none : (bs : List (List ℕ)) → Crowded 1 bs
-crowded_none bs k r q l e f = absurd (omega (arith, l))
-
-pub crowded_more : (bs : List (List ℕ)) (n : ℕ) (r q : List ℕ) → Crowded n bs → 0 < n → slice_get bs (n - 1) ≡ Some r → slice_get bs n ≡ Some q
-    → 128 < length r + length q → Crowded (n + 1) bs
-crowded_more bs n r q c l e f g k a b within at after = go (nat_lt (k + 1) n) refl
-  where
-    go : (t : Bool) → nat_lt (k + 1) n ≡ t → 128 < length a + length b
-    go true less = c k a b (grind (arith, nat_tests)) at after
-    go false more =
-        let last : k + 1 ≡ n = grind (arith, nat_tests) in
-        let before : k ≡ n - 1 = omega (arith, last) in
-        let one : a ≡ r = let h : slice_get bs (n - 1) ≡ Some a = subst (λ m. slice_get bs m ≡ Some a) before at in cc in
-        let two : b ≡ q = let h : slice_get bs n ≡ Some b = subst (λ m. slice_get bs m ≡ Some b) last after in cc in
-        let long = ap length one in
-        let wide = ap length two in
-        omega (arith, long, wide, g)
 
 pub crowded_few : (bs : List (List ℕ)) → Crowded (length bs) bs → 64 * length bs ≤ length (concat bs) + 64
 crowded_few [] c = omega arith

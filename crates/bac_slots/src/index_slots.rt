@@ -440,21 +440,7 @@ fn spot_near<K: Ord, T>(
     }
 }
 
-/// Where the key is or would be, if the slot there has it. The oldest slot is looked for by its place, where no key is compared.
-fn guess<K: Ord, T>(
-    slots: &VecDeque<Slot<K, T>>,
-    places: &Places,
-    guide: &Guide<K>,
-    key: &K,
-) -> Spot {
-    let block = guide.block_of(key);
-    match places.first_in(block) {
-        Some(at) => Spot { block, at },
-        None => place_in(slots, places, block, key),
-    }
-}
-
-/// Where the key is, or None if it is absent.
+/// Where the key is, or None if it is absent. The oldest slot is looked for by its place, where no other key is compared.
 fn look_up<K: Ord, T>(
     slots: &VecDeque<Slot<K, T>>,
     places: &Places,
@@ -466,7 +452,14 @@ fn look_up<K: Ord, T>(
     ensures { MatchOption result (value_at K.eq key.now slots.now.items ≡ None)
         (λ seen. IsSeen K.eq K.cmp key.now slots.now.items places.now.2 (Ok seen)) }
 {
-    match search_near(slots, places, guide, guess(slots, places, guide, key), key) {
+    let block = guide.block_of(key);
+    if let Some(at) = places.first_in(block) {
+        if let Some(Ok(seen)) = look_at(slots, places, Spot { block, at }, key) {
+            return Some(seen);
+        }
+    }
+    let near = place_in(slots, places, block, key);
+    match search_near(slots, places, guide, near, key) {
         Ok(seen) => Some(seen),
         Err(_) => None,
     }
