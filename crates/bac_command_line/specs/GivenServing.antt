@@ -1,5 +1,5 @@
 -- What the words of `serve` give, as they were read.
-use Rattle.std.specs.Prelude.{◌≡◌, ◌≢◌, ◌⊎◌, ℕ, ◌*◌, ◌^◌, ◌<◌, ◌==◌, nat_lt, Bool, true, not, ◌&&◌, ◌||◌, List, [], ◌∷◌, codes, decimal, if◌then◌else◌}
+use Rattle.std.specs.Prelude.{◌≡◌, ◌⊎◌, ℕ, ◌*◌, ◌^◌, ◌<◌, ◌==◌, nat_lt, Bool, true, false, not, ◌&&◌, ◌||◌, List, [], ◌∷◌, codes, decimal, if◌then◌else◌}
 use Rattle.std.specs.Prelude.{Option, Some, None, MatchOption, is_some}
 use Rattle.std.specs.Net.Addr.{ipv4_octets}
 use Rattle.std.specs.Net.Grammar.{IsIpv4Text}
@@ -7,6 +7,7 @@ use Rattle.std.specs.Str.{bytes_eq}
 use Rattle.std.specs.declared.net.Ipv4Addr.{Ipv4Addr}
 use Rattle.clap.specs.declared.parser.matches.ArgMatches.{ArgMatches}
 use Rattle.bac_value_text.specs.Numbers.{◌>>=◌, number_of, parts_at}
+use Rattle.bac_lists.specs.Addresses.{is_of_node}
 use Rattle.bac_commands.specs.declared.log_level.LogLevel.{LogLevel}
 use Rattle.bac_commands.specs.declared.log_level.LogLevel.TheVariants as level
 use Rattle.bac_node.specs.declared.memory.TheConstants.{MEMORY}
@@ -20,20 +21,17 @@ use Rattle.bac_command_line.specs.declared.serving.Serving.{Serving}
 abbrev pub LOCAL_HOST : List ℕ
 LOCAL_HOST = 127 ∷ 0 ∷ 0 ∷ 1 ∷ []
 
-abbrev pub EVERY_HOST : List ℕ
-EVERY_HOST = 0 ∷ 0 ∷ 0 ∷ 0 ∷ []
-
 -- the text is that of an address with these octets
 abbrev pub IsTextOfHost : (text host : List ℕ) → Type 0
 IsTextOfHost text host = (a : Ipv4Addr) × IsIpv4Text text a × (ipv4_octets a ≡ host)
 
--- the text is no address, or that of all addresses
+-- the text is no address, or one that no node can have
 abbrev pub IsNoHost : (text : List ℕ) → Type 0
-IsNoHost text = ((a : Ipv4Addr) → IsIpv4Text text a → ⊥) ⊎ IsTextOfHost text EVERY_HOST
+IsNoHost text = ((a : Ipv4Addr) → IsIpv4Text text a → ⊥) ⊎ ((host : List ℕ) × IsTextOfHost text host × (is_of_node host ≡ false))
 
--- the text is that address, which is not that of all
+-- the text is that address, which a node can have
 abbrev pub IsHostText : (text host : List ℕ) → Type 0
-IsHostText text host = IsTextOfHost text host × (host ≢ EVERY_HOST)
+IsHostText text host = IsTextOfHost text host × (is_of_node host ≡ true)
 
 -- that of the loopback where none is given
 abbrev pub IsHost : (text : Option (List ℕ)) → (host : Option (List ℕ)) → Type 0

@@ -37,8 +37,8 @@ impl Rounds {
         }
     }
 
-    /// When the next round may begin, after one that might begin from a moment on and began at another: rounds do not drift, and those that are late by a
-    /// whole interval or more are left out.
+    /// When the next round may begin, after one that might begin from a moment on and began at another: rounds do not drift, but after one that began a
+    /// whole interval late, or later, the next begins an interval after it.
     pub(crate) fn next_from(&self, from: u64, began: u64) -> u64
         ensures { result ≡ next_from self.now.every from began }
     {

@@ -114,7 +114,7 @@ impl<F: OpenFiles, M: Machine> Backup<'_, F, M> {
         read_whole(self.asking, &mut self.client, &file, err)
     }
 
-    /// Writes octets to the file of the folder for an object, and reads them again. Answers what the manifest says of it, and whether the folder has these octets.
+    /// Writes octets beside the file of the folder for an object, and reads them again. Answers what the manifest is to say of them, and whether the folder has them.
     fn keep<E: Write>(
         &self,
         object: ObjectIdentifier,
@@ -124,8 +124,7 @@ impl<F: OpenFiles, M: Machine> Backup<'_, F, M> {
         ensures told { IfErr result IsStop }
     {
         let name = name_in(self.folder.alloc, object, err)?;
-        self.folder.write(&name, octets, err)?;
-        let there = self.folder.read(&name, err)?;
+        let there = self.folder.write_unfinished(&name, octets, err)?;
         let file = SavedFile {
             object,
             length: octets.len() as u64,
@@ -149,7 +148,7 @@ impl<F: OpenFiles, M: Machine> Backup<'_, F, M> {
         print_news(alloc, object, &FileNews::Damaged(&name), out, err)
     }
 
-    /// Saves a file of the peer. Answers what the manifest says of it, or None where it was not saved.
+    /// Reads a file of the peer, and writes it beside that of the folder. Answers what the manifest is to say of it; None where it was not read or not written, which is printed.
     fn save<O: Write, E: Write>(
         &mut self,
         object: ObjectIdentifier,
@@ -158,10 +157,9 @@ impl<F: OpenFiles, M: Machine> Backup<'_, F, M> {
     ) -> Result<Option<SavedFile>, Status>
         ensures told { IfErr result IsStop }
     {
-        let alloc = self.folder.alloc;
         let got = self.read(object, err)?;
         if !got.is_whole {
-            print_not_read(alloc, object, &got, out, err)?;
+            print_not_read(self.folder.alloc, object, &got, out, err)?;
             return Ok(None);
         }
         let (file, is_there) = self.keep(object, &got.octets, err)?;
@@ -169,8 +167,30 @@ impl<F: OpenFiles, M: Machine> Backup<'_, F, M> {
             self.print_damaged(object, out, err)?;
             return Ok(None);
         }
-        print_news(alloc, object, &FileNews::Saved(got.octets.len()), out, err)?;
         Ok(Some(file))
+    }
+
+    /// Reads files of the peer, and writes them beside those of the folder, each once. Answers those that are there.
+    fn save_each<O: Write, E: Write>(
+        &mut self,
+        objects: &[ObjectIdentifier],
+        out: &mut O,
+        err: &mut E,
+    ) -> Result<Vec<SavedFile>, Status>
+        ensures told { IfErr result IsStop }
+    {
+        let mut saved = Vec::new(self.folder.alloc);
+        for object in objects {
+            if has_object(&saved, *object) {
+                continue;
+            }
+            if let Some(file) = self.save(*object, out, err)? {
+                if saved.push(file).is_err() {
+                    return Err(no_memory(err));
+                }
+            }
+        }
+        Ok(saved)
     }
 
     /// The files of the manifest that an earlier backup left in the folder; none where there is no manifest.
@@ -183,22 +203,30 @@ impl<F: OpenFiles, M: Machine> Backup<'_, F, M> {
         }
     }
 
-    /// Writes the manifest of the files that were saved. Those of an earlier one that were not saved now keep their lines.
-    fn write_manifest<E: Write>(
+    /// Puts files that were saved, and at last their manifest, in place of those of the folder. Files of an earlier manifest that were not saved now keep their lines.
+    fn finish<O: Write, E: Write>(
         &self,
         saved: &[SavedFile],
         earlier: &[SavedFile],
+        out: &mut O,
         err: &mut E,
     ) -> Result<(), Status>
         ensures told { IfErr result IsStop }
     {
-        let Ok(manifest) = manifest_of(self.folder.alloc, saved, earlier) else {
+        let alloc = self.folder.alloc;
+        let Ok(manifest) = manifest_of(alloc, saved, earlier) else {
             return Err(no_memory(err));
         };
-        self.folder.write(MANIFEST, &manifest, err)
+        self.folder.write_unfinished(MANIFEST, &manifest, err)?;
+        for file in saved {
+            let name = name_in(alloc, file.object, err)?;
+            self.folder.finish(&name, err)?;
+            print_news(alloc, file.object, &FileNews::Saved(file.length), out, err)?;
+        }
+        self.folder.finish(MANIFEST, err)
     }
 
-    /// Saves files of the peer, and then their manifest; where none is saved, the manifest stays as it is. Answers whether all were saved.
+    /// Saves files of the peer. Nothing of the folder changes until all of them are written beside those that are there; where none is saved, nothing changes. Answers whether all were saved.
     fn save_all<O: Write, E: Write>(
         &mut self,
         objects: &[ObjectIdentifier],
@@ -209,18 +237,11 @@ impl<F: OpenFiles, M: Machine> Backup<'_, F, M> {
     {
         self.folder.make(err)?;
         let earlier = self.earlier(err)?;
-        let mut saved = Vec::new(self.folder.alloc);
-        for object in objects {
-            if let Some(file) = self.save(*object, out, err)? {
-                if saved.push(file).is_err() {
-                    return Err(no_memory(err));
-                }
-            }
-        }
+        let saved = self.save_each(objects, out, err)?;
         if !saved.is_empty() {
-            self.write_manifest(&saved, &earlier, err)?;
+            self.finish(&saved, &earlier, out, err)?;
         }
-        Ok(saved.len() == objects.len())
+        Ok(objects.iter().all(|object| has_object(&saved, *object)))
     }
 
     /// Writes the octets of a file of the folder into that of the peer. Answers whether all were written; prints why not.

@@ -15,7 +15,7 @@ use std::io::Write;
 #[derive(Clone, Copy)]
 pub(crate) enum FileNews<'a> {
     /// The folder has its octets, so many.
-    Saved(usize),
+    Saved(u64),
     /// The peer has the octets of the folder, so many.
     Restored(usize),
     /// So many octets were put, and the peer has so many, of which the first are those.

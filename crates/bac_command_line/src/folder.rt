@@ -7,14 +7,13 @@ use crate::objects::octets_of;
 use crate::reasons::print_unwritten;
 use bac_text::{Status, no_memory};
 use std::alloc::Global;
-use std::io;
 use std::io::{ErrorKind, Write};
 
 /// The name of the list of the files of a backup.
 pub(crate) const MANIFEST: &str = "manifest";
 
-/// The name of a file that is being written. It gets its own name once it is whole.
-const UNFINISHED: &str = "unfinished";
+/// What the name of a file ends in until `Folder::finish` gives it its own.
+const UNFINISHED: &str = ".unfinished";
 
 /// A folder, and the files that it is among.
 #[derive(Drop)]
@@ -46,27 +45,44 @@ impl<F: OpenFiles> Folder<'_, F> {
         }
     }
 
-    /// Writes octets to a file in it. Where they cannot be written, `err` and the status say so, and the file is as it was.
-    pub(crate) fn write<E: Write>(
+    /// The path of a file in it that is not finished.
+    fn unfinished_path<E: Write>(&self, name: &str, err: &mut E) -> Result<String, Status>
+        ensures told { IfErr result IsStop }
+    {
+        let folder = self.path;
+        match format!(in self.alloc; "{folder}/{name}{UNFINISHED}") {
+            Ok(path) => Ok(path),
+            Err(_) => Err(no_memory(err)),
+        }
+    }
+
+    /// Writes octets beside a file in it, which stays as it is until `finish`, and reads them again. Where that fails, `err` and the status say so.
+    pub(crate) fn write_unfinished<E: Write>(
         &self,
         name: &str,
         octets: &[u8],
         err: &mut E,
-    ) -> Result<(), Status>
+    ) -> Result<Vec<u8>, Status>
         ensures told { IfErr result IsStop }
     {
-        let path = self.path_of(name, err)?;
-        let unfinished = self.path_of(UNFINISHED, err)?;
-        match self.replace(&path, &unfinished, octets) {
-            Ok(()) => Ok(()),
-            Err(error) => Err(print_unwritten(&path, &error, err)),
+        let path = self.unfinished_path(name, err)?;
+        if let Err(error) = self.files.write(&path, octets) {
+            return Err(print_unwritten(&path, &error, err));
         }
+        let file = opened(self.files, &path, err)?;
+        octets_of(self.alloc, &path, file, err)
     }
 
-    /// Writes octets to a file, which then gets the name of another one.
-    fn replace(&self, path: &str, unfinished: &str, octets: &[u8]) -> io::Result<()> {
-        self.files.write(unfinished, octets)?;
-        self.files.rename(unfinished, path)
+    /// Puts what was written beside a file in its place. Where that fails, `err` and the status say so, and the file is as it was.
+    pub(crate) fn finish<E: Write>(&self, name: &str, err: &mut E) -> Result<(), Status>
+        ensures told { IfErr result IsStop }
+    {
+        let from = self.unfinished_path(name, err)?;
+        let to = self.path_of(name, err)?;
+        match self.files.rename(&from, &to) {
+            Ok(()) => Ok(()),
+            Err(error) => Err(print_unwritten(&to, &error, err)),
+        }
     }
 
     /// The octets of a file in it, or None where there is no such file. Where it cannot be read, `err` and the status say so.

@@ -208,6 +208,10 @@ fn serve_database<M: Machine, O: Write, E: Write>(
         (OnClock M.is_made M.Timer.told) result serving.now path.now document (O.contents out.old) (O.contents out.new) }
 {
     let (alloc, machine) = environment;
+    // (a port that is taken is told before the file is made: a server that finds its file there begins as one that was restarted)
+    if let Err(error) = machine.bind(serving.host, serving.port) {
+        return print_not_bound(serving, &error, err);
+    }
     let (database, is_new) = match open_kept(machine, path, err) {
         Ok(opened) => opened,
         Err(status) => return status,

@@ -6,7 +6,7 @@ ghost use Rattle.bac_text.specs.declared.status.Status.TheVariants as status;
 use crate::seconds::{bad_pace, print_bad_pace};
 use crate::serving_words::{read_memory, remembers_in_vain};
 use bac_forms::FORM_NAMES;
-use bac_lists::{EVERY_HOST, read_end, read_host, read_link, read_route};
+use bac_lists::{EVERY_HOST, is_of_node, read_end, read_host, read_link, read_route};
 use bac_objects::{DocumentFault, document_findings};
 use bac_text::{Status, complain, no_memory};
 use clap::ArgMatches;
@@ -97,23 +97,24 @@ pub(crate) fn print_document_fault<E: Write>(
 const ONE_HOST: &str =
     "single address: answers might leave from another one than was asked; give the address that clients ask";
 
-/// The text behind `--at` that is no address, or all of them, and the form that is wanted.
+/// The text behind `--at` that is no address of a server, and what is wanted.
 fn bad_host<'a>(given: &ArgMatches<'a>) -> Option<(&'a str, &'static str)> {
     let at = given.get_str("at")?;
-    let Some(host) = read_host(at) else {
-        return Some((at, "A.B.C.D"));
-    };
-    if host == EVERY_HOST {
-        Some((at, ONE_HOST))
-    } else {
-        None
+    match read_host(at) {
+        None => Some((at, "A.B.C.D")),
+        Some(EVERY_HOST) => Some((at, ONE_HOST)),
+        Some(host) if !is_of_node(host) => Some((at, NODE_HOST)),
+        Some(_) => None,
     }
 }
+
+/// What is wanted in place of an address of a group of hosts, or of all hosts.
+const NODE_HOST: &str = "address of a node";
 
 /// What is wanted in place of a text that is no address of a node.
 fn wanted_of_link(text: &str) -> &'static str {
     match read_end(text) {
-        Some(_) => "address of a node",
+        Some(_) => NODE_HOST,
         None => "A.B.C.D or A.B.C.D:P",
     }
 }

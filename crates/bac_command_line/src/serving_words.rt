@@ -8,7 +8,7 @@ ghost use Rattle.bac_command_line.specs.Serving.{is_reusing, reuse_of};
 use crate::asking::{flag_of, number_of};
 use crate::serving::Serving;
 use bac_commands::LogLevel;
-use bac_lists::{BACNET_PORT, EVERY_HOST, LOCAL_HOST, read_host};
+use bac_lists::{BACNET_PORT, LOCAL_HOST, is_of_node, read_host};
 use bac_node::{MEMORY, Reuse};
 use bac_value_text::{number_in, parts_at};
 use clap::ArgMatches;
@@ -188,13 +188,13 @@ fn level_of(given: &ArgMatches<'_>) -> Option<LogLevel>
     }
 }
 
-/// The address that a text is. None where it is none, or all of this machine's: then the system chooses from which one an answer leaves, and it need not be the
-/// one that was asked.
+/// The address that a text is. None where it is none, or none that a node can have; 0.0.0.0, which is all of this machine's, is none either: the system would
+/// choose from which one an answer leaves, and it need not be the one that was asked.
 fn host_named(text: &str) -> Option<[u8; 4]>
     ensures { MatchOption result (IsNoHost text.now) (IsHostText text.now) }
 {
     match read_host(text) {
-        Some(host) if host != EVERY_HOST => Some(host),
+        Some(host) if is_of_node(host) => Some(host),
         _ => None,
     }
 }

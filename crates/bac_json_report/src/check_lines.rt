@@ -12,12 +12,11 @@ ghost use Rattle.bac_text.specs.Texts.{AppendsText};
 ghost use Rattle.serde_json.specs.View.{view};
 
 use crate::fault::{fault_json, outer_fault_json};
-use crate::input::LINE_LIMIT;
 use crate::line::print_json;
 use crate::line_check::{LineCheck, Verdict};
 use crate::line_report::{LineReport, report_lines_over};
 use bac_json::Members;
-use bac_text::{CheckError, Status, check_datagram, read_capture_line, read_of};
+use bac_text::{CheckError, LINE_LIMIT, Status, check_datagram, read_capture_line, read_of};
 use serde_json::Value as Json;
 use std::alloc::{AllocError, Global};
 use std::io;

@@ -9,9 +9,10 @@ ghost use Rattle.bac_text.specs.Outcome.{shown_status};
 ghost use Rattle.bac_text.specs.Texts.{AppendsText};
 
 use crate::datagram::{show_bad_line, show_datagram};
-use crate::input::LINE_LIMIT;
 use crate::line_report::{LineReport, report_lines_over};
-use bac_text::{CheckError, Status, complain, no_memory, octets_in, output_failed, read_of};
+use bac_text::{
+    CheckError, LINE_LIMIT, Status, complain, no_memory, octets_in, output_failed, read_of,
+};
 use std::alloc::Global;
 use std::io;
 use std::io::{BufRead, ErrorKind, Write};

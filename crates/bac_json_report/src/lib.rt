@@ -7,7 +7,6 @@ mod datagram;
 mod decode;
 mod fault;
 mod file_check;
-mod input;
 mod line;
 mod line_check;
 mod line_report;

@@ -4,8 +4,7 @@ ghost use Rattle.bac_json_report.specs.LineReports.{AreReported, AreVisited, IsE
 ghost use Rattle.bac_text.specs.Statuses.{IfEnded};
 ghost use Rattle.bac_text.specs.declared.status.Status.{Status as Ended};
 
-use crate::input::next_line;
-use bac_text::{CheckError, Status, stopped};
+use bac_text::{CheckError, Status, next_line, stopped};
 use std::alloc::Global;
 use std::io;
 use std::io::{BufRead, ErrorKind, Write};

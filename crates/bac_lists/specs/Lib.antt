@@ -1,3 +1,4 @@
+pub mod Addresses
 pub mod LineWords
 pub mod LineNames
 pub mod QuestionLines

@@ -1,8 +1,9 @@
 //! IPv4 addresses, UDP ports and the ways behind routers as words.
-ghost use Rattle.std.specs.Prelude.{◌≡◌, MatchOption};
+ghost use Rattle.std.specs.Prelude.{◌≡◌, true, take, MatchOption, IfSome};
 ghost use Rattle.std.specs.Net.Addr.{ipv4_octets};
 ghost use Rattle.std.specs.Net.Grammar.{IsIpv4Text};
 ghost use Rattle.std.specs.declared.net.Ipv4Addr.{Ipv4Addr};
+ghost use Rattle.bac_lists.specs.Addresses.{is_of_node};
 
 use bac_npdu::{LinkAddress, Peer, Route};
 use std::net::Ipv4Addr;
@@ -30,7 +31,9 @@ pub fn read_host(text: &str) -> Option<[u8; 4]>
 }
 
 /// The address of a link: a host and a UDP port (clause J.1.2).
-pub fn link_at(host: [u8; 4], port: u16) -> LinkAddress {
+pub fn link_at(host: [u8; 4], port: u16) -> LinkAddress
+    ensures { take 4 result ≡ host }
+{
     let [a, b, c, d] = host;
     let [high, low] = port.to_be_bytes();
     [a, b, c, d, high, low]
@@ -43,13 +46,17 @@ fn read_port(text: &str) -> Option<u16> {
 }
 
 /// Whether a node can have an address: not where it is 0.0.0.0, of a group, reserved, or that of all hosts of a link.
-fn is_of_node(host: [u8; 4]) -> bool {
+pub fn is_of_node(host: [u8; 4]) -> bool
+    ensures { result ≡ is_of_node host }
+{
     host != EVERY_HOST && host[0] < FIRST_GROUP
 }
 
 /// The address of a node that a text as `192.168.1.20:47809` is; without a port, which is 1 to 65,535, it is that of BACnet/IP. None of any other text, and of
 /// an address that no node has: 0.0.0.0, and those from 224.0.0.0 on.
-pub fn read_link(text: &str) -> Option<LinkAddress> {
+pub fn read_link(text: &str) -> Option<LinkAddress>
+    ensures { IfSome result (λ link. is_of_node (take 4 link) ≡ true) }
+{
     let (host, port) = read_end(text)?;
     if is_of_node(host) {
         Some(link_at(host, port.unwrap_or(BACNET_PORT)))

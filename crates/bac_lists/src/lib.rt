@@ -13,8 +13,8 @@ mod source;
 mod value_forms;
 
 pub use address::{
-    BACNET_PORT, EVERY_HOST, LOCAL_HOST, host_towards, link_at, read_end, read_host, read_link,
-    read_route,
+    BACNET_PORT, EVERY_HOST, LOCAL_HOST, host_towards, is_of_node, link_at, read_end, read_host,
+    read_link, read_route,
 };
 pub use asker::{Asker, NO_LINE};
 pub use bad_words::print_bad_words;

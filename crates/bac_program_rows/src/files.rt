@@ -100,8 +100,18 @@ impl<'a> Files<'a> {
         }
     }
 
+    /// The octets that a file has now: what was written last, or those of the scene.
+    pub(crate) fn octets_at(&self, path: &str) -> Option<Vec<u8>> {
+        if let Some(octets) = self.written_at(path) {
+            return Some(octets);
+        }
+        let mut octets = Vec::new(self.alloc);
+        self.read(path, 0, &mut octets)?;
+        Some(octets)
+    }
+
     /// The octets of a file that was written.
-    pub(crate) fn written_at(&self, path: &str) -> Option<Vec<u8>> {
+    fn written_at(&self, path: &str) -> Option<Vec<u8>> {
         let files = self.written.replace(Vec::new(self.alloc));
         let found = match files.iter().rev().find(|file| file.path.as_str() == path) {
             Some(file) => Vec::from_slice(self.alloc, &file.octets).ok(),
@@ -175,13 +185,14 @@ impl OpenFiles for Files<'_> {
     }
 
     fn write(&self, path: &str, octets: &[u8]) -> io::Result<()> {
-        if !self.setup.has("disk") {
+        let Some(Heading { words: full, .. }) = self.setup.line("disk") else {
             return Err(io::Error::from(ErrorKind::Unsupported));
+        };
+        if full.is_empty() || !path.starts_with(full) {
+            return self.keep(path, octets);
         }
-        if path.starts_with("full") {
-            return Err(io::Error::from(ErrorKind::StorageFull));
-        }
-        self.keep(path, octets)
+        self.keep(path, &octets[..octets.len() / 2])?;
+        Err(io::Error::from(ErrorKind::StorageFull))
     }
 
     fn rename(&self, from: &str, to: &str) -> io::Result<()> {

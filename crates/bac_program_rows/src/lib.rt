@@ -14,7 +14,7 @@
 //! - `file NAME` is a file of the lines below it, each after `| `; `file NAME denied` and `file NAME memory` fail behind them, with permission denied or want of
 //!   memory, and `file NAME unopened` can't be opened for want of memory. A file that is there twice has the second text where it is opened again, and so on.
 //! - `hex NAME` is a file of octets, in hexadecimal, with blanks between them.
-//! - `disk`: files can be written, but those whose names begin with `full`.
+//! - `disk`: files can be written. `disk NAME`: those whose names begin so get half of the octets, and then the disk is full.
 //! - `database NAME` keeps cells, each `PLACE HEX` after `| `; `database NAME new` is made when it is opened; `locked` and `damaged` can't be opened.
 //! - `terminal`: standard error is one. `errors fail`: nothing can be written to it; `errors fail once`: the first write fails.
 //! - `taken N`: clients try the ports from 40,000 on, and so many of them are taken. `source A.B.C.D`: the address that the machine sends from.

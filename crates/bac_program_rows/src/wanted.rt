@@ -161,12 +161,12 @@ fn ends_in_moment(alloc: Global, words: &str, printed: &Printed) -> Option<bool>
     }
 }
 
-/// Whether a file was written, with the octets of a block.
-fn is_written(alloc: Global, files: &Files<'_>, name: &str, lines: &str) -> Option<bool> {
+/// Whether a file has the octets of a block.
+fn is_there(alloc: Global, files: &Files<'_>, name: &str, lines: &str) -> Option<bool> {
     let heading = named(lines, "wrote", name, 0)?;
     let mut wanted = Vec::new(alloc);
     put_block(alloc, heading.below, &mut wanted)?;
-    match files.written_at(name) {
+    match files.octets_at(name) {
         Some(octets) => Some(octets == wanted),
         None => Some(false),
     }
@@ -188,7 +188,7 @@ impl Row<'_> {
             Said::ErrPart(part) => has_part(self.alloc, &printed.err, part),
             Said::ErrFront(front) => begins(self.alloc, &printed.err, front),
             Said::Wrapped => is_wrapped(&printed.out),
-            Said::Wrote(name) => is_written(self.alloc, self.files, name, self.lines),
+            Said::Wrote(name) => is_there(self.alloc, self.files, name, self.lines),
             Said::Bound(place) => Some(bound_of(place)? == printed.ended.bound?),
             Said::Moment(words) => ends_in_moment(self.alloc, words, printed),
             _ => Some(true),

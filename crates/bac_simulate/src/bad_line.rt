@@ -115,6 +115,14 @@ const FIRST: &str =
 const NO_EVENT: &str =
     "is no event: ask, deliver, lose, noise, stranger, tick, advance, set, file, restart, pace or clock wanted";
 
+/// What is wrong with a line that only scripts with notes have.
+const NO_NOTES: &str = "a note, an empty line or CRLF: --notes wanted";
+
+/// Whether a line is empty or a note, or ends in a carriage return.
+fn is_noted(line: &[u8]) -> bool {
+    line.is_empty() || line.starts_with(b"#") || line.ends_with(b"\r")
+}
+
 /// The form of the events with that first word; None where no event has it.
 fn form_of(verb: &[u8]) -> Option<&'static str> {
     for (name, form) in EVENTS {
@@ -182,10 +190,17 @@ fn reason_of(
     text: &[u8],
     number: u64,
 ) -> Result<Option<Vec<u8>>, AllocError> {
+    let line = line_at(text, number);
+    match line {
+        Some(line) if !notes && is_noted(line) => {
+            return Ok(Some(Vec::from_slice(alloc, NO_NOTES.as_bytes())?));
+        }
+        _ => {}
+    }
     if is_first(notes, text, number) {
         return Ok(Some(Vec::from_slice(alloc, FIRST.as_bytes())?));
     }
-    let Some(line) = line_at(text, number) else {
+    let Some(line) = line else {
         return Ok(None);
     };
     match read_of(notes, line) {

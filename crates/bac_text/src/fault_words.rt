@@ -28,7 +28,8 @@ pub fn frame_reason(fault: FrameFault) -> &'static str
     }
 }
 
-fn apdu_reason(fault: ApduFault) -> &'static str
+/// Why an APDU cannot be read, in words.
+pub fn apdu_reason(fault: ApduFault) -> &'static str
     ensures { result.now ≡ apdu_reason fault }
 {
     match fault {
@@ -43,7 +44,8 @@ fn apdu_reason(fault: ApduFault) -> &'static str
     }
 }
 
-fn kind_reason(kind: FaultKind) -> &'static str
+/// Why tags or values cannot be read, in words.
+pub fn kind_reason(kind: FaultKind) -> &'static str
     ensures { result.now ≡ kind_reason kind }
 {
     match kind {

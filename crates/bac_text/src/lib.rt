@@ -31,11 +31,11 @@ pub use decode::{decode_over, decode_text_over, print_apdu_octets, show_datagram
 pub use decode_lines::decode_lines_over;
 pub use error::{CheckError, stopped};
 pub use fault::LayerFault;
-pub use fault_words::frame_reason;
+pub use fault_words::{apdu_reason, frame_reason, kind_reason};
 pub use groups::octets_in;
 pub use laws::fine_or_at_fault;
 pub use layers::check_datagram;
-pub use lines::is_interrupted;
+pub use lines::{LINE_LIMIT, is_interrupted, next_line};
 pub use notes::read_of;
 pub use peers::{link_text, peer_text};
 pub use service_names::{confirmed_service_name, network_message_name, unconfirmed_service_name};

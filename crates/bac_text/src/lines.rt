@@ -12,7 +12,7 @@ use std::io;
 use std::io::{BufRead, ErrorKind};
 
 /// Most octets of a line, without its end. The longest datagram of a BVLL has 131,070 digits, and what stands before it 47.
-pub(crate) const LINE_LIMIT: usize = 132_000;
+pub const LINE_LIMIT: usize = 132_000;
 
 /// The place of the first end of a line.
 fn end_in(octets: &[u8]) -> Option<usize>
@@ -116,7 +116,7 @@ fn read_line<R: BufRead>(input: &mut R, line: &mut Vec<u8>) -> io::Result<()>
 
 /// Reads the next line without its end into `line`; false at the end of the input. Of an overlong line the front is kept, of one
 /// octet more than the limit.
-pub(crate) fn next_line<R: BufRead>(input: &mut R, line: &mut Vec<u8>) -> io::Result<bool>
+pub fn next_line<R: BufRead>(input: &mut R, line: &mut Vec<u8>) -> io::Result<bool>
     ensures { IfOk result (IsNextLine (R.remaining input.old) (R.remaining input.new) line.new.items) }
 {
     if is_at_end(input)? {
