@@ -203,30 +203,60 @@ impl<F: OpenFiles, M: Machine> Backup<'_, F, M> {
         }
     }
 
+    /// The names of files in the folder.
+    fn names_of<E: Write>(&self, saved: &[SavedFile], err: &mut E) -> Result<Vec<String>, Status>
+        ensures told { IfErr result IsStop }
+    {
+        let mut names = Vec::new(self.folder.alloc);
+        for file in saved {
+            let name = name_in(self.folder.alloc, file.object, err)?;
+            if names.push(name).is_err() {
+                return Err(no_memory(err));
+            }
+        }
+        Ok(names)
+    }
+
     /// Puts files that were saved, and at last their manifest, in place of those of the folder. Files of an earlier manifest that were not saved now keep their lines.
-    fn finish<O: Write, E: Write>(
+    fn finish<E: Write>(
         &self,
         saved: &[SavedFile],
         earlier: &[SavedFile],
+        err: &mut E,
+    ) -> Result<(), Status>
+        ensures told { IfErr result IsStop }
+    {
+        let names = self.names_of(saved, err)?;
+        let Ok(manifest) = manifest_of(self.folder.alloc, saved, earlier) else {
+            return Err(no_memory(err));
+        };
+        let there = self.folder.write_unfinished(MANIFEST, &manifest, err)?;
+        if there != manifest {
+            return Err(self.folder.print_altered(MANIFEST, err));
+        }
+        for name in &names {
+            self.folder.finish(name, err)?;
+        }
+        self.folder.finish(MANIFEST, err)
+    }
+
+    /// Prints that files were saved.
+    fn print_saved<O: Write, E: Write>(
+        &self,
+        saved: &[SavedFile],
         out: &mut O,
         err: &mut E,
     ) -> Result<(), Status>
         ensures told { IfErr result IsStop }
     {
-        let alloc = self.folder.alloc;
-        let Ok(manifest) = manifest_of(alloc, saved, earlier) else {
-            return Err(no_memory(err));
-        };
-        self.folder.write_unfinished(MANIFEST, &manifest, err)?;
         for file in saved {
-            let name = name_in(alloc, file.object, err)?;
-            self.folder.finish(&name, err)?;
-            print_news(alloc, file.object, &FileNews::Saved(file.length), out, err)?;
+            let news = FileNews::Saved(file.length);
+            print_news(self.folder.alloc, file.object, &news, out, err)?;
         }
-        self.folder.finish(MANIFEST, err)
+        Ok(())
     }
 
-    /// Saves files of the peer. Nothing of the folder changes until all of them are written beside those that are there; where none is saved, nothing changes. Answers whether all were saved.
+    /// Saves files of the peer. Nothing of the folder changes until all of them are written beside those that are there; where none is saved, nothing changes. Prints which are saved once all of them are in place. Answers whether all were saved.
     fn save_all<O: Write, E: Write>(
         &mut self,
         objects: &[ObjectIdentifier],
@@ -239,8 +269,9 @@ impl<F: OpenFiles, M: Machine> Backup<'_, F, M> {
         let earlier = self.earlier(err)?;
         let saved = self.save_each(objects, out, err)?;
         if !saved.is_empty() {
-            self.finish(&saved, &earlier, out, err)?;
+            self.finish(&saved, &earlier, err)?;
         }
+        self.print_saved(&saved, out, err)?;
         Ok(objects.iter().all(|object| has_object(&saved, *object)))
     }
 

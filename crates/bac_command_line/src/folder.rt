@@ -7,7 +7,7 @@ use crate::objects::octets_of;
 use crate::reasons::print_unwritten;
 use bac_text::{Status, no_memory};
 use std::alloc::Global;
-use std::io::{ErrorKind, Write};
+use std::io::{self, ErrorKind, Write};
 
 /// The name of the list of the files of a backup.
 pub(crate) const MANIFEST: &str = "manifest";
@@ -71,6 +71,17 @@ impl<F: OpenFiles> Folder<'_, F> {
         }
         let file = opened(self.files, &path, err)?;
         octets_of(self.alloc, &path, file, err)
+    }
+
+    /// Complains that a file in it that is not finished has other octets than were written.
+    pub(crate) fn print_altered<E: Write>(&self, name: &str, err: &mut E) -> Status
+        ensures told { IsStop result }
+    {
+        let error = io::Error::new(ErrorKind::InvalidData, "it has other octets than were written");
+        match self.unfinished_path(name, err) {
+            Ok(path) => print_unwritten(&path, &error, err),
+            Err(status) => status,
+        }
     }
 
     /// Puts what was written beside a file in its place. Where that fails, `err` and the status say so, and the file is as it was.

@@ -5,7 +5,8 @@ ghost use Rattle.std.specs.Prelude.{◌≡◌, ◌≤◌, ◌↔◌, IsSome, IfS
 #[derive(Clone, Copy, Debug)]
 pub struct Address {
     octets: [u8; 8],
-    len: usize,
+    /// How many of them count; one octet, since each transaction of a node has an address.
+    len: u8,
     ghost in_range: { len ≤ 8 },
 }
 
@@ -23,13 +24,16 @@ impl Address {
         }
         let mut room = [0; 8];
         room[..len].copy_from_slice(octets);
-        Some(Address { octets: room, len })
+        Some(Address {
+            octets: room,
+            len: len as u8,
+        })
     }
 
     /// The octets of the address.
     pub fn octets(&self) -> &[u8]
         ensures { result.now ≡ address_view self.now }
     {
-        &self.octets[..self.len]
+        &self.octets[..self.len as usize]
     }
 }

@@ -55,6 +55,7 @@ impl Ord for Peer {
 
     ghost matches_eq = { Prim.search (peer_cmp_total, comparing, rules) };
 
+    #[inline(always)]
     fn cmp(&self, other: &Peer) -> Ordering {
         match order_of(&self.link, &other.link) {
             Ordering::Equal => self.route.cmp(&other.route),

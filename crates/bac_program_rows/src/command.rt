@@ -7,7 +7,7 @@ use crate::spelling::text_of;
 use bac_command_line::{ClientPair, System, pair_at, pairs_come_late, run};
 use bac_driver::{Clock, MonotonicClock, UdpLink};
 use std::alloc::Global;
-use std::io::Write;
+use std::io::{ErrorKind, Write};
 
 /// Appends the words of a text without quotes.
 fn put_words(alloc: Global, text: &str, words: &mut Vec<String>) -> Option<()> {
@@ -77,6 +77,16 @@ impl<'a> Command<'a> {
             scene,
             taken: taken_on(rt, scene.place)?,
         })
+    }
+
+    /// Standard output, which may fail.
+    pub(crate) fn output(&self) -> Sink {
+        let alloc = self.rt.alloc();
+        if self.setup.has("output") {
+            Sink::weak(alloc, 0, ErrorKind::PermissionDenied)
+        } else {
+            Sink::new(alloc)
+        }
     }
 
     /// Standard error, which may fail.

@@ -188,11 +188,19 @@ impl OpenFiles for Files<'_> {
         let Some(Heading { words: full, .. }) = self.setup.line("disk") else {
             return Err(io::Error::from(ErrorKind::Unsupported));
         };
-        if full.is_empty() || !path.starts_with(full) {
+        let (name, is_told) = match full.strip_prefix("silent ") {
+            Some(name) => (name, false),
+            None => (full, true),
+        };
+        if name.is_empty() || !path.starts_with(name) {
             return self.keep(path, octets);
         }
         self.keep(path, &octets[..octets.len() / 2])?;
-        Err(io::Error::from(ErrorKind::StorageFull))
+        if is_told {
+            Err(io::Error::from(ErrorKind::StorageFull))
+        } else {
+            Ok(())
+        }
     }
 
     fn rename(&self, from: &str, to: &str) -> io::Result<()> {

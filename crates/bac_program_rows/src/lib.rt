@@ -16,8 +16,10 @@
 //!   memory, and `file NAME unopened` can't be opened for want of memory. A file that is there twice has the second text where it is opened again, and so on.
 //! - `hex NAME` is a file of octets, in hexadecimal, with blanks between them.
 //! - `disk`: files can be written. `disk NAME`: those whose names begin so get half of the octets, and then the disk is full.
+//!   `disk silent NAME`: they get half of the octets, and nothing is said.
 //! - `database NAME` keeps cells, each `PLACE HEX` after `| `; `database NAME new` is made when it is opened; `locked` and `damaged` can't be opened.
-//! - `terminal`: standard error is one. `errors fail`: nothing can be written to it; `errors fail once`: the first write fails.
+//! - `terminal`: standard error is one. `errors fail`: nothing can be written to it; `errors fail once`: the first write fails. `output fails`: nothing
+//!   can be written to standard output.
 //! - `taken N`: clients try the ports from 40,000 on, and so many of them are taken. `source A.B.C.D`: the address that the machine sends from.
 //! - `machine`: the command line runs on the files, sockets and clock of the machine that plays the rows; of the other lines only `errors` means something then.
 //!   `machine taken PORT`: that port of 127.0.0.1 is taken meanwhile.

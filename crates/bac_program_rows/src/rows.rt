@@ -33,7 +33,7 @@ fn play_failing(
 
 /// What a command line prints.
 fn printed(alloc: Global, command: &Command<'_>, files: &Files<'_>) -> Printed {
-    let mut out = Sink::new(alloc);
+    let mut out = command.output();
     let mut err = command.errors();
     let ended = command.run(files, &mut out, &mut err);
     Printed {

@@ -67,7 +67,7 @@ impl<'a> Setup<'a> {
 /// The words that begin lines of a setup.
 const WORDS: &[&str] = &[
     "|", "#", "links", "clock", "day", "file", "hex", "disk", "database", "terminal", "errors",
-    "taken", "source", "machine", "pairs",
+    "output", "taken", "source", "machine", "pairs",
 ];
 
 /// Whether each line of a text begins with a word that sets a scene.

@@ -11,4 +11,4 @@ pub mod Aging
 pub mod Removed
 pub mod Fronts
 pub mod Moves
-pub mod Rings
+pub mod InBlocks

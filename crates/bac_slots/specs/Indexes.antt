@@ -1,10 +1,12 @@
 -- The index of a table: the places of its slots in order of insertion, sorted by key.
-use Rattle.std.specs.Prelude.{◌≡◌, ℕ, ◌-◌, ◌<◌, ◌≤◌, Bool, List, [], ◌∷◌, ◌++◌, map, length, slice_get, take, drop, Some, None, Result, Ok, Err}
+use Rattle.std.specs.Prelude.{◌≡◌, ℕ, zero, suc, ◌+◌, ◌-◌, ◌<◌, ◌≤◌, Bool, List, [], ◌∷◌, map, length, slice_get, Some, None, Result, Ok, Err}
 use Rattle.std.specs.Prelude.{if◌then◌else◌, nat_lt}
 use Rattle.std.specs.declared.cmp.Ordering.{Ordering}
 use Rattle.std.specs.declared.cmp.Ordering.TheVariants.{Less, Greater}
 use Rattle.bac_slots.specs.declared.slot.Slot.{Slot}
 use Rattle.bac_slots.specs.declared.index_slots.Found.{Found}
+use Rattle.bac_slots.specs.declared.index_slots.Seen.{Seen}
+use Rattle.bac_slots.specs.declared.spot.Spot.{Spot}
 use Rattle.bac_slots.specs.Slots.{value_at, rank, in_order, IsAt}
 
 -- the places list the slots in ascending order of their keys
@@ -42,11 +44,32 @@ AllBelow {K} {T} cmp key n os = (k : ℕ) (s : Slot K T) → k < n → slice_get
 abbrev pub AllAbove : {K T : Type 0} → (K → K → Ordering) → K → ℕ → List (Slot K T) → Type 0
 AllAbove {K} {T} cmp key n os = (k : ℕ) (s : Slot K T) → n ≤ k → slice_get os k ≡ Some s → cmp s.key key ≡ Greater
 
--- the numbers of a ring whose first one is in the cell at `head`
-abbrev pub turned : (head : ℕ) → (cells : List ℕ) → List ℕ
-turned head cells = drop head cells ++ take head cells
+-- how many numbers are before a place in a block, where the blocks have so many
+abbrev pub rank_at : (sizes : List ℕ) → (block at : ℕ) → ℕ
+rank_at sizes zero at = at
+rank_at [] (suc block) at = at
+rank_at (size ∷ sizes) (suc block) at = size + rank_at sizes block at
 
--- each ring has so many numbers
-abbrev pub AreFull : (each : ℕ) → (rings : List (List ℕ)) → Type 0
-AreFull each [] = Unit {0}
-AreFull each (ring ∷ rings) = (length ring ≡ each) × AreFull each rings
+-- a number is at that place
+abbrev pub IsHeld : (sizes : List ℕ) → (block at : ℕ) → Type 0
+IsHeld [] block at = ⊥
+IsHeld (size ∷ sizes) zero at = at < size
+IsHeld (size ∷ sizes) (suc block) at = IsHeld sizes block at
+
+-- a number is at that place, or is the last of the block and before it
+abbrev pub IsWithin : (sizes : List ℕ) → (block at : ℕ) → Type 0
+IsWithin [] block at = ⊥
+IsWithin (size ∷ sizes) zero at = at ≤ size
+IsWithin (size ∷ sizes) (suc block) at = IsWithin sizes block at
+
+-- a block and the one before it have no more than 128 numbers
+abbrev pub AreJoinable : (n : ℕ) → (blocks : List (List ℕ)) → Type 0
+AreJoinable n blocks = (r q : List ℕ) → slice_get blocks (n - 1) ≡ Some r → slice_get blocks n ≡ Some q → length r + length q ≤ 128
+
+-- the same where the index is in blocks of these sizes: where the key is, or where it would be inserted
+abbrev pub IsSeen : {K T : Type 0} → (K → K → Bool) → (K → K → Ordering) → K → List (Slot K T) → (sizes : List ℕ) → Result Seen Spot → Type 0
+IsSeen eq cmp key slots sizes (Ok seen) =
+    IsHeld sizes seen.spot.block seen.spot.at × (rank_at sizes seen.spot.block seen.spot.at ≡ rank cmp key slots)
+    × (seen.place < length slots) × IsAt eq key seen.place slots
+IsSeen eq cmp key slots sizes (Err spot) =
+    IsWithin sizes spot.block spot.at × (rank_at sizes spot.block spot.at ≡ rank cmp key slots) × (value_at eq key slots ≡ None)

@@ -1,11 +1,14 @@
 //! A table with an index that is sorted by key.
-ghost use Rattle.std.specs.Prelude.{◌≡◌, ◌≢◌, true, ℕ, ◌+◌, ◌<◌, ◌≤◌, List, length, Some, None, MatchOption, IfSome, slice_get, min};
+ghost use Rattle.std.specs.Prelude.{◌≡◌, ◌≢◌, true, ℕ, ◌+◌, ◌<◌, ◌≤◌, List, length, Some, None, MatchOption, IfSome, Ok, Err, slice_get, min};
 ghost use Rattle.bac_slots.specs.Slots.{rank, value_at, in_order, digits, IsDistinct};
-ghost use Rattle.bac_slots.specs.Indexes.{AllAbove, AllBelow, IsIndex, IsSearched};
+ghost use Rattle.bac_slots.specs.Indexes.{rank_at, AllAbove, AllBelow, IsHeld, IsIndex, IsSearched, IsSeen, IsWithin};
 
-use crate::places::{MOST_PLACES, Places, lowered};
+use crate::blocks::Change;
+use crate::guide::Guide;
+use crate::places::{MOST_PLACES, Places};
 use crate::slot::Slot;
 use crate::slot_table::{Count, SlotTable};
+use crate::spot::Spot;
 use std::alloc::{AllocError, Global};
 use std::cmp::Ordering;
 use std::collections::VecDeque;
@@ -16,9 +19,11 @@ use std::marker::Model;
 pub struct IndexSlots<K: Ord, T> {
     slots: VecDeque<Slot<K, T>>,
     places: Places,
+    /// Where look-ups begin.
+    guide: Guide<K>,
     capacity: usize,
-    /// The place in key order of the key that was looked up last by `seek` or `get_mut`, or was put last, or where it would be: the next look-ups try it first.
-    near: usize,
+    /// Where in the index the key is that was looked up last by `seek` or `get_mut`, or was put last, or where it would be: the next look-ups try it first.
+    near: Spot,
 }
 
 impl<K: Ord, T> Model for IndexSlots<K, T> {
@@ -46,11 +51,15 @@ impl<K: Ord + Copy + Drop, T: Drop> SlotTable<K, T> for IndexSlots<K, T> {
         if room > MOST_PLACES as usize {
             return Err(AllocError);
         }
+        let slots = VecDeque::with_capacity(alloc, room)?;
+        let places = Places::new(alloc, room)?;
+        let guide = Guide::new(alloc, places.most_blocks(), room)?;
         Ok(IndexSlots {
-            slots: VecDeque::with_capacity(alloc, room)?,
-            places: Places::new(alloc, room)?,
+            slots,
+            places,
+            guide,
             capacity: room,
-            near: 0,
+            near: Spot { block: 0, at: 0 },
         })
     }
 
@@ -76,7 +85,10 @@ impl<K: Ord + Copy + Drop, T: Drop> SlotTable<K, T> for IndexSlots<K, T> {
     }
 
     fn rank(&self, key: &K) -> usize {
-        rank_of(&self.slots, &self.places, key)
+        match locate(&self.slots, &self.places, &self.guide, key) {
+            Ok(seen) => self.places.rank(seen.spot),
+            Err(spot) => self.places.rank(spot),
+        }
     }
 
     fn at(&self, n: usize) -> Option<(K, u64, &T)> {
@@ -93,25 +105,25 @@ impl<K: Ord + Copy + Drop, T: Drop> SlotTable<K, T> for IndexSlots<K, T> {
     }
 
     fn seek(&mut self, key: &K) {
-        self.near = rank_near(&self.slots, &self.places, self.near, key);
+        self.near = spot_near(&self.slots, &self.places, &self.guide, self.near, key);
     }
 
     /// A key that was looked up last by `seek` or `get_mut`, or was put last, is compared once or twice.
     fn get(&self, key: &K) -> Option<&T> {
-        match search_near(&self.slots, &self.places, self.near, key) {
-            Ok(found) => Some(&self.slots[found.place].value),
+        match search_near(&self.slots, &self.places, &self.guide, self.near, key) {
+            Ok(seen) => Some(&self.slots[seen.place].value),
             Err(_) => None,
         }
     }
 
     fn get_mut(&mut self, key: &K) -> Option<&mut T> {
-        match search_near(&self.slots, &self.places, self.near, key) {
-            Ok(found) => {
-                self.near = found.rank;
-                Some(&mut self.slots[found.place].value)
+        match search_near(&self.slots, &self.places, &self.guide, self.near, key) {
+            Ok(seen) => {
+                self.near = seen.spot;
+                Some(&mut self.slots[seen.place].value)
             }
-            Err(n) => {
-                self.near = n;
+            Err(spot) => {
+                self.near = spot;
                 None
             }
         }
@@ -122,29 +134,41 @@ impl<K: Ord + Copy + Drop, T: Drop> SlotTable<K, T> for IndexSlots<K, T> {
         if len >= self.capacity {
             return Err((key, value));
         }
-        let n = rank_near(&self.slots, &self.places, self.near, &key);
-        self.near = n;
-        self.places.insert(n, len);
+        let spot = spot_near(&self.slots, &self.places, &self.guide, self.near, &key);
+        let change = self.places.insert(spot, len);
         self.slots.push_back_reserved(Slot { key, begin, value });
+        self.near = spot;
+        self.guide.push(key);
+        guide_in(&mut self.guide, &self.slots, &self.places, spot, change);
         Ok(())
     }
 
     fn set(&mut self, key: &K, value: T) -> Option<T> {
-        let Some(found) = look_up(&self.slots, &self.places, key) else {
+        let Some(seen) = look_up(&self.slots, &self.places, &self.guide, key) else {
             return None;
         };
-        let slot = &mut self.slots[found.place];
+        let slot = &mut self.slots[seen.place];
         Some(std::mem::replace(&mut slot.value, value))
     }
 
     fn remove(&mut self, key: &K) -> Option<T> {
-        let Some(found) = look_up(&self.slots, &self.places, key) else {
+        let Some(seen) = look_up(&self.slots, &self.places, &self.guide, key) else {
             return None;
         };
-        self.near = lowered(self.near, found.rank);
-        self.places.take(found.rank, found.place);
-        match self.slots.remove(found.place) {
-            Some(slot) => Some(slot.value),
+        let is_closed = self.places.take(seen.spot, seen.place);
+        match self.slots.remove(seen.place) {
+            Some(slot) => {
+                self.guide.take(seen.place);
+                self.near = left(&self.places, self.near, seen.spot, is_closed);
+                guide_out(
+                    &mut self.guide,
+                    &self.slots,
+                    &self.places,
+                    seen.spot,
+                    is_closed,
+                );
+                Some(slot.value)
+            }
             None => unreachable!(),
         }
     }
@@ -165,6 +189,27 @@ fn nth<'a, K: Ord, T>(slots: &'a VecDeque<Slot<K, T>>, places: &Places, n: usize
     ensures { slice_get (in_order K.cmp slots.now.items) n ≡ Some result.now }
 {
     &slots[places.at(n)]
+}
+
+/// Where a key is in the index, and its place in order of insertion.
+#[derive(Clone, Copy)]
+struct Seen {
+    spot: Spot,
+    place: usize,
+}
+
+/// The slot at a spot.
+fn slot_at<'a, K: Ord, T>(
+    slots: &'a VecDeque<Slot<K, T>>,
+    places: &Places,
+    spot: Spot,
+) -> &'a Slot<K, T>
+    requires distinct { IsDistinct K.eq slots.now.items }
+    requires index { IsIndex K.cmp places.now.0 slots.now.items }
+    requires held { IsHeld places.now.2 spot.block spot.at }
+    ensures { slice_get (in_order K.cmp slots.now.items) (rank_at places.now.2 spot.block spot.at) ≡ Some result.now }
+{
+    &slots[places.at_spot(spot)]
 }
 
 /// Compares two keys and counts the comparison.
@@ -207,137 +252,276 @@ fn search<K: Ord, T>(
     Err(first)
 }
 
-/// The place of the key, or None if it is absent.
-fn look_up<K: Ord, T>(slots: &VecDeque<Slot<K, T>>, places: &Places, key: &K) -> Option<Found>
+/// Whether all keys before this spot are less; the last of them decides. A spot that is the first of a later block is not tested.
+fn is_above<K: Ord, T>(slots: &VecDeque<Slot<K, T>>, places: &Places, spot: Spot, key: &K) -> bool
     requires distinct { IsDistinct K.eq slots.now.items }
     requires index { IsIndex K.cmp places.now.0 slots.now.items }
-    ensures { MatchOption result (value_at K.eq key.now slots.now.items ≡ None) (λ found. IsSearched K.eq K.cmp key.now slots.now.items (Ok found)) }
+    requires within { IsWithin places.now.2 spot.block spot.at }
+    ensures { result ≡ true → AllBelow K.cmp key.now (rank_at places.now.2 spot.block spot.at) (in_order K.cmp slots.now.items) }
 {
-    let mut count = Count { comparisons: 0 };
-    match search(slots, places, key, &mut count) {
-        Ok(found) => Some(found),
-        Err(_) => None,
+    if spot.at == 0 {
+        return spot.block == 0;
     }
-}
-
-/// How many slots have a lesser key.
-fn rank_of<K: Ord, T>(slots: &VecDeque<Slot<K, T>>, places: &Places, key: &K) -> usize
-    requires distinct { IsDistinct K.eq slots.now.items }
-    requires index { IsIndex K.cmp places.now.0 slots.now.items }
-    ensures rank { result ≡ rank K.cmp key.now slots.now.items }
-    ensures within { result ≤ length slots.now.items }
-{
-    let mut count = Count { comparisons: 0 };
-    match search(slots, places, key, &mut count) {
-        Ok(found) => found.rank,
-        Err(n) => n,
-    }
-}
-
-/// Whether all keys before this place are less; the last of them decides.
-fn is_above<K: Ord, T>(slots: &VecDeque<Slot<K, T>>, places: &Places, n: usize, key: &K) -> bool
-    requires distinct { IsDistinct K.eq slots.now.items }
-    requires index { IsIndex K.cmp places.now.0 slots.now.items }
-    requires within { n ≤ length places.now.0 }
-    ensures { result ≡ true → AllBelow K.cmp key.now n (in_order K.cmp slots.now.items) }
-{
-    if n == 0 {
-        return true;
-    }
-    match nth(slots, places, n - 1).key.cmp(key) {
+    let last = Spot {
+        block: spot.block,
+        at: spot.at - 1,
+    };
+    match slot_at(slots, places, last).key.cmp(key) {
         Ordering::Less => true,
         _ => false,
     }
 }
 
-/// Whether all keys from this place on are greater; the first of them decides.
-fn is_below<K: Ord, T>(slots: &VecDeque<Slot<K, T>>, places: &Places, n: usize, key: &K) -> bool
-    requires distinct { IsDistinct K.eq slots.now.items }
-    requires index { IsIndex K.cmp places.now.0 slots.now.items }
-    ensures { result ≡ true → AllAbove K.cmp key.now n (in_order K.cmp slots.now.items) }
-{
-    if n >= places.len() {
-        return true;
-    }
-    match nth(slots, places, n).key.cmp(key) {
-        Ordering::Greater => true,
-        _ => false,
-    }
-}
-
-/// The key's place, if its slot is the n-th in key order.
-fn found_at<K: Ord, T>(
+/// Whether the key is at this spot, or would be; None where it is elsewhere, or that is not known. The slots on both sides decide.
+fn look_at<K: Ord, T>(
     slots: &VecDeque<Slot<K, T>>,
     places: &Places,
-    n: usize,
+    spot: Spot,
     key: &K,
-) -> Option<Found>
+) -> Option<Result<Seen, Spot>>
     requires distinct { IsDistinct K.eq slots.now.items }
     requires index { IsIndex K.cmp places.now.0 slots.now.items }
-    ensures { IfSome result (λ found. IsSearched K.eq K.cmp key.now slots.now.items (Ok found)) }
+    ensures { IfSome result (λ r. IsSeen K.eq K.cmp key.now slots.now.items places.now.2 r) }
 {
-    if n >= places.len() {
+    if !places.has(spot) {
         return None;
     }
-    match nth(slots, places, n).key.cmp(key) {
-        Ordering::Equal => Some(Found {
-            rank: n,
-            place: places.at(n),
-        }),
-        _ => None,
+    let next = places.next(spot);
+    if !places.holds(next) {
+        return gap_at_end(slots, places, spot, key);
+    }
+    match slot_at(slots, places, next).key.cmp(key) {
+        Ordering::Less => None,
+        Ordering::Equal => Some(Ok(Seen {
+            spot: next,
+            place: places.at_spot(next),
+        })),
+        Ordering::Greater => {
+            if is_above(slots, places, spot, key) {
+                Some(Err(spot))
+            } else {
+                None
+            }
+        }
     }
 }
 
-/// Whether all keys before this place are less, and all others greater.
-fn is_gap<K: Ord, T>(slots: &VecDeque<Slot<K, T>>, places: &Places, n: usize, key: &K) -> bool
+/// Whether the key would be at this spot, behind all others; None where that is not known.
+fn gap_at_end<K: Ord, T>(
+    slots: &VecDeque<Slot<K, T>>,
+    places: &Places,
+    spot: Spot,
+    key: &K,
+) -> Option<Result<Seen, Spot>>
     requires distinct { IsDistinct K.eq slots.now.items }
     requires index { IsIndex K.cmp places.now.0 slots.now.items }
-    ensures { result ≡ true → IsSearched K.eq K.cmp key.now slots.now.items (Err n) }
+    requires within { IsWithin places.now.2 spot.block spot.at }
+    ensures { IfSome result (λ r. IsSeen K.eq K.cmp key.now slots.now.items places.now.2 r) }
 {
-    if n > places.len() {
-        return false;
+    if !places.is_end(spot) {
+        return None;
     }
-    if !is_above(slots, places, n, key) {
-        return false;
+    if !is_above(slots, places, spot, key) {
+        return None;
     }
-    is_below(slots, places, n, key)
+    Some(Err(spot))
 }
 
-/// Looks for a key, first near a place in key order.
+/// Where a key is or would be in a block, if it is one of its keys or between them: halves the part of the block in which it can be.
+fn place_in<K: Ord>(guide: &Guide<K>, places: &Places, block: usize, key: &K) -> Spot {
+    let numbers = places.numbers_of(block);
+    let mut first = 0;
+    let mut count = numbers.len();
+    while count > 0 {
+        let half = count / 2;
+        let middle = first + half;
+        let is_before = guide.is_before(places.place_of(numbers[middle]), key);
+        first = if is_before { middle + 1 } else { first };
+        count = if is_before { count - half - 1 } else { half };
+    }
+    Spot { block, at: first }
+}
+
+/// Looks for a key in the whole index.
+fn search_all<K: Ord, T>(
+    slots: &VecDeque<Slot<K, T>>,
+    places: &Places,
+    key: &K,
+) -> Result<Seen, Spot>
+    requires distinct { IsDistinct K.eq slots.now.items }
+    requires index { IsIndex K.cmp places.now.0 slots.now.items }
+    ensures { IsSeen K.eq K.cmp key.now slots.now.items places.now.2 result }
+{
+    let mut count = Count { comparisons: 0 };
+    match search(slots, places, key, &mut count) {
+        Ok(found) => Ok(Seen {
+            spot: places.spot(found.rank),
+            place: found.place,
+        }),
+        Err(n) => Err(places.gap(n)),
+    }
+}
+
+/// Looks for a key, first where the guide says.
+fn locate<K: Ord, T>(
+    slots: &VecDeque<Slot<K, T>>,
+    places: &Places,
+    guide: &Guide<K>,
+    key: &K,
+) -> Result<Seen, Spot>
+    requires distinct { IsDistinct K.eq slots.now.items }
+    requires index { IsIndex K.cmp places.now.0 slots.now.items }
+    ensures { IsSeen K.eq K.cmp key.now slots.now.items places.now.2 result }
+{
+    let spot = place_in(guide, places, guide.block_of(key), key);
+    match look_at(slots, places, spot, key) {
+        Some(result) => result,
+        None => search_all(slots, places, key),
+    }
+}
+
+/// Looks for a key, first near a spot.
 fn search_near<K: Ord, T>(
     slots: &VecDeque<Slot<K, T>>,
     places: &Places,
-    near: usize,
+    guide: &Guide<K>,
+    near: Spot,
     key: &K,
-) -> Result<Found, usize>
+) -> Result<Seen, Spot>
     requires distinct { IsDistinct K.eq slots.now.items }
     requires index { IsIndex K.cmp places.now.0 slots.now.items }
-    ensures { IsSearched K.eq K.cmp key.now slots.now.items result }
+    ensures { IsSeen K.eq K.cmp key.now slots.now.items places.now.2 result }
 {
-    if let Some(found) = found_at(slots, places, near, key) {
-        return Ok(found);
+    match look_at(slots, places, near, key) {
+        Some(result) => result,
+        None => locate(slots, places, guide, key),
     }
-    if is_gap(slots, places, near, key) {
-        return Err(near);
-    }
-    let mut count = Count { comparisons: 0 };
-    search(slots, places, key, &mut count)
 }
 
-/// How many slots have a lesser key; a place in key order is tried first.
-fn rank_near<K: Ord, T>(
+/// Where a key is or would be; a spot is tried first.
+fn spot_near<K: Ord, T>(
     slots: &VecDeque<Slot<K, T>>,
     places: &Places,
-    near: usize,
+    guide: &Guide<K>,
+    near: Spot,
     key: &K,
-) -> usize
+) -> Spot
     requires distinct { IsDistinct K.eq slots.now.items }
     requires index { IsIndex K.cmp places.now.0 slots.now.items }
-    ensures rank { result ≡ rank K.cmp key.now slots.now.items }
-    ensures within { result ≤ length slots.now.items }
+    ensures within { IsWithin places.now.2 result.block result.at }
+    ensures rank { rank_at places.now.2 result.block result.at ≡ rank K.cmp key.now slots.now.items }
 {
-    match search_near(slots, places, near, key) {
-        Ok(found) => found.rank,
-        Err(n) => n,
+    match search_near(slots, places, guide, near, key) {
+        Ok(seen) => seen.spot,
+        Err(spot) => spot,
+    }
+}
+
+/// Where the key is, or None if it is absent. The oldest slot is looked for by its place, where no other key is compared.
+fn look_up<K: Ord, T>(
+    slots: &VecDeque<Slot<K, T>>,
+    places: &Places,
+    guide: &Guide<K>,
+    key: &K,
+) -> Option<Seen>
+    requires distinct { IsDistinct K.eq slots.now.items }
+    requires index { IsIndex K.cmp places.now.0 slots.now.items }
+    ensures { MatchOption result (value_at K.eq key.now slots.now.items ≡ None)
+        (λ seen. IsSeen K.eq K.cmp key.now slots.now.items places.now.2 (Ok seen)) }
+{
+    let block = guide.block_of(key);
+    if let Some(at) = places.first_in(block) {
+        if let Some(Ok(seen)) = look_at(slots, places, Spot { block, at }, key) {
+            return Some(seen);
+        }
+    }
+    let near = place_in(guide, places, block, key);
+    match search_near(slots, places, guide, near, key) {
+        Ok(seen) => Some(seen),
+        Err(_) => None,
+    }
+}
+
+/// A spot after a place at another spot was removed, and its block with it if that had no other. It stays behind the place that it was behind.
+fn left(places: &Places, spot: Spot, gone: Spot, is_closed: bool) -> Spot {
+    let mut block = spot.block;
+    let mut at = spot.at;
+    if is_closed && gone.block < block {
+        block -= 1;
+    } else if gone.block == block && gone.at < at {
+        at -= 1;
+    }
+    if at > 0 || block == 0 {
+        return Spot { block, at };
+    }
+    Spot {
+        block: block - 1,
+        at: places.numbers_of(block - 1).len(),
+    }
+}
+
+/// The first key of a block.
+fn first_key<K: Ord + Copy, T>(
+    slots: &VecDeque<Slot<K, T>>,
+    places: &Places,
+    block: usize,
+) -> Option<K> {
+    let number = places.numbers_of(block).get(0)?;
+    let slot = slots.get(places.place_of(*number))?;
+    Some(slot.key)
+}
+
+/// Tells the guide the first key of a block.
+fn guide_to<K: Ord + Copy + Drop, T>(
+    guide: &mut Guide<K>,
+    slots: &VecDeque<Slot<K, T>>,
+    places: &Places,
+    block: usize,
+) {
+    if let Some(first) = first_key(slots, places, block) {
+        guide.set(block, first);
+    }
+}
+
+/// Tells the guide that a slot came.
+fn guide_in<K: Ord + Copy + Drop, T>(
+    guide: &mut Guide<K>,
+    slots: &VecDeque<Slot<K, T>>,
+    places: &Places,
+    spot: Spot,
+    change: Change,
+) {
+    match change {
+        Change::Same => {}
+        Change::Opened => {
+            let next = spot.block.saturating_add(1);
+            if let Some(first) = first_key(slots, places, next) {
+                guide.open(next, first);
+            }
+        }
+        Change::Joined => {
+            guide.clear();
+            for block in 0..places.blocks() {
+                guide_to(guide, slots, places, block);
+            }
+        }
+    }
+    if spot.at == 0 {
+        guide_to(guide, slots, places, spot.block);
+    }
+}
+
+/// Tells the guide that a slot left, and whether its block did.
+fn guide_out<K: Ord + Copy + Drop, T>(
+    guide: &mut Guide<K>,
+    slots: &VecDeque<Slot<K, T>>,
+    places: &Places,
+    spot: Spot,
+    is_closed: bool,
+) {
+    if is_closed {
+        guide.close(spot.block);
+    } else if spot.at == 0 {
+        guide_to(guide, slots, places, spot.block);
     }
 }

@@ -10,22 +10,24 @@
 mod aged;
 mod aged_table;
 mod ages;
+mod block;
+mod blocks;
 mod comparing;
 mod each;
 mod entering;
 mod filling;
+mod guide;
 mod index_slots;
 mod laws;
 mod places;
 mod plain_slots;
 mod removing;
-mod ring;
 mod seeking;
 mod slot;
 mod slot_table;
+mod spot;
 mod sweeping;
 mod ticking;
-mod tiers;
 
 pub use aged::{Aged, Ticks};
 pub use aged_table::{AgedTable, empty_table};

@@ -19,6 +19,7 @@ impl Ord for PeerKey {
 
     ghost matches_eq = { Prim.search (peer_key_cmp_total, comparing, rules) };
 
+    #[inline(always)]
     fn cmp(&self, other: &PeerKey) -> Ordering {
         match self.peer.cmp(&other.peer) {
             Ordering::Equal => self.invoke_id.cmp(&other.invoke_id),

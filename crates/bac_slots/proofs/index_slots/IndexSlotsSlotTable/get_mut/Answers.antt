@@ -16,7 +16,7 @@ returns-in-Err g c =
 
 pub invariant_of-self-lent : goal.invariant_of-self-lent
 invariant_of-self-lent g c = λ w.
-    let items = set_is g.K.PartialEq.eq c.args.key.now w w c.in-Ok.found.place c.self.inside.slots.items c.index_mut.result.now c.in-Ok.ensures.3
+    let items = set_is g.K.PartialEq.eq c.args.key.now w w c.in-Ok.seen.place c.self.inside.slots.items c.index_mut.result.now c.in-Ok.ensures.3
     c.index_mut.ensures.value refl in (
       c.self.invariant.0,
       c.self.invariant.1,
@@ -35,7 +35,7 @@ returns-in-Ok g c =
       (
         refl,
         (λ w. (
-          set_is g.K.PartialEq.eq c.args.key.now w w c.in-Ok.found.place c.self.inside.slots.items c.index_mut.result.now c.in-Ok.ensures.3
+          set_is g.K.PartialEq.eq c.args.key.now w w c.in-Ok.seen.place c.self.inside.slots.items c.index_mut.result.now c.in-Ok.ensures.3
               c.index_mut.ensures.value refl,
           refl,
         )),
@@ -44,6 +44,6 @@ returns-in-Ok g c =
       record {
         writes_back = tt;
         value = ap (λ s. Some s.value) c.index_mut.ensures.value
-            ∙ sym (value_at-IsAt g.K.PartialEq.eq c.args.key.now c.in-Ok.found.place c.self.inside.slots.items c.index_mut.result.now c.in-Ok.ensures.3);
+            ∙ sym (value_at-IsAt g.K.PartialEq.eq c.args.key.now c.in-Ok.seen.place c.self.inside.slots.items c.index_mut.result.now c.in-Ok.ensures.3);
       },
     )

@@ -12,17 +12,17 @@ returns-in_default-clause-slots g c = rw (← c.self.view_is) (sym (with_value-n
 
 pub returns-clause-slots : goal.returns-clause-slots
 returns-clause-slots g c =
-    rw (← c.self.view_is) (set_is g.K.PartialEq.eq c.args.key.now c.args.value c.replace.new.dest c.in-Some.found.place c.self.inside.slots.items
+    rw (← c.self.view_is) (set_is g.K.PartialEq.eq c.args.key.now c.args.value c.replace.new.dest c.in-Some.seen.place c.self.inside.slots.items
     c.index_mut-slot.result.now c.in-Some.ensures.3 c.index_mut-slot.ensures.value c.replace.ensures.after)
 
 pub returns-clause-value : goal.returns-clause-value
 returns-clause-value g c =
     rw (← c.self.view_is) (ap (λ v. Some v) c.replace.ensures.value ∙ ap (λ s. Some s.value) c.index_mut-slot.ensures.value
-    ∙ sym (value_at-IsAt g.K.PartialEq.eq c.args.key.now c.in-Some.found.place c.self.inside.slots.items c.index_mut-slot.result.now c.in-Some.ensures.3))
+    ∙ sym (value_at-IsAt g.K.PartialEq.eq c.args.key.now c.in-Some.seen.place c.self.inside.slots.items c.index_mut-slot.result.now c.in-Some.ensures.3))
 
 pub invariant_of-self : goal.invariant_of-self
 invariant_of-self g c =
-    let items = set_is g.K.PartialEq.eq c.args.key.now c.args.value c.replace.new.dest c.in-Some.found.place c.self.inside.slots.items
+    let items = set_is g.K.PartialEq.eq c.args.key.now c.args.value c.replace.new.dest c.in-Some.seen.place c.self.inside.slots.items
     c.index_mut-slot.result.now c.in-Some.ensures.3 c.index_mut-slot.ensures.value c.replace.ensures.after in (
       c.self.invariant.0,
       c.self.invariant.1,

@@ -1,0 +1,9 @@
+-- The part is one of the blocks.
+use Rattle.std.proofs.Common.{◌+◌, ◌≤◌, length}
+use Rattle.bac_slots.proofs.guide.Guide.block_of.Given as goal
+
+abbrev pub invariant-loop-count : goal.invariant-loop-count
+invariant-loop-count g l = l.block + l.count ≤ length l.self.firsts.items
+
+abbrev pub decreases-loop-count : goal.decreases-loop-count
+decreases-loop-count g l = l.count
