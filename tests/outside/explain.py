@@ -198,10 +198,11 @@ def selections(seed, frames):
     ends = [end for _, _, _, it in frames if it for end in (it.source.end, it.to.end)]
     one, other = chance.choice(ends), chance.choice(ends)
     slower = chance.choice([1, 10, 100, 1_000, 3_000, 10_000])
-    yield from [Selection(fail=True), Selection(unanswered=True), Selection(findings=True), Selection(slower=slower), Selection(peer=str(one.host))]
+    yield from [Selection(fail=True), Selection(unanswered=True), Selection(repeated=True), Selection(findings=True)]
+    yield from [Selection(slower=slower), Selection(peer=str(one.host))]
     for _ in range(4):
         peer = chance.choice([None, str(one), str(other.host)])
-        yield Selection(*(chance.randrange(2) == 0 for _ in range(2)), chance.choice([None, slower]), peer, chance.randrange(2) == 0)
+        yield Selection(*(chance.randrange(2) == 0 for _ in range(3)), chance.choice([None, slower]), peer, chance.randrange(2) == 0)
 
 
 def written(program, folder, title, frames, seed):

@@ -111,6 +111,10 @@ class Transaction:
             return {REJECT: 'rejected', ABORT: 'aborted'}.get(self.answer.apdu.kind, 'answered')
         return 'aborted' if self.gave_up or (self.answer and self.broken_off) else 'unanswered'
 
+    def is_repeated(self):
+        """Whether its request was sent more than once, or a segment of it."""
+        return self.request.times > 1 or self.request.more > self.request.index
+
     def is_unanswered(self):
         return self.answer is None or not (self.answer.whole or self.broken_off)
 
@@ -200,17 +204,18 @@ class Selection:
     """The filters, and --fail."""
 
     unanswered: bool = False
+    repeated: bool = False
     findings: bool = False
     slower: int | None = None
     peer: str | None = None
     fail: bool = False
 
     def words(self):
-        flags = [f'--{name}' for name in ('unanswered', 'findings', 'fail') if getattr(self, name)]
+        flags = [f'--{name}' for name in ('unanswered', 'repeated', 'findings', 'fail') if getattr(self, name)]
         return flags + [word for name in ('slower', 'peer') if getattr(self, name) is not None for word in (f'--{name}', str(getattr(self, name)))]
 
     def is_narrow(self):
-        return self.unanswered or self.findings or self.slower is not None or self.peer is not None
+        return self.unanswered or self.repeated or self.findings or self.slower is not None or self.peer is not None
 
     def has_peer(self, key):
         ends = [end.split('/')[0] for end in key[:2]]
@@ -221,9 +226,10 @@ class Selection:
         if not self.has_peer(key):
             return False
         if it is None:
-            return not self.unanswered and self.slower is None
+            return not self.unanswered and not self.repeated and self.slower is None
         slow = self.slower is None or it.is_unanswered() or it.delay() > self.slower
-        return slow and (it.is_unanswered() or not self.unanswered) and (it.findings > 0 or not self.findings)
+        again = it.is_repeated() or not self.repeated
+        return slow and again and (it.is_unanswered() or not self.unanswered) and (it.findings > 0 or not self.findings)
 
 
 @dataclass

@@ -1,4 +1,4 @@
-//! The line of options of a row: `unanswered`, `findings`, `slower MS`, `peer HOST` or `peer HOST:PORT`, where HOST is the number of a host, `fail` and `frames`.
+//! The line of options of a row: `unanswered`, `repeated`, `findings`, `slower MS`, `peer HOST` or `peer HOST:PORT`, where HOST is the number of a host, `fail` and `frames`.
 use crate::words::{first, number};
 use bac_explain_report::{PeerFilter, ReportOptions, Selection};
 
@@ -19,6 +19,25 @@ fn filter_of(word: &str) -> Option<PeerFilter> {
     Some(PeerFilter { host, port })
 }
 
+/// A selection with the filter of this name too, if that is one with no value behind it.
+fn with_flag(selection: Selection, name: &str) -> Option<Selection> {
+    match name {
+        "unanswered" => Some(Selection {
+            unanswered: true,
+            ..selection
+        }),
+        "repeated" => Some(Selection {
+            repeated: true,
+            ..selection
+        }),
+        "findings" => Some(Selection {
+            findings: true,
+            ..selection
+        }),
+        _ => None,
+    }
+}
+
 /// A selection with the option of this name too, and what follows that.
 fn with_filter<'a>(
     selection: Selection,
@@ -26,20 +45,6 @@ fn with_filter<'a>(
     rest: &'a str,
 ) -> Option<(Selection, &'a str)> {
     match name {
-        "unanswered" => Some((
-            Selection {
-                unanswered: true,
-                ..selection
-            },
-            rest,
-        )),
-        "findings" => Some((
-            Selection {
-                findings: true,
-                ..selection
-            },
-            rest,
-        )),
         "slower" => {
             let (limit, rest) = first(rest);
             let slower = Some(number(limit)?);
@@ -56,15 +61,15 @@ fn with_filter<'a>(
             let peer = Some(filter_of(peer)?);
             Some((Selection { peer, ..selection }, rest))
         }
-        _ => None,
+        _ => Some((with_flag(selection, name)?, rest)),
     }
 }
 
-/// The options of a line: at most six.
+/// The options of a line: at most seven.
 pub(crate) fn options_of(line: &str) -> Option<ReportOptions> {
     let mut options = ALL;
     let mut rest = line;
-    for _ in 0..6 {
+    for _ in 0..7 {
         let (name, more) = first(rest);
         match name {
             "" => return Some(options),

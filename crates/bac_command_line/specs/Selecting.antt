@@ -9,6 +9,7 @@ use Rattle.bac_command_line.specs.Given.{IsFlag, IsNumber}
 
 pub record AreGivenOptions (given : ArgMatches) (o : ReportOptions) : Type 0 where
   pub unanswered : IsFlag given (codes "unanswered") o.selection.unanswered
+  pub repeated : IsFlag given (codes "repeated") o.selection.repeated
   pub findings : IsFlag given (codes "findings") o.selection.findings
   pub slower : IsNumber given (codes "slower") o.selection.slower
   pub strict : IsFlag given (codes "fail") o.strict

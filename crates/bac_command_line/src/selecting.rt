@@ -24,6 +24,7 @@ pub(crate) fn options_of(given: &ArgMatches<'_>) -> Option<ReportOptions>
 {
     let selection = Selection {
         unanswered: flag_of(given, "unanswered"),
+        repeated: flag_of(given, "repeated"),
         findings: flag_of(given, "findings"),
         slower: number_of(given, "slower"),
         peer: peer_of(given)?,

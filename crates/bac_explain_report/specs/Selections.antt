@@ -3,6 +3,7 @@ use Rattle.std.specs.Prelude.{ℕ, ◌+◌, ◌*◌, ◌==◌, ◌&&◌, ◌||�
 use Rattle.bac_npdu.specs.Peers.{PeerView}
 use Rattle.bac_slots.specs.Slots.{keep}
 use Rattle.bac_explain.specs.Keys.{Key}
+use Rattle.bac_explain.specs.Sent.{SentView}
 use Rattle.bac_explain.specs.Tables.{ClosedView}
 use Rattle.bac_explain.specs.Transactions.{TransactionView}
 use Rattle.bac_explain.specs.declared.finding.Finding.{Finding}
@@ -14,6 +15,13 @@ use Rattle.bac_explain_report.specs.declared.selection.Selection.{Selection}
 
 abbrev pub has_finding : TransactionView → Bool
 has_finding t = nat_lt 0 t.findings
+
+-- a request: its first APDU was seen again, or more of its other segments were seen than precede the last one
+abbrev pub is_sent_again : SentView → Bool
+is_sent_again s = nat_lt 1 s.times || nat_lt s.index s.segments
+
+abbrev pub is_repeated : TransactionView → Bool
+is_repeated t = is_sent_again t.request
 
 -- no answer, or one that came later
 abbrev pub exceeds : (limit : ℕ) → Option ℕ → Bool
@@ -53,11 +61,12 @@ has_peer (Some f) key = is_at f key.client || is_at f key.server
 -- the transaction passes all filters that are given
 abbrev pub passes : Selection → Key → TransactionView → Bool
 passes s key t =
-    (not s.unanswered || is_unanswered t) && (not s.findings || has_finding t) && is_slow_enough s.slower t && has_peer s.peer key
+    (not s.unanswered || is_unanswered t) && (not s.repeated || is_repeated t) && (not s.findings || has_finding t)
+    && is_slow_enough s.slower t && has_peer s.peer key
 
 -- a filter is given
 abbrev pub is_narrow : Selection → Bool
-is_narrow s = s.unanswered || s.findings || is_some s.slower || is_some s.peer
+is_narrow s = s.unanswered || s.repeated || s.findings || is_some s.slower || is_some s.peer
 
 -- a transaction that is printed
 abbrev pub shown : Selection → Option ClosedView → Option ClosedView
@@ -65,9 +74,9 @@ shown s c = keep (λ c. passes s c.key c.transaction) c
 
 -- ---- a finding
 
--- an answer to no request is of no transaction: it is neither unanswered nor slow
+-- an answer to no request is of no transaction: it is neither unanswered nor repeated nor slow
 abbrev pub takes_alone : Selection → Key → Bool
-takes_alone s key = not s.unanswered && is_none s.slower && has_peer s.peer key
+takes_alone s key = not s.unanswered && not s.repeated && is_none s.slower && has_peer s.peer key
 
 -- a finding is printed where its transaction passes as it stands
 abbrev pub takes_finding : Selection → Key → Option TransactionView → Bool

@@ -101,8 +101,8 @@ fn explain_frames_over<R: BufRead, O: Write, E: Write>(
 ///
 /// A fault is printed when its frame is read, with the number of the frame from 1 and the transaction; so is a frame that cannot be
 /// read. A transaction is printed when it is over, 65,000 ms after its request, or gives way to another one, if it passes the selection.
-/// A fault is printed if its transaction passes as it stands then; one of no transaction if its peers are selected, and neither
-/// `unanswered` nor `slower` is. At the end of the file the transactions that are still open are printed if they pass, then how many
+/// A fault is printed if its transaction passes as it stands then; one of no transaction if its peers are selected, and none of
+/// `unanswered`, `repeated` and `slower` is. At the end of the file the transactions that are still open are printed if they pass, then how many
 /// were printed, if there is a filter, and then how many there were, how they ended, the slowest reply in milliseconds, and how
 /// many findings, frames and unread frames there were, printed or not. With `frames` a transaction has a line with the moment of its
 /// request as text, and the numbers of its frames from 1. Returns `Faulty` if there is a finding or an unread frame; if it

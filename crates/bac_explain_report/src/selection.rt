@@ -4,11 +4,12 @@ ghost use Rattle.std.specs.Option.{option_map};
 ghost use Rattle.bac_npdu.specs.Views.{peer_view};
 ghost use Rattle.bac_explain.specs.Closings.{closed_view};
 ghost use Rattle.bac_explain.specs.KeyViews.{key_view};
+ghost use Rattle.bac_explain.specs.SentViews.{sent_view};
 ghost use Rattle.bac_explain.specs.Views.{transaction_view};
-ghost use Rattle.bac_explain_report.specs.Selections.{exceeds, has_finding, has_peer, is_at, is_host, is_narrow, is_port, is_slow_enough, is_slower, is_wrong, passes, shown, takes_alone};
+ghost use Rattle.bac_explain_report.specs.Selections.{exceeds, has_finding, has_peer, is_at, is_host, is_narrow, is_port, is_repeated, is_sent_again, is_slow_enough, is_slower, is_wrong, passes, shown, takes_alone};
 
 use crate::ending::{delay_of, is_unanswered};
-use bac_explain::{Closed, Transaction, TransactionKey};
+use bac_explain::{Closed, Sent, Transaction, TransactionKey};
 use bac_npdu::{LinkAddress, Peer};
 
 /// The address of a client or a server: an IPv4 address, and a UDP port or any. A peer behind a router has the router's.
@@ -25,6 +26,8 @@ pub struct PeerFilter {
 pub struct Selection {
     /// Only those without an answer: its end was not seen, nor an Abort of the server. The client may have given up.
     pub unanswered: bool,
+    /// Only those whose request, or a segment of it, was sent more than once, with an answer or without.
+    pub repeated: bool,
     /// Only those with a finding.
     pub findings: bool,
     /// Only those whose answer began more than so many milliseconds after the request, and those without an answer.
@@ -84,6 +87,20 @@ fn has_finding(transaction: &Transaction) -> bool
     transaction.findings > 0
 }
 
+/// Whether a request was sent more than once, or a segment of it: its first APDU was seen again, or more of its other segments were seen
+/// than precede the last one.
+fn is_sent_again(request: &Sent) -> bool
+    ensures { result ≡ is_sent_again (sent_view request.now) }
+{
+    request.times > 1 || request.segments > request.index
+}
+
+fn is_repeated(transaction: &Transaction) -> bool
+    ensures { result ≡ is_repeated (transaction_view transaction.now) }
+{
+    is_sent_again(&transaction.request)
+}
+
 /// Whether a delay is longer than so many milliseconds; true without one.
 fn exceeds(limit: u64, delay: Option<u64>) -> bool
     ensures { result ≡ exceeds limit delay }
@@ -115,6 +132,7 @@ impl Selection {
     /// All transactions.
     pub const ALL: Selection = Selection {
         unanswered: false,
+        repeated: false,
         findings: false,
         slower: None,
         peer: None,
@@ -124,7 +142,11 @@ impl Selection {
     pub(crate) fn is_narrow(self) -> bool
         ensures { result ≡ is_narrow self }
     {
-        self.unanswered || self.findings || self.slower.is_some() || self.peer.is_some()
+        self.unanswered
+            || self.repeated
+            || self.findings
+            || self.slower.is_some()
+            || self.peer.is_some()
     }
 
     /// Whether a transaction passes each filter that is given.
@@ -132,6 +154,7 @@ impl Selection {
         ensures { result ≡ passes self (key_view key) (transaction_view transaction.now) }
     {
         (!self.unanswered || is_unanswered(transaction))
+            && (!self.repeated || is_repeated(transaction))
             && (!self.findings || has_finding(transaction))
             && is_slow_enough(self.slower, transaction)
             && has_peer(self.peer, key)
@@ -153,6 +176,6 @@ impl Selection {
     pub(crate) fn takes_alone(self, key: TransactionKey) -> bool
         ensures { result ≡ takes_alone self (key_view key) }
     {
-        !self.unanswered && self.slower.is_none() && has_peer(self.peer, key)
+        !self.unanswered && !self.repeated && self.slower.is_none() && has_peer(self.peer, key)
     }
 }

@@ -174,6 +174,7 @@ Example: bac explain capture.pcapng
 Example: bac explain --chart capture.pcapng
 Example: bac explain --chart --pairs --values capture.pcapng
 Example: bac explain --peer 192.168.1.20 --slower 1000 capture.pcapng
+Example: bac explain --repeated capture.pcapng
 Example: bac explain --unanswered --fail capture.pcapng
 Example: bac explain --json capture.pcapng | jq 'select(.unanswered)'
 Example: bac explain --html capture.pcapng > capture.html";
@@ -181,6 +182,7 @@ Example: bac explain --html capture.pcapng > capture.html";
 /// The words of `explain` that go with no chart.
 const TRANSACTIONS: &[&str] = &[
     "unanswered",
+    "repeated",
     "findings",
     "slower",
     "peer",
@@ -226,6 +228,13 @@ const EXPLAIN: &[Word] = &[
         need: Need::Never,
         against: &["chart", "mermaid"],
         help: "Prints only transactions without an answer",
+    },
+    Word {
+        name: "repeated",
+        form: WordForm::Flag,
+        need: Need::Never,
+        against: &["chart", "mermaid"],
+        help: "Prints only transactions whose request, or a segment of it, was sent more than once, answered or not",
     },
     Word {
         name: "findings",
