@@ -77,7 +77,10 @@ impl<F: OpenFiles> Folder<'_, F> {
     pub(crate) fn print_altered<E: Write>(&self, name: &str, err: &mut E) -> Status
         ensures told { IsStop result }
     {
-        let error = io::Error::new(ErrorKind::InvalidData, "it has other octets than were written");
+        let error = io::Error::new(
+            ErrorKind::InvalidData,
+            "it has other octets than were written",
+        );
         match self.unfinished_path(name, err) {
             Ok(path) => print_unwritten(&path, &error, err),
             Err(status) => status,
