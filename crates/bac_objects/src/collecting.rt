@@ -3,7 +3,7 @@ use crate::described::is_described;
 use crate::described_property::described_property;
 use crate::fault::{Place, ValueFault};
 use crate::finding::{Finding, Wrong};
-use crate::found::{found_words, unknown_key};
+use crate::found::{found_words, refused, unknown_key};
 use crate::held::member;
 use crate::identifier::{the_instance, the_type};
 use crate::known_keys::{DESCRIBED_KEYS, DOCUMENT_KEYS, OBJECT_KEYS, nearest, nearest_of_value};
@@ -14,6 +14,7 @@ use crate::problem::{Given, Problem, Wanted};
 use crate::property::own_property;
 use crate::refusals::{refusals, right_id};
 use crate::scalars::{array, table};
+use crate::type_names::nearest_type;
 use bac_store::{DescriptionFault, DescriptionFlaw, Property};
 use bac_value::{NoMemory, ObjectIdentifier};
 use bac_value_text::{property_in, property_name};
@@ -100,8 +101,14 @@ impl Collecting<'_> {
             return Ok(());
         }
         let found = found_words(self.alloc, value, problem)?;
+        let near = nearest_type(self.alloc, value, problem)?;
         let wanted = problem.wanted;
-        self.note(at, at.key, Wrong::Value { wanted, found })
+        let wrong = Wrong::Value {
+            wanted,
+            found,
+            near,
+        };
+        self.note(at, at.key, wrong)
     }
 
     /// Notes the fault of a value, unless it is that memory was refused.
@@ -155,13 +162,19 @@ impl Collecting<'_> {
         }
     }
 
+    /// Whether an earlier object has an identifier.
+    fn has_id(&self, id: ObjectIdentifier) -> bool {
+        for other in &self.ids {
+            if other.kind == id.kind && other.instance == id.instance {
+                return true;
+            }
+        }
+        false
+    }
+
     /// Notes that an earlier object has an identifier, where one has.
     fn note_again(&mut self, object: usize, id: ObjectIdentifier) -> Result<(), NoMemory> {
-        if self
-            .ids
-            .iter()
-            .any(|i| i.kind == id.kind && i.instance == id.instance)
-        {
+        if self.has_id(id) {
             let at = At {
                 object,
                 id: Some(id),
@@ -190,13 +203,19 @@ impl Collecting<'_> {
         Ok(Whose { object, kind, id })
     }
 
-    /// Notes what is wrong with the name and the file of an object. Where its type is not known, a file is read if it has one.
-    fn read_name_and_file(&mut self, whose: Whose, table: &Table) -> Result<(), NoMemory> {
-        let Whose { object, kind, id } = whose;
-        if let Err(fault) = name_in(self.alloc, table) {
-            let key = "name";
-            self.note_fault(At { object, id, key }, member(table, key), fault)?;
+    /// Notes what is wrong with the name of an object.
+    fn read_name(&mut self, whose: Whose, table: &Table) -> Result<(), NoMemory> {
+        let Whose { object, id, .. } = whose;
+        let key = "name";
+        match name_in(self.alloc, table) {
+            Ok(_) => Ok(()),
+            Err(fault) => self.note_fault(At { object, id, key }, member(table, key), fault),
         }
+    }
+
+    /// Notes what is wrong with the file of an object. Where its type is not known, a file is read if it has one.
+    fn read_file(&mut self, whose: Whose, table: &Table) -> Result<(), NoMemory> {
+        let Whose { object, kind, id } = whose;
         let key = "file";
         let file = member(table, key);
         if kind.is_none() && file.is_none() {
@@ -276,7 +295,8 @@ impl Collecting<'_> {
             }
         };
         let whose = self.read_halves(object, table)?;
-        self.read_name_and_file(whose, table)?;
+        self.read_name(whose, table)?;
+        self.read_file(whose, table)?;
         self.read_properties(whose, table)
     }
 
@@ -341,9 +361,12 @@ impl Collecting<'_> {
             Some(place) => (place.saturating_add(1), table_at(list, place)),
             None => (0, None),
         };
-        let line_key = match (property, table) {
-            (Some(property), Some(table)) => key_of(property, table),
-            _ => key_of_flaw(why),
+        let (line_key, value) = match (property, table) {
+            (Some(property), Some(table)) => {
+                let key = key_of(property, table);
+                (key, member(table, key))
+            }
+            _ => (key_of_flaw(why), None),
         };
         let line = self.outline.line(self.text, number, line_key);
         let place = Place {
@@ -351,7 +374,7 @@ impl Collecting<'_> {
             id: table.and_then(right_id),
             key: property_words(self.alloc, property)?,
         };
-        let wrong = Wrong::Refused(why);
+        let wrong = refused(self.alloc, why, value)?;
         Ok(self.findings.push(Finding { line, place, wrong })?)
     }
 

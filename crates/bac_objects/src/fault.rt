@@ -108,7 +108,7 @@ impl From<AllocError> for DocumentFault {
 }
 
 /// Why no value was read.
-#[derive(Clone, Copy, PartialEq, Eq)]
+#[derive(Clone, Copy)]
 pub(crate) enum ValueFault {
     Wrong(Problem),
     NoMemory,

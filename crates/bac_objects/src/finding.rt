@@ -14,9 +14,16 @@ pub enum Wrong {
         key: String,
         near: Option<&'static str>,
     },
-    /// A value that is not allowed: what is wanted, and what is there, in words or as TOML writes it.
+    /// A value that is not allowed: what is wanted, and what is there, in words or as TOML writes it; and of a text that names no object type the name that is most
+    /// like it, where one is.
     Value {
         wanted: Wanted,
+        found: String,
+        near: Option<&'static str>,
+    },
+    /// A value that its limits do not allow, or limits that can be none of such a value: the limits, and the value as TOML writes it.
+    Limits {
+        limits: String,
         found: String,
     },
     /// A value that is allowed, or an object of such values, that no store takes beside the objects before it.
@@ -51,12 +58,14 @@ impl fmt::Display for Wrong {
                 near: Some(near),
             } => write!(f, "unknown key \"{key}\", did you mean {near}"),
             Wrong::UnknownKey { key, near: None } => write!(f, "unknown key \"{key}\""),
-            Wrong::Value { wanted, found } => {
-                let wanted = match wanted {
-                    Wanted::Float => "number",
-                    _ => wanted.words(),
-                };
-                write!(f, "{wanted} wanted, {found} given")
+            Wrong::Value {
+                wanted,
+                found,
+                near,
+            } => write_value(f, *wanted, found, *near),
+            Wrong::Limits { limits, found } => {
+                let flaw = DescriptionFlaw::Limits;
+                write!(f, "{flaw}: {limits} wanted, {found} given")
             }
             Wrong::Refused(flaw) => write!(f, "{flaw}"),
             Wrong::NoToml { error, there } => {
@@ -64,6 +73,24 @@ impl fmt::Display for Wrong {
                 write!(f, "{message}: {there}")
             }
         }
+    }
+}
+
+/// Prints what is wanted and what is there, and the name that is like it, where there is one.
+fn write_value<W: fmt::Write>(
+    f: &mut fmt::Formatter<W>,
+    wanted: Wanted,
+    found: &str,
+    near: Option<&str>,
+) -> fmt::Result {
+    let wanted = match wanted {
+        Wanted::Float => "number",
+        _ => wanted.words(),
+    };
+    write!(f, "{wanted} wanted, {found} given")?;
+    match near {
+        Some(near) => write!(f, ", did you mean {near}"),
+        None => Ok(()),
     }
 }
 

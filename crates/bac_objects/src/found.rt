@@ -1,7 +1,9 @@
 //! What a document has in place of what is wanted, in words.
-use crate::held::{forms, found};
+use crate::finding::Wrong;
+use crate::held::{forms, found, member};
 use crate::known_keys::unknown_in;
 use crate::problem::{Given, Problem, Wanted};
+use bac_store::DescriptionFlaw;
 use bac_value::NoMemory;
 use std::alloc::Global;
 use toml::{Table, Value};
@@ -34,9 +36,9 @@ pub(crate) fn unknown_key(value: Option<&Value>, problem: Problem) -> Option<&st
 
 /// Whether a table has limits, of which one may be what is wrong.
 fn has_limits(table: &Table) -> bool {
-    ["min", "max", "one-of"]
-        .iter()
-        .any(|key| table.contains_key(*key))
+    member(table, "min").is_some()
+        || member(table, "max").is_some()
+        || member(table, "one-of").is_some()
 }
 
 /// The value of a table that a problem is about: that under the word of its kind, or the flag.
@@ -87,10 +89,52 @@ pub(crate) fn found_words(
     let words = match problem.given {
         Given::Nothing => "nothing",
         Given::Again => "the same again",
-        _ => "another one",
+        _ => match value {
+            Some(value) => return shown(alloc, at_fault(value, problem)),
+            None => "another one",
+        },
     };
-    match (problem.given, value) {
-        (Given::Nothing | Given::Again, _) | (_, None) => Ok(String::from_str(alloc, words)?),
-        (_, Some(value)) => shown(alloc, at_fault(value, problem)),
+    Ok(String::from_str(alloc, words)?)
+}
+
+/// The limits in the table of a value: from `min` to `max`, or one of a list. None where it has none.
+fn limits_words(alloc: Global, table: &Table) -> Result<Option<String>, NoMemory> {
+    if let Some(list) = member(table, "one-of") {
+        let list = shown(alloc, list)?;
+        return Ok(Some(format!(in alloc; "one of {list}")?));
+    }
+    let (Some(least), Some(greatest)) = (member(table, "min"), member(table, "max")) else {
+        return Ok(None);
+    };
+    let least = shown(alloc, least)?;
+    let greatest = shown(alloc, greatest)?;
+    Ok(Some(format!(in alloc; "{least} to {greatest}")?))
+}
+
+/// What is wrong with the values of a table that have limits; None where it has no values or no limits.
+fn wrong_limits(alloc: Global, table: &Table) -> Result<Option<Wrong>, NoMemory> {
+    let Ok((_, value)) = found(forms(), table) else {
+        return Ok(None);
+    };
+    let Some(limits) = limits_words(alloc, table)? else {
+        return Ok(None);
+    };
+    let found = shown(alloc, value)?;
+    Ok(Some(Wrong::Limits { limits, found }))
+}
+
+/// Why values, or an object, are refused: with the limits, where these are the reason.
+pub(crate) fn refused(
+    alloc: Global,
+    flaw: DescriptionFlaw,
+    value: Option<&Value>,
+) -> Result<Wrong, NoMemory> {
+    let wrong = match (flaw, value) {
+        (DescriptionFlaw::Limits, Some(Value::Table(table))) => wrong_limits(alloc, table)?,
+        _ => None,
+    };
+    match wrong {
+        Some(wrong) => Ok(wrong),
+        None => Ok(Wrong::Refused(flaw)),
     }
 }

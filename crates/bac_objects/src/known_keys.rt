@@ -90,12 +90,22 @@ pub(crate) fn nearest_of_value(
     nearest(alloc, key, &words)
 }
 
+/// Whether a key is the word for a kind of values.
+fn is_form(key: &str) -> bool {
+    for row in FORMS {
+        if row.0 == key {
+            return true;
+        }
+    }
+    false
+}
+
 /// Whether a key has a meaning in the table of a value.
 fn is_of_value(key: &str, has_limits: bool) -> bool {
     match key {
         "writable" => true,
         "min" | "max" | "one-of" => has_limits,
-        _ => FORMS.iter().any(|row| row.0 == key),
+        _ => is_form(key),
     }
 }
 

@@ -22,6 +22,7 @@ mod problem;
 mod property;
 mod refusals;
 mod scalars;
+mod type_names;
 mod values;
 
 pub use collecting::document_findings;

@@ -24,13 +24,9 @@ fn right<T: Drop>(read: Result<T, ValueFault>) -> Result<Option<T>, NoMemory> {
 
 /// The identifier of an object, where it is right.
 pub(crate) fn right_id(table: &Table) -> Option<ObjectIdentifier> {
-    match (
-        the_type(Wanted::ObjectType, table),
-        the_instance(4_194_302, Wanted::Instance, table),
-    ) {
-        (Ok(kind), Ok(instance)) => ObjectIdentifier::new(kind as u16, instance as u32),
-        _ => None,
-    }
+    let kind = the_type(Wanted::ObjectType, table).ok()?;
+    let instance = the_instance(4_194_302, Wanted::Instance, table).ok()?;
+    ObjectIdentifier::new(kind as u16, instance as u32)
 }
 
 /// The properties of an object that are right.
