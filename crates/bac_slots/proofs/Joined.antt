@@ -15,6 +15,7 @@ use Rattle.bac_slots.specs.Indexes.{bare, joined, keyed, IsIndex}
 use Rattle.bac_slots.proofs.KeyOrder.{length_in_order, rank_more, rank_sorted, rank_in_order, sorted_in_order, place_ranked, in_place, are_apart}
 use Rattle.bac_slots.proofs.Indexes.{index_at, index_within, nth_at}
 
+-- a fact that holds if there is a value holds, since there is one
 pub when_some : {X : Type 0} (o : Option X) (P : Type 0) → IsSome o → OnSome o P → P
 when_some None P is p = absurd cc
 when_some (Some x) P is p = p

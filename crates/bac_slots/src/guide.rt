@@ -4,7 +4,7 @@ ghost use Rattle.std.specs.Prelude.{◌≡◌, ℕ, ◌≤◌, [], length, IfOk}
 use std::alloc::{AllocError, Global};
 use std::cmp::Ordering;
 
-/// Copies of the first keys of blocks, close together in memory. They say where to look first: the keys of the slots that are found there decide, so no answer depends on them.
+/// Copies of the first keys of blocks. They say where to look first: the keys of the slots that are found there decide, so no answer depends on them.
 #[derive(Drop)]
 pub(crate) struct Guide<K> {
     /// The first key of each block of the index.

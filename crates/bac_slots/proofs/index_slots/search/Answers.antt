@@ -30,7 +30,8 @@ loop-first-preserved-in-Less g c =
     record {
       ordered = omega (arith, c.loop-first-test.true);
       within = i.within;
-      below = below_more _ _ g.K.Ord.cmp g.met.K.Ord.total g.K.PartialEq.eq g.met.K.Ord.matches_eq c.args.key.now (keyed c.args.keys.now.items) _ (bare c.nth.result.now)
+      below = below_more _ _ g.K.Ord.cmp g.met.K.Ord.total g.K.PartialEq.eq g.met.K.Ord.matches_eq c.args.key.now (keyed c.args.keys.now.items) _
+          (bare c.nth.result.now)
           c.requires.distinct c.nth.ensures (sym c.compare.ensures.value ∙ c.in-Less.is);
       above = i.above;
       counted = omega (arith, i.counted, counted);
@@ -73,7 +74,8 @@ loop-first-preserved g c =
       ordered = omega arith;
       within = omega (arith, c.loop-first-test.true, i.within);
       below = i.below;
-      above = above_more _ _ g.K.Ord.cmp g.met.K.Ord.total g.K.PartialEq.eq g.met.K.Ord.matches_eq c.args.key.now (keyed c.args.keys.now.items) _ (bare c.nth.result.now)
+      above = above_more _ _ g.K.Ord.cmp g.met.K.Ord.total g.K.PartialEq.eq g.met.K.Ord.matches_eq c.args.key.now (keyed c.args.keys.now.items) _
+          (bare c.nth.result.now)
           c.requires.distinct c.nth.ensures (sym c.compare.ensures.value ∙ c.in-Greater.is);
       counted = omega (arith, i.counted, counted);
       few = few_below c.loop-first.count.comparisons c.compare.new.count.comparisons c.loop-first.first c.loop-first.end c.args.count.now.comparisons

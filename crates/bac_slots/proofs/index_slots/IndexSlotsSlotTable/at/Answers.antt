@@ -16,7 +16,8 @@ returns-then-n-len g c =
 
 pub returns : goal.returns
 returns g c =
-    let same = joined_nth _ _ g.K.Ord.cmp g.met.K.Ord.total g.K.PartialEq.eq g.met.K.Ord.matches_eq c.self.inside.keys.items c.self.inside.entries.items c.self.inside.places.0 c.args.n c.at.result
+    let same = joined_nth _ _ g.K.Ord.cmp g.met.K.Ord.total g.K.PartialEq.eq g.met.K.Ord.matches_eq c.self.inside.keys.items
+    c.self.inside.entries.items c.self.inside.places.0 c.args.n c.at.result
     c.self.invariant.7 c.self.invariant.3 c.self.invariant.4 c.at.ensures in
     subst (λ (o : Option (Slot _ _)). MatchOption c.by_age.result (o ≡ None) (λ x. o ≡ Some (record { key = x.0; begin = x.1; value = x.2.now })))
     (sym (rw (← c.self.view_is) same)) c.by_age.ensures

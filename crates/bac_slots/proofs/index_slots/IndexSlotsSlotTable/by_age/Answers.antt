@@ -8,7 +8,8 @@ pub returns-in_err-key : goal.returns-in_err-key
 returns-in_err-key g c =
     let past : c.args.n < length c.self.inside.keys.items → ⊥ =
     λ l. let e = c.in_err-key.ensures.variant.1 (omega (arith, l, c.self.inside.keys.ok.0)) in cc in
-    rw (c.from_residual.ensures, ← c.self.view_is) (joined_past c.self.inside.keys.items c.self.inside.entries.items c.args.n c.self.invariant.7 (omega (arith, past)))
+    rw (c.from_residual.ensures, ← c.self.view_is) (joined_past c.self.inside.keys.items c.self.inside.entries.items c.args.n c.self.invariant.7
+    (omega (arith, past)))
 
 pub returns : goal.returns
 returns g c =

@@ -8,4 +8,5 @@ returns-in-Ok g c =
     c.index.result.now c.self.invariant.7 c.in-Ok.ensures.3 c.index.ensures)
 
 pub returns-in-Err : goal.returns-in-Err
-returns-in-Err g c = rw (← c.self.view_is) (joined_absent g.K.PartialEq.eq c.args.key.now c.self.inside.keys.items c.self.inside.entries.items c.in-Err.ensures.2)
+returns-in-Err g c =
+    rw (← c.self.view_is) (joined_absent g.K.PartialEq.eq c.args.key.now c.self.inside.keys.items c.self.inside.entries.items c.in-Err.ensures.2)

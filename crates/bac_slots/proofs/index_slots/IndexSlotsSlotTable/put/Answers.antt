@@ -32,7 +32,8 @@ returns g c =
     let long = joined_length c.self.inside.keys.items c.self.inside.entries.items c.self.invariant.7 in
     let room : length (joined c.self.inside.keys.items c.self.inside.entries.items) < c.self.inside.capacity =
     omega (arith, long, c.if-len-self.false, c.len-len.ensures, c.self.inside.keys.ok.0) in
-    let more = joined_put c.self.inside.keys.items c.self.inside.entries.items c.args.key (record { begin = c.args.begin; value = c.args.value }) c.self.invariant.7 in
+    let more = joined_put c.self.inside.keys.items c.self.inside.entries.items c.args.key (record { begin = c.args.begin; value = c.args.value })
+    c.self.invariant.7 in
     let items = ap (λ l. joined l c.push_back_reserved-2.new.self.items) c.push_back_reserved.ensures.items
     ∙ ap (λ l. joined (c.self.inside.keys.items ++ c.args.key ∷ []) l) c.push_back_reserved-2.ensures.items ∙ more in
     record { slots = (rw (← c.self.view_is) room, rw (← c.self.view_is) items); same = rw (← c.self.view_is) refl }
@@ -45,7 +46,8 @@ invariant_of-self g c =
     let items = ap keyed c.push_back_reserved.ensures.items ∙ keyed_put c.self.inside.keys.items c.args.key in
     let more = ap length c.push_back_reserved.ensures.items ∙ length-append c.self.inside.keys.items (c.args.key ∷ []) in
     let more_entries = ap length c.push_back_reserved-2.ensures.items ∙ length-append c.self.inside.entries.items _ in
-    let absent = keyed_absent g.K.PartialEq.eq c.args.key c.self.inside.keys.items c.self.inside.entries.items c.self.invariant.7 (rw (← c.self.view_is) at c.requires) in
+    let absent = keyed_absent g.K.PartialEq.eq c.args.key c.self.inside.keys.items c.self.inside.entries.items c.self.invariant.7
+    (rw (← c.self.view_is) at c.requires) in
     let all = keyed_length c.self.inside.keys.items in
     let long : c.len-len.result ≡ length keys = omega (arith, c.len-len.ensures, c.self.inside.keys.ok.0, all) in
     let named : c.insert-change.new.self.0 ≡ insert places (rank g.K.Ord.cmp c.args.key keys) (length keys) =

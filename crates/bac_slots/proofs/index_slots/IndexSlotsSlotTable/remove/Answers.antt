@@ -29,7 +29,8 @@ returns-clause-slots g c =
     let within = keyed_within c.self.inside.keys.items c.in-Some.seen.place c.in-Some.ensures.2 in
     let keys : c.remove.new.self.items ≡ remove c.self.inside.keys.items c.in-Some.seen.place =
     when_some c.remove.result _ (c.remove.ensures.variant.1 (omega (arith, within, c.self.inside.keys.ok.0))) c.remove.ensures.items in
-    let at = joined_IsAt g.K.PartialEq.eq c.args.key.now c.in-Some.seen.place c.self.inside.keys.items c.self.inside.entries.items c.self.invariant.7 c.in-Some.ensures.3 in
+    let at = joined_IsAt g.K.PartialEq.eq c.args.key.now c.in-Some.seen.place c.self.inside.keys.items c.self.inside.entries.items c.self.invariant.7
+    c.in-Some.ensures.3 in
     rw (← c.self.view_is)
     (ap (λ l. joined l c.remove-2.new.self.items) keys
     ∙ ap (λ l. joined (remove c.self.inside.keys.items c.in-Some.seen.place) l) c.in-Some-remove.ensures.items
