@@ -2,7 +2,6 @@
 use Rattle.std.proofs.Common.{◌≡◌, ℕ, zero, suc, ◌+◌, ◌-◌, ◌/◌, ◌<◌, ◌≤◌, Bool, true, false, List, [], ◌∷◌, ◌++◌, map, length, Option, Some}
 use Rattle.std.proofs.Common.{None, slice_get}
 use Rattle.std.proofs.Common.{if◌then◌else◌, nat_lt, ◌^◌, inl, inr, refl, sym, ap, subst, ◌∙◌, arith, cond}
-use Rattle.std.specs.Option.{option_map}
 use Rattle.std.specs.Ordering.{is_eq}
 use Rattle.std.specs.Int.Digits.{digits_of}
 use Rattle.std.specs.Cmp.{IsTotalOrder}
@@ -13,14 +12,14 @@ use Rattle.std.proofs.lemmas.Bool.Decides.{nat_tests}
 use Rattle.std.proofs.lemmas.Cmp.{alike_right}
 use Rattle.std.proofs.lemmas.Int.Digits.{number_digits_of, number_lt, all_below_base_digits_of, length-digits_of-le, length-digits_of_step}
 use Rattle.std.proofs.lemmas.List.{length-map}
-use Rattle.std.proofs.lemmas.Option.{slice_get-map, slice_get_within, slice_get_past}
+use Rattle.std.proofs.lemmas.Option.{slice_get_within}
 use Rattle.bac_slots.specs.declared.slot.Slot.{Slot}
-use Rattle.bac_slots.specs.Slots.{is_less, rank, nth_by_key, in_order, value_at, with_value, digits, IsDistinct, IsAt}
+use Rattle.bac_slots.specs.Slots.{is_less, rank, nth_by_key, in_order, value_at, digits, IsDistinct, IsAt}
 use Rattle.bac_slots.specs.Indexes.{AllAbove, AllBelow, IsIndex, Avoids, lowered}
 use Rattle.bac_slots.proofs.Slots.{without-IsAt}
 use Rattle.bac_slots.proofs.KeyOrder.{Each, IsSorted, IsIn, each_at, sorted_in_order, length_in_order, rank_in_order, rank_more, rank_sorted}
 use Rattle.bac_slots.proofs.KeyOrder.{reversed, in_in_order, place_in, in_place, are_apart, sorted_distinct, place_ranked, apart_away}
-use Rattle.bac_slots.proofs.KeyOrder.{nth_is, tied, in_order_put, in_order_without, in_order_changed, with_value_is, changed, first_with}
+use Rattle.bac_slots.proofs.KeyOrder.{nth_is, tied, in_order_put, in_order_without, first_with}
 
 -- ---- lists of places and what they name
 
@@ -83,16 +82,6 @@ module _ (X : Type 0) where
   pub names_put : (xs ys : List X) (places : List ℕ) (n : ℕ) (x : X) → Names xs places ys
       → Names (xs ++ x ∷ []) (insert places n (length xs)) (insert ys n x)
   names_put xs ys places n x e = names_insert (xs ++ x ∷ []) ys places n (length xs) x (names_more xs (x ∷ []) ys places e) (get_last xs x)
-
-  -- other values
-
-  pub names_changed : (f : X → X) (xs ys : List X) (places : List ℕ) → Names xs places ys → Names (map f xs) places (map f ys)
-  names_changed f xs [] [] e = refl
-  names_changed f xs (y ∷ ys) [] e = absurd cc
-  names_changed f xs [] (p ∷ places) e = absurd cc
-  names_changed f xs (y ∷ ys) (p ∷ places) e =
-      ap (λ a. a ∷ map (λ n. slice_get (map f xs) n) places) (slice_get-map f xs p ∙ ap (option_map f) (head_is _ _ _ _ e))
-      ∙ ap (λ l. Some (f y) ∷ l) (names_changed f xs ys places (tail_is _ _ _ _ e))
 
   -- one slot removed
 
@@ -170,12 +159,6 @@ module _ (K T : Type 0) (cmp : K → K → Ordering) (total : IsTotalOrder cmp) 
   pub nth_at : (slots : List Item) (n : ℕ) (o : Option Item) → IsDistinct eq slots → slice_get (in_order cmp slots) n ≡ o → nth_by_key cmp n slots ≡ o
   nth_at slots n o d e = nth_is K T cmp total slots (are_apart K T cmp total eq matches slots d) n ∙ e
 
-  pub nth_past : (slots : List Item) (places : List ℕ) (n : ℕ) → IsDistinct eq slots → IsIndex cmp places slots → length places ≤ n
-      → nth_by_key cmp n slots ≡ None
-  nth_past slots places n d i l =
-      let long = names_length Item slots (in_order cmp slots) places i in
-      nth_at slots n None d (slice_get_past (in_order cmp slots) n (omega (arith, long, l)))
-
   pub above_end : (key : K) (slots : List Item) (places : List ℕ) → IsIndex cmp places slots → AllAbove cmp key (length places) (in_order cmp slots)
   above_end key slots places i k s l f =
       let within = slice_get_within (in_order cmp slots) k s f in
@@ -187,13 +170,6 @@ module _ (K T : Type 0) (cmp : K → K → Ordering) (total : IsTotalOrder cmp) 
   index_put x slots places d absent i =
       names_put Item slots (in_order cmp slots) places (rank cmp x.key slots) x i
       ∙ ap (λ l. map Some l) (sym (in_order_put K T cmp total eq matches x slots d absent))
-
-  pub index_set : (key : K) (v : T) (slots : List Item) (places : List ℕ) → IsDistinct eq slots → IsIndex cmp places slots
-      → IsIndex cmp places (with_value eq key v slots)
-  index_set key v slots places d i =
-      subst (λ (l : List Item). IsIndex cmp places l) (sym (with_value_is K T cmp total eq matches key v slots d))
-      (names_changed Item (changed K T cmp total eq matches key v) slots (in_order cmp slots) places i
-      ∙ ap (λ l. map Some l) (sym (in_order_changed K T cmp total eq matches key v slots)))
 
   apart_names : (key : K) (slots os : List Item) (places : List ℕ) (gone : ℕ) (s : Item) → Names Item slots places os
       → Each K T cmp total (λ k. eq k key ≡ false) os → slice_get slots gone ≡ Some s → eq s.key key ≡ true → Avoids gone places

@@ -1,5 +1,5 @@
 -- The slots in key order: they are sorted, have the same slots, and the n-th of them is the n-th by key.
-use Rattle.std.proofs.Common.{◌≡◌, ℕ, zero, suc, ◌+◌, ◌⊎◌, Bool, true, false, List, [], ◌∷◌, ◌++◌, map, length, Option, Some, None, slice_get}
+use Rattle.std.proofs.Common.{◌≡◌, ℕ, zero, suc, ◌+◌, ◌⊎◌, Bool, true, false, List, [], ◌∷◌, ◌++◌, length, Option, Some, None, slice_get}
 use Rattle.std.proofs.Common.{if◌then◌else◌, nat_eq, refl, sym, ap, subst, inl, inr, ◌∙◌, arith, cond}
 use Rattle.std.specs.Ordering.{ordering_reverse, is_gt, is_eq}
 use Rattle.std.specs.Cmp.{IsTotalOrder}
@@ -10,7 +10,7 @@ use Rattle.std.proofs.lemmas.Cmp.{tied_itself, tied_back, upto}
 use Rattle.std.proofs.lemmas.Grind.{common_steps}
 use Rattle.std.proofs.lemmas.Bool.Decides.{nat_tests}
 use Rattle.bac_slots.specs.declared.slot.Slot.{Slot}
-use Rattle.bac_slots.specs.Slots.{is_less, rank, of_rank, nth_by_key, inserted, in_order, value_at, with_value, without, IsApart, IsDistinct, IsAt}
+use Rattle.bac_slots.specs.Slots.{is_less, rank, of_rank, nth_by_key, inserted, in_order, value_at, without, IsApart, IsDistinct, IsAt}
 
 module _ (K T : Type 0) (cmp : K → K → Ordering) (total : IsTotalOrder cmp) where
   abbrev pub Item : Type 0
@@ -393,50 +393,6 @@ module _ (K T : Type 0) (cmp : K → K → Ordering) (total : IsTotalOrder cmp) 
         apart_at [] n s a e = absurd cc
         apart_at (u ∷ slots) zero s a e = let same : u ≡ s = cc in ap (λ (v : Item). eq t.key v.key) (sym same) ∙ a.0
         apart_at (u ∷ slots) (suc n) s a e = apart_at slots n s a.1 e
-
-    -- another value for a key
-
-    abbrev pub changed : K → T → Item → Item
-    changed key v s = if eq s.key key then record s { value = v } else s
-
-    changed_key : (key : K) (v : T) (s : Item) → (changed key v s).key ≡ s.key
-    changed_key key v s = go (eq s.key key)
-      where
-        go : (b : Bool) → (let t : Item = if b then record s { value = v } else s in t.key) ≡ s.key
-        go true = refl
-        go false = refl
-
-    none_changed : (key : K) (v : T) (slots : List Item) → Each (λ k. eq k key ≡ false) slots → map (changed key v) slots ≡ slots
-    none_changed key v [] h = refl
-    none_changed key v (s ∷ slots) h = rw h.0 (ap (λ l. s ∷ l) (none_changed key v slots h.1))
-
-    pub with_value_is : (key : K) (v : T) (slots : List Item) → IsDistinct eq slots → with_value eq key v slots ≡ map (changed key v) slots
-    with_value_is key v [] d = refl
-    with_value_is key v (s ∷ slots) d = go (eq s.key key) refl (with_value_is key v slots d.1)
-      where
-        go : (b : Bool) → eq s.key key ≡ b → with_value eq key v slots ≡ map (changed key v) slots
-            → (if b then record s { value = v } ∷ slots else s ∷ with_value eq key v slots)
-            ≡ (if b then record s { value = v } else s) ∷ map (changed key v) slots
-        go true e again = ap (λ l. record s { value = v } ∷ l) (sym (none_changed key v slots (apart_away s.key key slots e d.0)))
-        go false e again = ap (λ l. s ∷ l) again
-
-    inserted_changed : (key : K) (v : T) (s : Item) (l : List Item)
-        → inserted cmp (changed key v s) (map (changed key v) l) ≡ map (changed key v) (inserted cmp s l)
-    inserted_changed key v s [] = refl
-    inserted_changed key v s (t ∷ l) =
-        rw (changed_key key v s, changed_key key v t) (go (is_gt (cmp s.key t.key)) (inserted_changed key v s l))
-      where
-        go : (b : Bool) → inserted cmp (changed key v s) (map (changed key v) l) ≡ map (changed key v) (inserted cmp s l)
-            → (if b then changed key v t ∷ inserted cmp (changed key v s) (map (changed key v) l)
-            else changed key v s ∷ changed key v t ∷ map (changed key v) l)
-            ≡ map (changed key v) (if b then t ∷ inserted cmp s l else s ∷ t ∷ l)
-        go true again = ap (λ l. changed key v t ∷ l) again
-        go false again = refl
-
-    pub in_order_changed : (key : K) (v : T) (slots : List Item) → in_order cmp (map (changed key v) slots) ≡ map (changed key v) (in_order cmp slots)
-    in_order_changed key v [] = refl
-    in_order_changed key v (s ∷ slots) = ap (λ l. inserted cmp (changed key v s) l) (in_order_changed key v slots)
-        ∙ inserted_changed key v s (in_order cmp slots)
 
     -- ---- neighbours, and the values at keys
 

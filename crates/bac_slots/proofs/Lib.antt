@@ -2,6 +2,7 @@
 pub mod Slots
 pub mod KeyOrder
 pub mod Indexes
+pub mod Joined
 pub mod Ranks
 pub mod Swept
 pub mod Values

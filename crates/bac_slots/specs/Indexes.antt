@@ -4,10 +4,25 @@ use Rattle.std.specs.Prelude.{if◌then◌else◌, nat_lt}
 use Rattle.std.specs.declared.cmp.Ordering.{Ordering}
 use Rattle.std.specs.declared.cmp.Ordering.TheVariants.{Less, Greater}
 use Rattle.bac_slots.specs.declared.slot.Slot.{Slot}
+use Rattle.bac_slots.specs.declared.index_slots.Entry.{Entry}
 use Rattle.bac_slots.specs.declared.index_slots.Found.{Found}
 use Rattle.bac_slots.specs.declared.index_slots.Seen.{Seen}
 use Rattle.bac_slots.specs.declared.spot.Spot.{Spot}
 use Rattle.bac_slots.specs.Slots.{value_at, rank, in_order, IsAt}
+
+-- the slots of these keys and entries
+abbrev pub joined : {K T : Type 0} → List K → List (Entry T) → List (Slot K T)
+joined [] entries = []
+joined (k ∷ keys) [] = []
+joined (k ∷ keys) (e ∷ entries) = record { key = k; begin = e.begin; value = e.value } ∷ joined keys entries
+
+-- a slot of which nothing but the key is told
+abbrev pub bare : {K : Type 0} → K → Slot K (Unit {0})
+bare k = record { key = k; begin = 0; value = tt }
+
+-- the same for each key: the order of slots depends on their keys alone
+abbrev pub keyed : {K : Type 0} → List K → List (Slot K (Unit {0}))
+keyed keys = map bare keys
 
 -- the places list the slots in ascending order of their keys
 abbrev pub IsIndex : {K T : Type 0} → (K → K → Ordering) → List ℕ → List (Slot K T) → Type 0

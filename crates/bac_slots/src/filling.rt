@@ -36,3 +36,27 @@ fn settled(number: u32, first: u32, gone: usize) -> u32
         place
     }
 }
+
+/// How many numbers are compared at a time.
+const CHUNK: usize = 16;
+
+/// Whether a number is one of these. All of them are compared, so that a processor can compare many at once.
+fn is_among(numbers: &[u32; CHUNK], number: u32) -> bool {
+    let mut is_there = false;
+    for other in numbers {
+        is_there |= *other == number;
+    }
+    is_there
+}
+
+/// Where a number is first, or None where it is not.
+pub(crate) fn position(numbers: &[u32], number: u32) -> Option<usize> {
+    let (chunks, _) = numbers.as_chunks::<CHUNK>();
+    let chunk = chunks.iter().position(|chunk| is_among(chunk, number));
+    let first = chunk.unwrap_or(chunks.len()).saturating_mul(CHUNK);
+    let at = numbers
+        .get(first..)?
+        .iter()
+        .position(|other| *other == number)?;
+    Some(first.saturating_add(at))
+}

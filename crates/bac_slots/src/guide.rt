@@ -3,29 +3,15 @@ ghost use Rattle.std.specs.Prelude.{◌≡◌, ℕ, ◌≤◌, [], length, IfOk}
 
 use std::alloc::{AllocError, Global};
 use std::cmp::Ordering;
-use std::collections::VecDeque;
 
-/// Copies of keys, close together in memory. They say where to look first: the keys of the slots that are found there decide, so no answer depends on them.
+/// Copies of the first keys of blocks. They say where to look first: the keys of the slots that are found there decide, so no answer depends on them.
 #[derive(Drop)]
 pub(crate) struct Guide<K> {
     /// The first key of each block of the index.
     firsts: Vec<K>,
-    /// The keys of the slots, in order of insertion.
-    keys: VecDeque<K>,
 }
 
 impl<K: Ord> Guide<K> {
-    /// Whether the key of the slot at a place in order of insertion is less than a key.
-    pub(crate) fn is_before(&self, place: usize, key: &K) -> bool {
-        match self.keys.get(place) {
-            Some(other) => match other.cmp(key) {
-                Ordering::Less => true,
-                _ => false,
-            },
-            None => false,
-        }
-    }
-
     /// The last block whose first key is not greater than a key; the first block where there is none.
     pub(crate) fn block_of(&self, key: &K) -> usize {
         let mut block = 0;
@@ -42,11 +28,10 @@ impl<K: Ord> Guide<K> {
 }
 
 impl<K: Ord + Copy + Drop> Guide<K> {
-    /// No keys, with room for those of so many blocks and slots. Returns an `Err` if the allocation fails.
-    pub(crate) fn new(alloc: Global, blocks: usize, slots: usize) -> Result<Self, AllocError> {
+    /// No keys, with room for those of so many blocks. Returns an `Err` if the allocation fails.
+    pub(crate) fn new(alloc: Global, blocks: usize) -> Result<Self, AllocError> {
         Ok(Guide {
             firsts: Vec::with_capacity(alloc, blocks)?,
-            keys: VecDeque::with_capacity(alloc, slots)?,
         })
     }
 
@@ -76,18 +61,6 @@ impl<K: Ord + Copy + Drop> Guide<K> {
         if block < self.firsts.len() {
             self.firsts.remove(block);
         }
-    }
-
-    /// A slot came, behind all others. Where there is no room for its key, nothing changes.
-    pub(crate) fn push(&mut self, key: K) {
-        if self.keys.len() < self.keys.capacity() {
-            self.keys.push_back_reserved(key);
-        }
-    }
-
-    /// The slot at a place in order of insertion left.
-    pub(crate) fn take(&mut self, place: usize) {
-        self.keys.remove(place);
     }
 
     /// No block is known.

@@ -4,6 +4,7 @@ ghost use Rattle.std.specs.List.{insert, remove};
 ghost use Rattle.bac_slots.specs.Indexes.{lowered, rank_at, Avoids, IsHeld, IsWithin};
 
 use crate::blocks::{Blocks, Change};
+use crate::filling::position;
 use crate::spot::Spot;
 use std::alloc::{AllocError, Global};
 use std::marker::Model;
@@ -71,11 +72,7 @@ impl Places {
 
     /// Where the first place of all is in a block, or None where another block has it.
     pub(crate) fn first_in(&self, block: usize) -> Option<usize> {
-        let first = self.gone;
-        self.numbers
-            .of_block(block)
-            .iter()
-            .position(|number| *number == first)
+        position(self.numbers.of_block(block), self.gone)
     }
 
     /// Whether there is a place at the spot.

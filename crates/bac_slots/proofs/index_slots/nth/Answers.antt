@@ -1,19 +1,21 @@
--- The index names a slot there.
-use Rattle.std.proofs.Common.{◌∙◌, refl, arith}
-use Rattle.std.proofs.lemmas.Option.{slice_get_read}
+-- The index names a key there.
+use Rattle.std.proofs.Common.{◌∙◌, arith}
+use Rattle.bac_slots.specs.Indexes.{keyed}
 use Rattle.bac_slots.proofs.Indexes.{index_at, index_within}
+use Rattle.bac_slots.proofs.Joined.{keyed_read, keyed_within}
 use Rattle.bac_slots.proofs.index_slots.nth.Goals as goal
 
 pub index-requires : goal.index-requires
 index-requires g c =
-    let within = index_within _ _ g.K.Ord.cmp g.met.K.Ord.total g.K.PartialEq.eq g.met.K.Ord.matches_eq c.args.slots.now.items c.args.places.now.0 c.args.n
-    c.at.result c.requires.index c.at.ensures in
-    omega (arith, within, c.args.slots.now.ok.0)
+    let within = index_within _ _ g.K.Ord.cmp g.met.K.Ord.total g.K.PartialEq.eq g.met.K.Ord.matches_eq (keyed c.args.keys.now.items) c.args.places.now.0
+    c.args.n c.at.result c.requires.index c.at.ensures in
+    let inside = keyed_within c.args.keys.now.items c.at.result within in
+    omega (arith, inside, c.args.keys.now.ok.0)
 
 pub returns : goal.returns
 returns g c =
-    let within = index_within _ _ g.K.Ord.cmp g.met.K.Ord.total g.K.PartialEq.eq g.met.K.Ord.matches_eq c.args.slots.now.items c.args.places.now.0 c.args.n
-    c.at.result c.requires.index c.at.ensures in
-    index_at _ _ g.K.Ord.cmp g.met.K.Ord.total g.K.PartialEq.eq g.met.K.Ord.matches_eq c.args.slots.now.items c.args.places.now.0 c.args.n
-    c.at.result c.requires.index c.at.ensures
-    ∙ slice_get_read c.args.slots.now.items _ c.at.result c.index.result.now refl within c.index.ensures
+    let within = index_within _ _ g.K.Ord.cmp g.met.K.Ord.total g.K.PartialEq.eq g.met.K.Ord.matches_eq (keyed c.args.keys.now.items) c.args.places.now.0
+    c.args.n c.at.result c.requires.index c.at.ensures in
+    index_at _ _ g.K.Ord.cmp g.met.K.Ord.total g.K.PartialEq.eq g.met.K.Ord.matches_eq (keyed c.args.keys.now.items) c.args.places.now.0
+    c.args.n c.at.result c.requires.index c.at.ensures
+    ∙ keyed_read c.args.keys.now.items c.at.result c.index.result.now within c.index.ensures
