@@ -87,7 +87,13 @@ fn print_unfit<E: Write>(alloc: Global, path: &str, fault: FollowFault, err: &mu
             property,
             fault,
         } => {
-            if let Ok(why) = format!(in alloc; "{fault}: not followed, start the server again") {
+            let served = match fault {
+                ChangeFault::NoSuchObject | ChangeFault::NoSuchProperty => " is served",
+                _ => "",
+            };
+            if let Ok(why) = format!(in alloc;
+                "{fault}{served}: not followed, start the server again"
+            ) {
                 let _ = print_about(alloc, path, object, property, &why, err);
             }
         }

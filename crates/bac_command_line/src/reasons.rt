@@ -7,7 +7,7 @@ use crate::seconds::{bad_pace, print_bad_pace};
 use crate::serving_words::{read_memory, remembers_in_vain};
 use bac_forms::FORM_NAMES;
 use bac_lists::{EVERY_HOST, is_of_node, read_end, read_host, read_link, read_route};
-use bac_objects::{DocumentFault, document_findings};
+use bac_objects::{DocumentFault, Finding, document_findings};
 use bac_text::{Status, complain, no_memory};
 use clap::ArgMatches;
 use std::alloc::Global;
@@ -73,7 +73,15 @@ pub(crate) fn print_empty_manifest<E: Write>(folder: &str, err: &mut E) {
     let _ = writeln!(err, "{folder}/manifest: no files");
 }
 
-/// Tells the first fault of a document, and then all of them, each with its line; the first alone where memory is refused.
+/// All faults of a document that is refused, as far as they can be told one by one. None where there is only the refusal itself.
+fn findings_of(alloc: Global, octets: &[u8], fault: &DocumentFault) -> Option<Vec<Finding>> {
+    match fault {
+        DocumentFault::NoMemory => None,
+        _ => document_findings(alloc, octets).ok(),
+    }
+}
+
+/// Tells all faults of a document, each with its line; the refusal alone where there is no more to tell, or memory is refused.
 pub(crate) fn print_document_fault<E: Write>(
     alloc: Global,
     path: &str,
@@ -83,12 +91,13 @@ pub(crate) fn print_document_fault<E: Write>(
 ) -> Status
     ensures { result ≡ status.CommandLine }
 {
-    // if that fails too, only the status is left
-    let _ = writeln!(err, "{path}: {fault}");
-    if let Ok(findings) = document_findings(alloc, octets) {
-        for finding in &findings {
-            let _ = writeln!(err, "{path}: {finding}");
-        }
+    let findings = findings_of(alloc, octets, fault).unwrap_or(Vec::new(alloc));
+    if findings.is_empty() {
+        // if that fails too, only the status is left
+        let _ = writeln!(err, "{path}: {fault}");
+    }
+    for finding in &findings {
+        let _ = writeln!(err, "{path}: {finding}");
     }
     Status::CommandLine
 }

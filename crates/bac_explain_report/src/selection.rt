@@ -26,7 +26,8 @@ pub struct PeerFilter {
 pub struct Selection {
     /// Only those without an answer: its end was not seen, nor an Abort of the server. The client may have given up.
     pub unanswered: bool,
-    /// Only those whose request, or a segment of it, was sent more than once, with an answer or without.
+    /// Only those whose request, or a segment of it, was sent more than once, with an answer or without. Segments are counted, not told apart, so one that came
+    /// again is not seen where the capture lacks as many others of its request.
     pub repeated: bool,
     /// Only those with a finding.
     pub findings: bool,

@@ -1,6 +1,7 @@
 //! What is printed of words that are no request.
 ghost use Rattle.bac_text.specs.Statuses.{IsStop};
 
+use crate::address::{is_of_node, read_end};
 use crate::near_names::name_like;
 use crate::source::{LinePlace, Source};
 use crate::value_forms::wanted_form;
@@ -8,8 +9,8 @@ use bac_commands::Style;
 use bac_service_text::{BadWord, Wanted, bad_word};
 use bac_text::{Status, no_memory};
 use std::alloc::{AllocError, Global};
-use std::io;
 use std::io::Write;
+use std::{io, str};
 
 /// Why words are refused of which each alone is good, where the answer is to be printed so.
 fn whole_reason(style: Style) -> &'static str {
@@ -41,7 +42,8 @@ fn add_name_like(
     Ok(())
 }
 
-/// What to write in place of a word that was wanted to be something: of a value the form of its kind, of an object or a property the name that is like it.
+/// What to write in place of a word that was wanted to be something: of a value the form of its kind, of an object or a property the name that is like it; of
+/// `@FILE` where it may stand.
 fn add_advice(
     alloc: Global,
     wanted: Wanted,
@@ -56,17 +58,49 @@ fn add_advice(
         Wanted::Data => reason.extend_from_slice(
             b": whole values in hexadecimal wanted, or each by its kind, as real:72.5",
         ),
+        Wanted::Octets | Wanted::Position if word.starts_with(b"@") => {
+            reason.extend_from_slice(b": @FILE stands last, and in no list")
+        }
         _ => add_name_like(alloc, wanted, word, reason),
     }
 }
 
+/// How many octets of a word are printed.
+const MOST_PRINTED: usize = 100;
+
+/// A word, or the beginning of a long one, and how many octets it has.
+fn printed(alloc: Global, word: &[u8]) -> Result<Vec<u8>, AllocError> {
+    let octets = word.len();
+    if octets <= MOST_PRINTED {
+        return Vec::from_slice(alloc, word);
+    }
+    let mut printed = Vec::from_slice(alloc, word.get(..MOST_PRINTED).unwrap_or(word))?;
+    let rest = format!(in alloc; ".. ({octets} octets)")?;
+    printed.extend_from_slice(rest.as_bytes())?;
+    Ok(printed)
+}
+
 /// Which word is bad, what was wanted, and what to write in its place.
 fn reason_of(alloc: Global, bad: BadWord<'_>) -> Result<Vec<u8>, AllocError> {
-    let mut reason = bad.text(alloc)?;
-    if let Some(word) = bad.word {
-        add_advice(alloc, bad.wanted, word, &mut reason)?;
-    }
+    let Some(word) = bad.word else {
+        return bad.text(alloc);
+    };
+    let printed = printed(alloc, word)?;
+    let shown = BadWord {
+        wanted: bad.wanted,
+        word: Some(&printed),
+    };
+    let mut reason = shown.text(alloc)?;
+    add_advice(alloc, bad.wanted, word, &mut reason)?;
     Ok(reason)
+}
+
+/// Why `get T:I` is refused, which asks for a whole file.
+const WHOLE_FILE: &[u8] = b": whole files are read by one ask, not by a list or in rounds";
+
+/// Whether words are `get T:I` with no more behind it.
+fn are_of_whole_file(words: &[&[u8]]) -> bool {
+    matches!(words, [verb, _] if *verb == b"get".as_slice())
 }
 
 /// `bad words`, and which is bad and what was wanted.
@@ -77,6 +111,9 @@ fn bad_words_text(alloc: Global, style: Style, words: &[&[u8]]) -> Result<Vec<u8
             let reason = reason_of(alloc, bad)?;
             text.extend_from_slice(separator_of(style).as_bytes())?;
             text.extend_from_slice(reason.as_slice())?;
+            if bad.word.is_none() && are_of_whole_file(words) {
+                text.extend_from_slice(WHOLE_FILE)?;
+            }
         }
         None => {
             text.push(b'\n')?;
@@ -178,8 +215,25 @@ pub(crate) fn print_no_peer<E: Write>(
     Status::CommandLine
 }
 
+/// What is wanted in place of a word that names no peer.
+fn wanted_of_peer(word: &[u8]) -> &'static str {
+    let Ok(text) = str::from_utf8(word) else {
+        return PEER_FORM;
+    };
+    let text = text.strip_prefix('@').unwrap_or(text);
+    let end = text.split('/').next().unwrap_or(text);
+    match read_end(end) {
+        Some((host, _)) if !is_of_node(host) => "address of a node",
+        _ => PEER_FORM,
+    }
+}
+
+/// The form of the word that names a peer.
+const PEER_FORM: &str = "@A.B.C.D[:P][/NET:MAC]";
+
 fn print_bad_address<E: Write>(place: LinePlace<'_>, word: &[u8], err: &mut E) -> io::Result<()> {
+    let wanted = wanted_of_peer(word);
     write!(err, "{place}bad address: \"")?;
     err.write_all(word)?;
-    writeln!(err, "\" is no @A.B.C.D[:P][/NET:MAC]")
+    writeln!(err, "\" is no {wanted}")
 }

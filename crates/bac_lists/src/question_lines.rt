@@ -273,7 +273,7 @@ fn tell_bad<E: Write>(source: Source<'_>, default: Option<Peer>, lines: &[&[u8]]
         {
             let at = source.line(number);
             // if that fails too, only the status is left
-            let _ = writeln!(err, "{at}bad too, as more may be");
+            let _ = writeln!(err, "{at}bad too, and perhaps more");
             return;
         }
     }

@@ -93,7 +93,7 @@ impl Collecting<'_> {
         value: Option<&Value>,
         problem: Problem,
     ) -> Result<(), NoMemory> {
-        if let Some(key) = unknown_key(value, problem) {
+        if let Some(key) = unknown_key(value, problem, self.is_described) {
             let near = self.hint(key, nearest_of_value(self.alloc, key)?);
             return self.note_unknown(at, key, near);
         }
@@ -369,12 +369,17 @@ impl Collecting<'_> {
             _ => (key_of_flaw(why), None),
         };
         let line = self.outline.line(self.text, number, line_key);
+        let id = table.and_then(right_id);
         let place = Place {
             object: number,
-            id: table.and_then(right_id),
+            id,
             key: property_words(self.alloc, property)?,
         };
-        let wrong = refused(self.alloc, why, value)?;
+        let kind = match id {
+            Some(id) => Some(id.kind),
+            None => None,
+        };
+        let wrong = refused(self.alloc, kind, fault, value)?;
         Ok(self.findings.push(Finding { line, place, wrong })?)
     }
 

@@ -47,6 +47,9 @@ pub struct Finding {
 impl fmt::Display for Wrong {
     fn fmt<W: fmt::Write>(&self, f: &mut fmt::Formatter<W>) -> fmt::Result {
         match self {
+            Wrong::UnknownKey { key, .. } if key.as_str() == "described" => {
+                f.write_str("described = true stands before the first table")
+            }
             Wrong::UnknownKey {
                 key,
                 near: Some(near),

@@ -49,6 +49,16 @@ pub(crate) const FILE_FORMS: &[(&str, ValueForm)] = &[
     ("text", ValueForm::Value(Kind::Text)),
 ];
 
+impl ValueForm {
+    /// The word for the form.
+    pub(crate) fn word(self) -> &'static str {
+        match self {
+            ValueForm::Value(kind) => kind.word(),
+            ValueForm::Hex => "hex",
+        }
+    }
+}
+
 impl Kind {
     /// The word for the kind.
     pub fn word(self) -> &'static str {

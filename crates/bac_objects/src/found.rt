@@ -1,9 +1,12 @@
 //! What a document has in place of what is wanted, in words.
+use crate::fault::ValueFault;
 use crate::finding::Wrong;
+use crate::form::{Kind, ValueForm};
 use crate::held::{forms, found, member};
 use crate::known_keys::unknown_in;
 use crate::problem::{Given, Problem, Wanted};
-use bac_store::DescriptionFlaw;
+use crate::property::{DESCRIPTION, values_in};
+use bac_store::{DescriptionFault, DescriptionFlaw, VALUE_LIMIT};
 use bac_value::NoMemory;
 use std::alloc::Global;
 use toml::{Table, Value};
@@ -11,13 +14,17 @@ use toml::{Table, Value};
 /// How many octets of a value are shown.
 const MOST_SHOWN: usize = 60;
 
-/// The key of a value's table that has no meaning there, where that is what is wrong.
-pub(crate) fn unknown_key(value: Option<&Value>, problem: Problem) -> Option<&str> {
+/// The key of a value's table that has no meaning there, where that is what is wrong. A table without a value may have limits in documents that describe objects.
+pub(crate) fn unknown_key(
+    value: Option<&Value>,
+    problem: Problem,
+    is_described: bool,
+) -> Option<&str> {
     let has_limits = match problem {
         Problem {
             wanted: Wanted::OneValue,
             given: Given::More | Given::Nothing,
-        } => false,
+        } => is_described,
         Problem {
             wanted: Wanted::LimitedValue,
             given: Given::More,
@@ -34,32 +41,92 @@ pub(crate) fn unknown_key(value: Option<&Value>, problem: Problem) -> Option<&st
     }
 }
 
-/// Whether a table has limits, of which one may be what is wrong.
-fn has_limits(table: &Table) -> bool {
-    member(table, "min").is_some()
-        || member(table, "max").is_some()
-        || member(table, "one-of").is_some()
+/// A value, and its key where only that tells what is wrong with it.
+#[derive(Clone, Copy)]
+struct Faulty<'a> {
+    key: Option<&'static str>,
+    value: &'a Value,
 }
 
-/// The value of a table that a problem is about: that under the word of its kind, or the flag.
-fn inner(table: &Table, problem: Problem) -> Option<&Value> {
+/// Whether a value under the word of a form has this problem.
+fn has(alloc: Global, form: ValueForm, value: &Value, problem: Problem) -> bool {
+    match values_in(alloc, form, value) {
+        Err(ValueFault::Wrong(wrong)) => wrong == problem,
+        _ => false,
+    }
+}
+
+/// The limit in the table of a value that has a problem, with its key.
+fn limit_at_fault<'a>(
+    alloc: Global,
+    form: ValueForm,
+    table: &'a Table,
+    problem: Problem,
+) -> Option<Faulty<'a>> {
+    for key in ["min", "max"] {
+        match member(table, key) {
+            Some(value) if has(alloc, form, value, problem) => {
+                return Some(Faulty {
+                    key: Some(key),
+                    value,
+                });
+            }
+            _ => {}
+        }
+    }
+    let key = "one-of";
+    let value = member(table, key)?;
+    Some(Faulty {
+        key: Some(key),
+        value,
+    })
+}
+
+/// The value under the word of its kind, or the limit beside it, that has a problem; the value with that word where its kind is the problem.
+fn value_at_fault<'a>(alloc: Global, table: &'a Table, problem: Problem) -> Option<Faulty<'a>> {
+    let (form, value) = found(forms(), table).ok()?;
+    if matches!(problem.given, Given::Kind(_) | Given::Hex) {
+        let key = Some(form.word());
+        return Some(Faulty { key, value });
+    }
+    if !has(alloc, form, value, problem) {
+        if let Some(limit) = limit_at_fault(alloc, form, table, problem) {
+            return Some(limit);
+        }
+    }
+    Some(Faulty { key: None, value })
+}
+
+/// The value of a table that a problem is about: that under the word of its kind, a limit, or the flag.
+fn inner<'a>(alloc: Global, table: &'a Table, problem: Problem) -> Option<Faulty<'a>> {
     match problem.wanted {
-        Wanted::Mark => table.get("writable"),
+        Wanted::Mark => {
+            let value = table.get("writable")?;
+            Some(Faulty { key: None, value })
+        }
         Wanted::Value | Wanted::OneValue | Wanted::LimitedValue | Wanted::Limits => None,
         Wanted::Identifier | Wanted::ObjectType | Wanted::AnyInstance => None,
-        _ if has_limits(table) => None,
-        _ => match found(forms(), table) {
-            Ok((_, value)) => Some(value),
-            Err(_) => None,
-        },
+        _ => value_at_fault(alloc, table, problem),
     }
 }
 
 /// The value that a problem is about: one in a table, or the value itself.
-fn at_fault<'a>(value: &'a Value, problem: Problem) -> &'a Value {
-    match value {
-        Value::Table(table) => inner(table, problem).unwrap_or(value),
-        _ => value,
+fn at_fault<'a>(alloc: Global, value: &'a Value, problem: Problem) -> Faulty<'a> {
+    let inner = match value {
+        Value::Table(table) => inner(alloc, table, problem),
+        _ => None,
+    };
+    inner.unwrap_or(Faulty { key: None, value })
+}
+
+impl Faulty<'_> {
+    /// The value as TOML writes it, behind its key where that is told, or the beginning of a long one.
+    fn shown(self, alloc: Global) -> Result<String, NoMemory> {
+        let Faulty { key, value } = self;
+        match key {
+            Some(key) => cut(alloc, format!(in alloc; "{key} = {value}")?),
+            None => shown(alloc, value),
+        }
     }
 }
 
@@ -90,7 +157,7 @@ pub(crate) fn found_words(
         Given::Nothing => "nothing",
         Given::Again => "the same again",
         _ => match value {
-            Some(value) => return shown(alloc, at_fault(value, problem)),
+            Some(value) => return at_fault(alloc, value, problem).shown(alloc),
             None => "another one",
         },
     };
@@ -123,18 +190,62 @@ fn wrong_limits(alloc: Global, table: &Table) -> Result<Option<Wrong>, NoMemory>
     Ok(Some(Wrong::Limits { limits, found }))
 }
 
-/// Why values, or an object, are refused: with the limits, where these are the reason.
+/// What is wanted of the values of a property, where an object of this type cannot have any: of its description, and of its present-value.
+fn wanted_values(kind: u16, number: u32) -> Wanted {
+    match (number, kind) {
+        (DESCRIPTION, _) => Wanted::Kind(Kind::Text),
+        (_, 0..=2) => Wanted::Kind(Kind::Real),
+        (_, 3..=5) => Wanted::State,
+        _ => Wanted::MultiState,
+    }
+}
+
+/// What is wrong with the values in the table of a property that no object of this type can have; None where there are none.
+fn wrong_values(
+    alloc: Global,
+    kind: u16,
+    number: u32,
+    table: &Table,
+) -> Result<Option<Wrong>, NoMemory> {
+    let Ok((form, value)) = found(forms(), table) else {
+        return Ok(None);
+    };
+    let is_long = match values_in(alloc, form, value) {
+        Ok(values) => values.octets.len() > VALUE_LIMIT,
+        Err(ValueFault::Wrong(_)) => return Ok(None),
+        Err(ValueFault::NoMemory) => return Err(NoMemory),
+    };
+    let wanted = if is_long {
+        Wanted::ShortValue
+    } else {
+        wanted_values(kind, number)
+    };
+    let key = Some(form.word());
+    let found = Faulty { key, value }.shown(alloc)?;
+    Ok(Some(Wrong::Value {
+        wanted,
+        found,
+        near: None,
+    }))
+}
+
+/// Why values, or an object of this type, are refused: with what is wanted and given, where the values or their limits are the reason.
 pub(crate) fn refused(
     alloc: Global,
-    flaw: DescriptionFlaw,
+    kind: Option<u16>,
+    fault: DescriptionFault,
     value: Option<&Value>,
 ) -> Result<Wrong, NoMemory> {
-    let wrong = match (flaw, value) {
-        (DescriptionFlaw::Limits, Some(Value::Table(table))) => wrong_limits(alloc, table)?,
+    let DescriptionFault { property, why, .. } = fault;
+    let wrong = match (why, kind, property, value) {
+        (DescriptionFlaw::Limits, _, _, Some(Value::Table(table))) => wrong_limits(alloc, table)?,
+        (DescriptionFlaw::Values, Some(kind), Some(number), Some(Value::Table(table))) => {
+            wrong_values(alloc, kind, number, table)?
+        }
         _ => None,
     };
     match wrong {
         Some(wrong) => Ok(wrong),
-        None => Ok(Wrong::Refused(flaw)),
+        None => Ok(Wrong::Refused(why)),
     }
 }

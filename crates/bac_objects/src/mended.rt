@@ -57,9 +57,10 @@ fn finding_of(alloc: Global, text: &str, start: usize, error: Error) -> Result<F
     })
 }
 
-/// What stands for lines that cannot be read, or, as they say, again: what their beginning means. None where nothing behind them can be told.
+/// What stands for lines that cannot be read, or, as they say, again: what their beginning means. `[object]` is one bracket short. None where nothing behind them
+/// can be told.
 fn meant_by(lines: &str, is_again: bool) -> Option<&'static str> {
-    if lines.starts_with("[[") {
+    if lines.starts_with("[[") || lines.starts_with("[object]") {
         Some("[[object]]")
     } else if lines.starts_with("[") {
         None

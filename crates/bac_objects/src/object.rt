@@ -46,7 +46,7 @@ pub(crate) fn at<'a>(
 }
 
 /// An object type that a store supports.
-fn served(kind: u64) -> Result<u16, Problem>
+pub(crate) fn served(kind: u64) -> Result<u16, Problem>
     ensures is { result ≡ served_type kind }
     ensures within { IfOk result (λ k. k < 1024) }
     ensures right { IfOk result (λ k. IsTrue (is_right_type k)) }

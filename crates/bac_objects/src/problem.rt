@@ -71,8 +71,10 @@ pub enum Wanted {
     Identifier,
     /// A value of this kind, for the property of this type of object.
     Kind(Kind),
-    /// Enumerated 0 or 1, for the present-value of a binary-value.
+    /// Enumerated 0 or 1, for the present-value of a binary object.
     State,
+    /// An Unsigned from 1 on, for the present-value of a multi-state object.
+    MultiState,
     /// Values whose encoding has at most 4,096 octets.
     ShortValue,
     /// The octets of a file.
@@ -130,7 +132,7 @@ impl Wanted {
             Wanted::AnyProperty => "property or 0 to 4194303",
             Wanted::OwnProperty => "each property once",
             Wanted::Value => "table with a value",
-            Wanted::OneValue => "one value by its kind, and writable",
+            Wanted::OneValue => "one value by its kind",
             Wanted::LimitedValue => "one value by its kind, writable, min and max or one-of",
             Wanted::Limits => "min and max, or one-of",
             Wanted::List => "list of values",
@@ -150,6 +152,7 @@ impl Wanted {
             Wanted::Identifier => "table with type and instance",
             Wanted::Kind(kind) => kind.word(),
             Wanted::State => "enumerated 0 or 1",
+            Wanted::MultiState => "unsigned from 1 on",
             Wanted::ShortValue => "at most 4096 octets",
             Wanted::File => "octets of the file",
             Wanted::ShortFile => "at most 60000 octets",

@@ -25,7 +25,7 @@ use std::alloc::Global;
 use toml::Value;
 
 /// The property description.
-const DESCRIPTION: u32 = 28;
+pub(crate) const DESCRIPTION: u32 = 28;
 
 /// The property present-value.
 const PRESENT_VALUE: u32 = 85;

@@ -1,19 +1,11 @@
 //! The names of object types, and which of them is most like one that is none.
 use crate::held::member;
 use crate::known_keys::nearest;
+use crate::object::served;
 use crate::problem::{Problem, Wanted};
 use bac_value_text::object_type_name;
 use std::alloc::{AllocError, Global};
 use toml::Value;
-
-/// The types, by name, of objects that a document does not describe.
-const SERVED_TYPES: &[&str] = &[
-    "analog-input",
-    "analog-value",
-    "binary-value",
-    "device",
-    "file",
-];
 
 /// The first type of a vendor's own: no greater number has a name.
 const FIRST_VENDOR_TYPE: u32 = 128;
@@ -30,15 +22,24 @@ fn type_text(value: Option<&Value>) -> Option<&str> {
     }
 }
 
-/// The name of any object type that is most like a text, where one is like it.
-fn nearest_of_all(alloc: Global, text: &str) -> Result<Option<&'static str>, AllocError> {
+/// Whether an object of that type may stand where one was wanted.
+fn is_wanted(wanted: Wanted, number: u32) -> bool {
+    match wanted {
+        Wanted::ServedType => served(u64::from(number)).is_ok(),
+        _ => true,
+    }
+}
+
+/// The names of the object types that were wanted.
+fn wanted_names(alloc: Global, wanted: Wanted) -> Result<Vec<&'static str>, AllocError> {
     let mut names = Vec::new(alloc);
     for number in 0..FIRST_VENDOR_TYPE {
-        if let Some(name) = object_type_name(number) {
-            names.push(name)?;
+        match object_type_name(number) {
+            Some(name) if is_wanted(wanted, number) => names.push(name)?,
+            _ => {}
         }
     }
-    nearest(alloc, text, &names)
+    Ok(names)
 }
 
 /// The name of an object type that is most like the text in place of one, where one is like it: of a type that is allowed there.
@@ -50,12 +51,11 @@ pub(crate) fn nearest_type(
     let Some(text) = type_text(value) else {
         return Ok(None);
     };
-    let near = match problem.wanted {
-        Wanted::ServedType => nearest(alloc, text, SERVED_TYPES)?,
-        Wanted::ObjectType => nearest_of_all(alloc, text)?,
-        _ => None,
-    };
-    match near {
+    let wanted = problem.wanted;
+    if !matches!(wanted, Wanted::ServedType | Wanted::ObjectType) {
+        return Ok(None);
+    }
+    match nearest(alloc, text, &wanted_names(alloc, wanted)?)? {
         Some(name) if name == text => Ok(None),
         near => Ok(near),
     }

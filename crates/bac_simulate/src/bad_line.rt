@@ -156,9 +156,25 @@ fn bad_word_text(alloc: Global, words: &[&[u8]]) -> Result<Option<Vec<u8>>, Allo
     }
 }
 
-/// What is wrong with a line after the first: a word of it, or else its form.
-fn line_text(alloc: Global, line: &[u8]) -> Result<Vec<u8>, AllocError> {
+/// What is wrong with a line of which a word is empty, or has a tab in it.
+const BLANKS: &str = "one blank between words wanted, and none at the ends of the line";
+
+/// Whether blanks or tabs of a line are no separators of words.
+fn has_wrong_blanks(words: &[&[u8]]) -> bool {
+    words
+        .iter()
+        .any(|word| word.is_empty() || word.contains(&b'\t'))
+}
+
+/// What is wrong with a line: its blanks, or that it is not the first one that is wanted, or a word of it, or else its form.
+fn line_text(alloc: Global, is_first: bool, line: &[u8]) -> Result<Vec<u8>, AllocError> {
     let words = words_in(alloc, line)?;
+    if has_wrong_blanks(&words) {
+        return Vec::from_slice(alloc, BLANKS.as_bytes());
+    }
+    if is_first {
+        return Vec::from_slice(alloc, FIRST.as_bytes());
+    }
     if let Some(text) = bad_word_text(alloc, &words)? {
         return Ok(text);
     }
@@ -197,14 +213,10 @@ fn reason_of(
         }
         _ => {}
     }
-    if is_first(notes, text, number) {
-        return Ok(Some(Vec::from_slice(alloc, FIRST.as_bytes())?));
-    }
-    let Some(line) = line else {
-        return Ok(None);
-    };
-    match read_of(notes, line) {
-        Some(line) => Ok(Some(line_text(alloc, line)?)),
+    let is_first = is_first(notes, text, number);
+    match line.and_then(|line| read_of(notes, line)) {
+        Some(line) => Ok(Some(line_text(alloc, is_first, line)?)),
+        None if is_first => Ok(Some(Vec::from_slice(alloc, FIRST.as_bytes())?)),
         None => Ok(None),
     }
 }

@@ -34,7 +34,7 @@ const TIMEOUT: Word = Word {
     form: WordForm::Number("S", 60),
     need: Need::Never,
     against: &[],
-    help: "Stops waiting for an answer after S seconds, 1 to 60; an ask ends by itself after at most 60 seconds",
+    help: "Stops waiting for an answer after S whole seconds, 1 to 60; an ask ends by itself after at most 60 seconds",
 };
 
 /// What `backup` takes.

@@ -136,7 +136,7 @@ const CHECK: &[Word] = &[
         form: WordForm::Bare,
         need: Need::Always,
         against: &[],
-        help: "The capture: pcap, pcapng, or lines `moment from to hex`",
+        help: "The capture: pcap, pcapng, or lines `moment from to hex`; - is standard input",
     },
     Word {
         name: "port",
@@ -199,7 +199,7 @@ const EXPLAIN: &[Word] = &[
         form: WordForm::Bare,
         need: Need::Always,
         against: &[],
-        help: "The capture: pcap or pcapng",
+        help: "The capture: pcap or pcapng; - is standard input",
     },
     Word {
         name: "port",
@@ -234,7 +234,7 @@ const EXPLAIN: &[Word] = &[
         form: WordForm::Flag,
         need: Need::Never,
         against: &["chart", "mermaid"],
-        help: "Prints only transactions whose request, or a segment of it, was sent more than once, answered or not",
+        help: "Prints only transactions whose request, or a segment of it, was sent more than once, answered or not; where the capture lacks segments of a request, one that came again may not be seen",
     },
     Word {
         name: "findings",
@@ -262,7 +262,7 @@ const EXPLAIN: &[Word] = &[
         form: WordForm::Flag,
         need: Need::Never,
         against: &["chart", "mermaid"],
-        help: "Ends with status 1 if a transaction that is printed is unanswered or has a finding, or a frame cannot be read",
+        help: "Ends with status 1 if a transaction that is printed is unanswered or has a finding, an answer to no request is printed, or a frame cannot be read",
     },
     Word {
         name: "json",
@@ -333,7 +333,7 @@ const SIMULATE: &[Word] = &[
         form: WordForm::Bare,
         need: Need::Always,
         against: &[],
-        help: "The script: the network, then one event a line",
+        help: "The script: the network, then one event a line; - is standard input",
     },
     Word {
         name: "notes",
@@ -604,7 +604,7 @@ const ASK: &[Word] = &[
         form: WordForm::Number("S", 60),
         need: Need::Never,
         against: &[],
-        help: "Stops waiting after S seconds, 1 to 60, and prints `no ending`; an ask ends by itself after at most 60 seconds",
+        help: "Stops waiting after S whole seconds, 1 to 60, and prints `no ending`; an ask ends by itself after at most 60 seconds",
     },
     Word {
         name: "text",

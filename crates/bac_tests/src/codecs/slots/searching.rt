@@ -116,8 +116,8 @@ const FINDING: &[(&str, Call, u64)] = &[
     ("remove", Call::Remove, 13),
 ];
 
-// A call that finds its key compares few more keys than a search does, also one that takes the slot out: the copies of keys in the index say where to look, and
-// the key that is found there is compared itself. set and remove try the oldest slot of a block first, get and get_mut the key that was looked up last.
+// A call that finds its key compares few more keys than a search does, also one that takes the slot out: copies of the first keys of blocks say where to look,
+// and the key that is found there is compared again. set and remove try the oldest slot of a block first, get and get_mut the key that was looked up last.
 #[test]
 fn each_call_of_an_index_compares_few(rt: HostRuntime) -> Result<(), Fail> {
     for (name, call, most) in FINDING {
