@@ -2,8 +2,8 @@
 
     python3 tests/outside/lists.py PROGRAM [LINES [WINDOW]]
 
-Every fourth line is a write, the others are reads. It prints how many lines were answered, refused, aborted and otherwise ended, how long that took, and from how
-many ports a server of its own was asked; the status is 1 where a line is missing, out of order, or was refused, or where the server performed another number of
+Every fourth line is a write, the others are reads. It prints how many lines were answered, refused, aborted and otherwise ended, how many requests a server of its
+own performed, and how long that took; the status is 1 where a line is missing, out of order, or was refused, or where the server performed another number of
 requests than lines were answered. A server has room for 65,536 requests of the last 65 seconds, and aborts more: those are counted, and are no fault."""
 
 import collections
@@ -39,7 +39,8 @@ def asked(program, port, path, window):
 
 def main(program, lines=1000, window=16):
     port = free_port()
-    server = subprocess.Popen([program, 'serve', '--port', str(port), '--seconds', str(SECONDS)], stdout=subprocess.DEVNULL, stderr=subprocess.DEVNULL)
+    words = [program, 'serve', '--port', str(port), '--seconds', str(SECONDS), '--until-eof']
+    server = subprocess.Popen(words, stdin=subprocess.PIPE, stdout=subprocess.PIPE, stderr=subprocess.DEVNULL, text=True)
     try:
         while not has_port(server.pid, port):
             time.sleep(0.02)
@@ -47,6 +48,7 @@ def main(program, lines=1000, window=16):
             file.write(list_of(lines))
             file.flush()
             done, seconds = asked(program, port, file.name, window)
+        served = server.communicate(timeout=SECONDS)[0].split()
     finally:
         server.kill()
         server.wait()
@@ -54,9 +56,10 @@ def main(program, lines=1000, window=16):
     counts = collections.Counter(kind_of(ended) for _, ended in ends)
     in_order = [int(number) for number, _ in ends] == list(range(1, lines + 1))
     told = ' '.join(f'{kind}={count}' for kind, count in sorted(counts.items()))
-    print(f'lines={lines} window={window or 1} {told} status={done.returncode} seconds={seconds:.1f}')
+    performed = int(served[1])
+    print(f'lines={lines} window={window or 1} {told} performed={performed} status={done.returncode} seconds={seconds:.1f}')
     refused = sum(count for kind, count in counts.items() if kind.startswith('refused'))
-    wrong = not in_order or refused or done.stderr or done.returncode != (0 if counts['answered'] == lines else 1)
+    wrong = not in_order or refused or performed != counts['answered'] or done.stderr or done.returncode != (0 if counts['answered'] == lines else 1)
     if wrong:
         print(f'WRONG: in order {in_order}, refused {refused}, {done.stderr!r}')
     return 1 if wrong else 0

@@ -1,9 +1,10 @@
 """Many new reads of one `bac serve`, from processes that ask at a steady rate.
 
-    python3 tests/outside/room.py PROGRAM SECONDS [RATE [PROCESSES]]
+    python3 tests/outside/room.py PROGRAM SECONDS [RATE [PROCESSES [WORDS..]]]
 
 A process asks from one socket after the other, each with invoke IDs from 0 on that it does not use again, so that every read is new to the server. It prints how
-many reads were answered, aborted, and not answered in time; the status is 1 where one was aborted or not answered."""
+many reads were answered, aborted, and not answered in time; the status is 1 where one was aborted or not answered. WORDS are further ones of `serve`: with --strict
+each read takes a slot for 65 seconds."""
 
 import multiprocessing
 import socket
@@ -46,10 +47,10 @@ def asked(port, reads, rate, results):
     results.put(counts)
 
 
-def main(program, seconds, rate=1000, processes=16):
+def main(program, seconds, rate=1000, processes=16, *more):
     """Starts the server and the processes that ask it."""
     port = free_port()
-    words = [program, 'serve', '--port', str(port), '--seconds', str(seconds + 30)]
+    words = [program, 'serve', '--port', str(port), '--seconds', str(seconds + 30), *more]
     server = subprocess.Popen(words, stdout=subprocess.DEVNULL, stderr=subprocess.DEVNULL)
     try:
         while not has_port(server.pid, port):
@@ -69,4 +70,4 @@ def main(program, seconds, rate=1000, processes=16):
 
 
 if __name__ == '__main__':
-    sys.exit(main(sys.argv[1], *map(int, sys.argv[2:])))
+    sys.exit(main(sys.argv[1], *map(int, sys.argv[2:5]), *sys.argv[5:]))
