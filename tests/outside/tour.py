@@ -6,7 +6,7 @@ output and standard error are compared with the lines below it. If there are non
 backquotes after `prints` or `says`. A fenced block of Mermaid is output too; other fenced blocks are not read. `rt run --` and `rt try --` are run as `out/bac`.
 A `serve` keeps running, at a free port in place of the document's, while the commands after it run. Where the document says what it `ends with`, it must end so;
 otherwise it is killed at the end. The lines below it must be among those that it printed, in their order, apart from moments, ports of clients and invoke IDs.
-Other commands are listed and not run. The texts of SAID must stand in one of the documents, and be printed.
+Other commands are listed and not run. The texts of SAID must stand in one of the documents, and be printed, and docs/bac.1 is what `help --man` prints.
 """
 
 import re
@@ -33,7 +33,7 @@ ENDED = re.compile(r'ends with `(served \d+)`')
 ASKS = 'for ask in $(seq 65); do out/bac ask --port 47808 read 0:5 85; done | tail -n 1'
 SAID = [  # a text of a sentence, and a command of which it is a line
     ('bad words: property "presentvalue" is no name and no number, did you mean present-value', 'out/bac ask --port 47808 --text read analog-input:5 presentvalue'),
-    ('plant.toml: object 2 (analog-input 5): present-value: real wanted, text given',
+    ('plant.toml: line 12: object 2 (analog-input 5): present-value: real wanted, text = "flow" given',
      "sed 's/real = 72.3/text = \"flow\"/' ../../docs/house.toml > plant.toml; out/bac serve --port 47808 --objects plant.toml"),
     ('serving from 65001', 'out/bac serve --port 47808 --seconds 1 --restarted'),
     ('aborted 0', f'out/bac serve --port 47808 --turns 100000 & served=$!; sleep 0.5; {ASKS}; kill $served'),
@@ -207,6 +207,9 @@ def main(words):
         print(f'{name}: {tour.ran} commands run, {tour.held} outputs compared, not run: {"; ".join(tour.left_out) or "none"}')
     count, faults = check_said(program, ''.join(texts.values()))
     print(f'texts of sentences: {count} compared')
+    page = subprocess.run([Path(program).resolve(), 'help', '--man'], capture_output=True, text=True, check=False).stdout
+    if page != (TOP / 'docs' / 'bac.1').read_text():
+        faults.append('docs/bac.1 is not what `help --man` prints: make page')
     for fault in wrong + faults:
         print(f'WRONG: {fault}')
     return 1 if wrong + faults else 0
