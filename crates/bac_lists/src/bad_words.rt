@@ -1,7 +1,7 @@
 //! What is printed of words that are no request.
 ghost use Rattle.bac_text.specs.Statuses.{IsStop};
 
-use crate::address::{is_of_node, read_end};
+use crate::address::{read_end, read_link};
 use crate::near_names::name_like;
 use crate::source::{LinePlace, Source};
 use crate::value_forms::wanted_form;
@@ -222,9 +222,10 @@ fn wanted_of_peer(word: &[u8]) -> &'static str {
     };
     let text = text.strip_prefix('@').unwrap_or(text);
     let end = text.split('/').next().unwrap_or(text);
-    match read_end(end) {
-        Some((host, _)) if !is_of_node(host) => "address of a node",
-        _ => PEER_FORM,
+    if read_end(end).is_some() && read_link(end).is_none() {
+        "address of a node"
+    } else {
+        PEER_FORM
     }
 }
 
