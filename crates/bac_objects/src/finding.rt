@@ -2,6 +2,7 @@
 use crate::fault::Place;
 use crate::problem::Wanted;
 use bac_store::DescriptionFlaw;
+use std::alloc::Global;
 use std::fmt;
 use toml::de::Error;
 
@@ -33,6 +34,8 @@ pub enum Wrong {
         error: Error,
         there: String,
     },
+    /// More than is told: the first of it stands there.
+    More,
 }
 
 /// A fault of a document, and where it is.
@@ -42,6 +45,21 @@ pub struct Finding {
     pub line: Option<usize>,
     pub place: Place,
     pub wrong: Wrong,
+}
+
+impl Finding {
+    /// That more is wrong from a line on than is told.
+    pub(crate) fn more(alloc: Global, line: Option<usize>) -> Finding {
+        Finding {
+            line,
+            place: Place {
+                object: 0,
+                id: None,
+                key: String::new(alloc),
+            },
+            wrong: Wrong::More,
+        }
+    }
 }
 
 impl fmt::Display for Wrong {
@@ -75,6 +93,7 @@ impl fmt::Display for Wrong {
                 let message = error.message();
                 write!(f, "{message}: {there}")
             }
+            Wrong::More => f.write_str("bad too, and perhaps more"),
         }
     }
 }
