@@ -371,7 +371,10 @@ impl Collecting<'_> {
             Some(id) => Some(id.kind),
             None => None,
         };
-        let wrong = refused(self.alloc, kind, fault, value)?;
+        let wrong = match same_name(list, fault) {
+            Some(wrong) => wrong,
+            None => refused(self.alloc, kind, fault, value)?,
+        };
         Ok(self.findings.push(Finding { line, place, wrong })?)
     }
 
@@ -458,6 +461,29 @@ fn table_at(list: &Array, place: usize) -> Option<&Table> {
         Some(Value::Table(table)) => Some(table),
         _ => None,
     }
+}
+
+/// The name of the object at a place of a list, where it has one.
+fn name_at(list: &Array, place: usize) -> Option<&str> {
+    member(table_at(list, place)?, "name")?.as_str()
+}
+
+/// Which earlier object has the name of the one that is refused for it. None where it is refused for another reason.
+fn same_name(list: &Array, fault: DescriptionFault) -> Option<Wrong> {
+    if fault.why != DescriptionFlaw::SameName {
+        return None;
+    }
+    let place = fault.object?;
+    let name = name_at(list, place)?;
+    for earlier in 0..place {
+        if name_at(list, earlier).is_some_and(|other| other == name) {
+            return Some(Wrong::SameName {
+                object: earlier.saturating_add(1),
+                id: table_at(list, earlier).and_then(right_id),
+            });
+        }
+    }
+    None
 }
 
 /// The key of a property, as an object writes it; that of its head where it has none.
