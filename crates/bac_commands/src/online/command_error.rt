@@ -6,6 +6,7 @@ ghost use Rattle.bac_commands.specs.CommandErrors.{IsPrintedBy, trouble_of, trou
 ghost use Rattle.bac_commands.specs.declared.online.command_error.CommandError.TheVariants as command_error;
 
 use bac_driver::{RoundFault, TurnFault};
+use bac_keep::KeepFault;
 use bac_text::{Status, complain, no_memory, output_failed};
 use bac_value::NoMemory;
 use std::io;
@@ -18,8 +19,8 @@ pub enum CommandError {
     Link,
     /// The clock can't be read, or goes back.
     Clock,
-    /// What was written could not be kept.
-    Keep,
+    /// What was written could not be kept, for that reason.
+    Keep(KeepFault),
     /// Memory was refused.
     Memory,
     /// What is printed could not be written.
@@ -48,6 +49,14 @@ pub fn keep_fault<E: Write>(err: &mut E) -> Status
 }
 
 impl CommandError {
+    /// Why what was written could not be kept, where that is so.
+    pub fn keep_fault(&self) -> Option<KeepFault> {
+        match self {
+            CommandError::Keep(why) => Some(*why),
+            _ => None,
+        }
+    }
+
     /// Complains of it.
     pub fn report<E: Write>(self, err: &mut E) -> Status
         ensures told { IsPrintedBy self result }
@@ -56,7 +65,7 @@ impl CommandError {
         match self {
             CommandError::Link => link_fault(err),
             CommandError::Clock => clock_fault(err),
-            CommandError::Keep => keep_fault(err),
+            CommandError::Keep(_) => keep_fault(err),
             CommandError::Memory => no_memory(err),
             CommandError::Output(error) => output_failed(err, &error),
         }
@@ -81,7 +90,7 @@ impl From<RoundFault> for CommandError {
         match fault {
             RoundFault::Link => CommandError::Link,
             RoundFault::ClockBack => CommandError::Clock,
-            RoundFault::Keep(_) => CommandError::Keep,
+            RoundFault::Keep(why) => CommandError::Keep(why),
         }
     }
 }
