@@ -7,6 +7,7 @@ ghost use Rattle.bac_commands.specs.declared.online.command_error.CommandError.T
 
 use bac_driver::{RoundFault, TurnFault};
 use bac_keep::KeepFault;
+use bac_npdu::LinkAddress;
 use bac_text::{Status, complain, no_memory, output_failed};
 use bac_value::NoMemory;
 use std::io;
@@ -70,6 +71,29 @@ impl CommandError {
             CommandError::Output(error) => output_failed(err, &error),
         }
     }
+
+    /// The same; of a link that can't receive, with its address.
+    pub fn report_at<E: Write>(self, own: LinkAddress, err: &mut E) -> Status
+        ensures told { IsPrintedBy self result }
+        ensures failed { IsFailure result }
+    {
+        match self {
+            CommandError::Link => {
+                let status = link_fault(err);
+                print_deaf(own, err);
+                status
+            }
+            other => other.report(err),
+        }
+    }
+}
+
+/// Tells which link can't receive.
+fn print_deaf<E: Write>(own: LinkAddress, err: &mut E) {
+    let [a, b, c, d, high, low] = own;
+    let port = u16::from_be_bytes([high, low]);
+    // if that fails too, only the status is left
+    let _ = writeln!(err, "{a}.{b}.{c}.{d}:{port}: cannot receive");
 }
 
 impl From<TurnFault> for CommandError {

@@ -84,7 +84,7 @@ pub fn serve_kept<L: Link, C: Clock, K: Keeper, V: Observer<E>, O: Write, E: Wri
         Ok(()) => Status::Done,
         Err(command_error) => {
             server.fault = command_error.keep_fault();
-            command_error.report(err)
+            command_error.report_at(server.bound_node.node().link(), err)
         }
     }
 }
