@@ -199,7 +199,7 @@ module _ (c : Context) (service : Service) (W : ℕ) (some : 1 ≤ W) (own : c.s
   request_segment_few : (e : ServerTransaction) (number window : ℕ) (y : Taking) → IsFew W (server.request_segment_taken c service e number window y)
   request_segment_few e number window (Taken true inc) = record { sends = omega arith; entry = tt }
   request_segment_few e number window (Taken false inc) = record { sends = omega arith; entry = tt }
-  request_segment_few e number window (Whole parts) = so_few e (server.server_ack c false number window ∷ []) (join parts)
+  request_segment_few e number window (Whole parts) = so_few (server.keeps_first parts e) (server.server_ack c false number window ∷ []) (join parts)
       (service e.choice (join parts)) (omega arith)
   request_segment_few e number window (Nak inc) = record { sends = omega arith; entry = tt }
   request_segment_few e number window TooLong = record { sends = omega arith; entry = tt }

@@ -39,6 +39,7 @@ use Rattle.bac_liveness.specs.AfterPast.{ClientIsDue, HearsRequest, TakesRequest
 use Rattle.bac_liveness.specs.InStep.{IsAtStart, IsSending, AreTogether, StandsSending, StandsWaiting, StandsCollecting, Stands, IsCutFor, IsOfAsk, AreInStep}
 use Rattle.bac_liveness.proofs.Deliveries.{Within, within_then, Starts, starts_then, starts_of}
 use Rattle.bac_liveness.proofs.Gets.{alive_now}
+use Rattle.bac_liveness.proofs.Remembered.{Remembered, of_entry, of_pieces, of_whole}
 use Rattle.bac_liveness.proofs.Downloads.{Waits, await_waits, sending_waits}
 use Rattle.bac_liveness.proofs.Retried.{window_most, window_some, together_again, round_of, none_live, fits_data, sending_ticks, awaiting_ticks}
 use Rattle.bac_liveness.proofs.Retried.{collecting_ticks}
@@ -138,7 +139,7 @@ module _ (S : Type 0) (model : StoreModel S) (opening : ℕ → S) (W : ℕ) (x 
   after_tick = happens S model x w (Tick (key ∷ []) [])
 
   -- What was performed before ends the ticket.
-  module _ (repeats begin : ℕ) (alive : nat_le (now.there - begin) KEEP ≡ true) (kept : Option Octets) where
+  module _ (repeats begin : ℕ) (alive : nat_le (now.there - begin) KEEP ≡ true) (kept : Remembered) where
     abbrev EndsIn : ℕ → TransactionPair S → Type 0
     EndsIn most from = down.EndsWith S model x now number key ask young repeats begin alive kept w.stores log most from p
 
@@ -156,27 +157,27 @@ module _ (S : Type 0) (model : StoreModel S) (opening : ℕ → S) (W : ℕ) (x 
   -- What is performed now ends it.
   module _ (repeats begin : ℕ) (alive : nat_le (now.there - begin) KEEP ≡ true)
       (outcome : model.outcome (w.stores key.server) ask.choice (join ask.pieces) ≡ Replies p) where
-    abbrev read : Option Octets → List Apdu → TransactionPair S
-    read kept pending = up.performed S model x now number key ask young repeats begin alive w.stores log p outcome can.way
+    abbrev read : Remembered → List Apdu → TransactionPair S
+    read kept pending = up.performed S model x now number key ask young repeats begin alive None w.stores log p outcome can.way
         (record { ask = ask; phase = AwaitConfirmation; repeats = repeats; since = now.here }) kept
-        (up.sent_first S model x now number key ask young repeats begin alive w.stores log p outcome can.way ∷ pending)
+        (up.sent_first S model x now number key ask young repeats begin alive None w.stores log p outcome can.way ∷ pending)
 
     abbrev stores' : ℕ → S
-    stores' = up.stores_after S model x now number key ask young repeats begin alive w.stores log p outcome can.way
+    stores' = up.stores_after S model x now number key ask young repeats begin alive None w.stores log p outcome can.way
 
     abbrev log' : List Fact
-    log' = up.log_after S model x now number key ask young repeats begin alive w.stores log p outcome can.way
+    log' = up.log_after S model x now number key ask young repeats begin alive None w.stores log p outcome can.way
 
     abbrev segments : ℕ → ℕ → List Apdu
     segments first extra = pieces_from (client.request_piece c ask.choice ask.pieces) first extra
 
-    read_ends : (first extra : ℕ) (kept : Option Octets) → (0 < extra → kept ≡ None) → extra ≤ x.overtake
+    read_ends : (first extra : ℕ) (kept : Remembered) → (0 < extra → kept.request ≡ None) → extra ≤ x.overtake
         → down.EndsWith S model x now number key ask young repeats begin alive kept stores' log' (3 * wc + extra) (read kept (segments first extra)) p
     read_ends first extra kept plain few =
         down.reply_read S model x now number key ask young repeats begin alive kept stores' log' AwaitConfirmation now.here await_waits refl p
         (way_to x key p) first extra refl can.way can.kind positive_back near_back room_back plain few
 
-    read_finishes : (most spent first extra : ℕ) (kept : Option Octets) (from : TransactionPair S) → spent + extra ≤ most → (0 < extra → kept ≡ None)
+    read_finishes : (most spent first extra : ℕ) (kept : Remembered) (from : TransactionPair S) → spent + extra ≤ most → (0 < extra → kept.request ≡ None)
         → extra ≤ x.overtake → Starts S model x now number key spent from (read kept (segments first extra)) → Fin (most + 3 * wc) from
     read_finishes most spent first extra kept from cheap plain few h =
         let z = read_ends first extra kept plain few in
@@ -191,9 +192,9 @@ module _ (S : Type 0) (model : StoreModel S) (opening : ℕ → S) (W : ℕ) (x 
         }
 
     upload_finishes : (most spent first extra : ℕ) (from : TransactionPair S) → is_idle from.ticket.phase ≡ false → spent + extra ≤ most → extra ≤ x.overtake
-        → Within S model x now number key spent from (read None (segments first extra)) → Fin (most + 3 * wc) from
+        → Within S model x now number key spent from (read (of_pieces ask) (segments first extra)) → Fin (most + 3 * wc) from
     upload_finishes most spent first extra from going cheap few h =
-        let z = read_ends first extra None (λ e. refl) few in
+        let z = read_ends first extra (of_pieces ask) (λ e. refl) few in
         record {
           end = z.end;
           idle = z.idle;
@@ -201,7 +202,7 @@ module _ (S : Type 0) (model : StoreModel S) (opening : ℕ → S) (W : ℕ) (x 
           log_is = z.log_is;
           performed = inl refl;
           reaches = starts_of S model x now number key (most + 3 * wc) from z.end going z.idle
-              (within_then S model x now number key spent (3 * wc + extra) (most + 3 * wc) from (read None (segments first extra)) z.end (omega arith) h
+              (within_then S model x now number key spent (3 * wc + extra) (most + 3 * wc) from (read (of_pieces ask) (segments first extra)) z.end (omega arith) h
               z.reaches);
         }
 
@@ -215,19 +216,20 @@ module _ (S : Type 0) (model : StoreModel S) (opening : ℕ → S) (W : ℕ) (x 
 
   -- The entry.
 
-  abbrev entry_with : (begin : ℕ) → Option Octets → State → ServerTransaction
-  entry_with begin kept state = record { begin = begin; choice = ask.choice; limits = c.settings.limits; request = kept; state = state }
+  abbrev entry_with : (begin : ℕ) → Remembered → State → ServerTransaction
+  entry_with begin kept state =
+      record { begin = begin; choice = ask.choice; limits = c.settings.limits; request = kept.request; first = kept.first; state = state }
 
-  same_entry : (e : ServerTransaction) → IsOfAsk x key ask e → (kept : Option Octets) → e.request ≡ kept → (st : State) → e.state ≡ st
+  same_entry : (e : ServerTransaction) → IsOfAsk x key ask e → (kept : Remembered) → e.request ≡ kept.request → e.first ≡ kept.first → (st : State) → e.state ≡ st
       → e ≡ entry_with e.begin kept st
-  same_entry e of kept request st state i =
-      record { begin = e.begin; choice = of.choice i; limits = of.limits i; request = request i; state = state i }
+  same_entry e of kept request one st state i =
+      record { begin = e.begin; choice = of.choice i; limits = of.limits i; request = request i; first = one i; state = state i }
 
-  entry_shows : (e : ServerTransaction) → live_entry now.there (w.net.entries key) ≡ Some e → IsOfAsk x key ask e → (kept : Option Octets) → e.request ≡ kept
-      → (st : State) → e.state ≡ st → live_entry now.there (w.net.entries key) ≡ live_entry now.there (Some (entry_with e.begin kept st))
-  entry_shows e entry of kept request st state =
+  entry_shows : (e : ServerTransaction) → live_entry now.there (w.net.entries key) ≡ Some e → IsOfAsk x key ask e → (kept : Remembered) → e.request ≡ kept.request
+      → e.first ≡ kept.first → (st : State) → e.state ≡ st → live_entry now.there (w.net.entries key) ≡ live_entry now.there (Some (entry_with e.begin kept st))
+  entry_shows e entry of kept request one st state =
       entry ∙ sym (live_self now.there e ((there now.there (w.net.entries key) e entry).live))
-      ∙ ap (λ (y : ServerTransaction). live_entry now.there (Some y)) (same_entry e of kept request st state)
+      ∙ ap (λ (y : ServerTransaction). live_entry now.there (Some y)) (same_entry e of kept request one st state)
 
   -- A reply in segments, in these pieces.
 
@@ -271,7 +273,7 @@ module _ (S : Type 0) (model : StoreModel S) (opening : ℕ → S) (W : ℕ) (x 
     abbrev reply_window : ℕ → List Apdu
     reply_window r = server.reply_window d ask.choice (with_retries r)
 
-    module _ (repeats begin : ℕ) (alive : nat_le (now.there - begin) KEEP ≡ true) (kept : Option Octets) (r : ℕ) where
+    module _ (repeats begin : ℕ) (alive : nat_le (now.there - begin) KEEP ≡ true) (kept : Remembered) (r : ℕ) where
       -- the client has taken nothing of it
       from_start : (phase : Phase) (since : ℕ) → Waits phase → is_idle phase ≡ false → IsAtStart reply_out
           → EndsIn repeats begin alive kept (3 * wc) (record {
@@ -397,7 +399,7 @@ module _ (S : Type 0) (model : StoreModel S) (opening : ℕ → S) (W : ℕ) (x 
           shows = sending_shows q refl (λ i. pieces_from (client.request_piece c ask.choice ask.pieces) (zero_is i) (one i)) refl refl refl;
           most = 3 * n + 3 * wc;
           cheap = omega arith;
-          fin = read_finishes t.repeats now.there (alive_now now.there) outcome (3 * n) z.spent z.first z.extra None q z.cheap (λ h. refl) z.few z.reaches;
+          fin = read_finishes t.repeats now.there (alive_now now.there) outcome (3 * n) z.spent z.first z.extra (of_pieces ask) q z.cheap (λ h. refl) z.few z.reaches;
         }
 
     -- its server keeps an entry for it
@@ -416,16 +418,16 @@ module _ (S : Type 0) (model : StoreModel S) (opening : ℕ → S) (W : ℕ) (x 
       sending_received inc since state timely together outcome =
           let sizes = request_sizes whole in
           let in_time : nat_le T_WAIT_FOR_SEG (now.there - since) ≡ false = grind (arith, nat_tests) in
-          let carries = up.carries S model x now number key ask young t.repeats e.begin found.live w.stores log in
-          let q = up.requesting S model x now number key ask young t.repeats e.begin found.live w.stores log sender inc since window in
-          let z = up.upload S model x now number key ask young t.repeats e.begin found.live w.stores log p outcome can.way sizes near sender inc since
+          let carries = up.carries S model x now number key ask young t.repeats e.begin found.live e.first w.stores log in
+          let q = up.requesting S model x now number key ask young t.repeats e.begin found.live e.first w.stores log sender inc since window in
+          let z = up.upload S model x now number key ask young t.repeats e.begin found.live e.first w.stores log p outcome can.way sizes near sender inc since
           (length inc.parts) (3 * n)
           (round_of S model x now number key actual c.settings.window ask.pieces sizes near carries sender inc
           (together_again actual (out.retries - 1) ask.pieces out inc together)) in_time (omega arith) in
           let count = count_is whole in
           record {
             q = q;
-            shows = sending_shows q refl refl refl refl (entry_shows e entry of None no_request (State.SegmentedRequest inc since) state);
+            shows = sending_shows q refl refl refl refl (entry_shows e entry of (of_entry e None) no_request refl (State.SegmentedRequest inc since) state);
             most = 3 * n + 3 * wc;
             cheap = omega arith;
             fin = upload_finishes t.repeats e.begin found.live outcome (3 * n) z.spent z.first z.extra q refl z.cheap z.few z.reaches;
@@ -439,19 +441,19 @@ module _ (S : Type 0) (model : StoreModel S) (opening : ℕ → S) (W : ℕ) (x 
           let all_in = in_all in
           let phase_is = all_is all in
           let big = room in
-          let q = again_.with_state S model x now number key ask young t.repeats e.begin found.live None w.stores log
+          let q = again_.with_state S model x now number key ask young t.repeats e.begin found.live (of_entry e None) w.stores log
           (record { ask = ask; phase = SegmentedRequest out' true; repeats = t.repeats; since = now.here }) (Done (server.reply_apdu d ask.choice p)) window in
-          let z = again_.segments_answered S model x now number key ask young t.repeats e.begin found.live None w.stores log p w' out.first now.here out' refl
+          let z = again_.segments_answered S model x now number key ask young t.repeats e.begin found.live (of_entry e None) w.stores log p w' out.first now.here out' refl
           in_some (omega arith) can.kind in
           let count = count_is whole in
           record {
             q = q;
             shows = sending_shows q
                 (ap (λ b. record { ask = ask; phase = SegmentedRequest out' b; repeats = t.repeats; since = now.here }) phase_is) refl refl refl
-                (entry_shows e entry of None no_request (Done (server.reply_apdu d ask.choice p)) (state ∙ ap Done same));
+                (entry_shows e entry of (of_entry e None) no_request refl (Done (server.reply_apdu d ask.choice p)) (state ∙ ap Done same));
             most = w' + 1;
             cheap = omega arith;
-            fin = ends_finish t.repeats e.begin found.live None (w' + 1) q refl
+            fin = ends_finish t.repeats e.begin found.live (of_entry e None) (w' + 1) q refl
                 (done_performed S model opening W x bound w kept_in key t at e found.at found.live kept state p same) z;
           }
 
@@ -470,12 +472,12 @@ module _ (S : Type 0) (model : StoreModel S) (opening : ℕ → S) (W : ℕ) (x 
               let st : State = SegmentedResponse reply_out Stopped since in
               let t' : ClientTransaction = record { ask = ask; phase = SegmentedRequest out' true; repeats = t.repeats; since = now.here } in
               let sent = pieces_from (client.request_piece c ask.choice ask.pieces) out.first (suc k) in
-              let q = again_.with_state S model x now number key ask young t.repeats e.begin found.live None w.stores log t' st sent in
-              let mid = again_.with_state S model x now number key ask young t.repeats e.begin found.live None w.stores log t'
+              let q = again_.with_state S model x now number key ask young t.repeats e.begin found.live (of_entry e None) w.stores log t' st sent in
+              let mid = again_.with_state S model x now number key ask young t.repeats e.begin found.live (of_entry e None) w.stores log t'
               (SegmentedResponse (resume reply_out) Running now.there) (server.reply_window d ask.choice (resume reply_out)) in
-              let y = again_.segments_resume S model x now number key ask young t.repeats e.begin found.live None w.stores log t' reply_out since k out.first
+              let y = again_.segments_resume S model x now number key ask young t.repeats e.begin found.live (of_entry e None) w.stores log t' reply_out since k out.first
               refl refl (omega arith) in
-              let z = from_start reply_out same cut t.repeats e.begin found.live None N_RETRY (SegmentedRequest out' true) now.here (sending_waits out') refl
+              let z = from_start reply_out same cut t.repeats e.begin found.live (of_entry e None) N_RETRY (SegmentedRequest out' true) now.here (sending_waits out') refl
               start in
               let count = count_is whole in
               record {
@@ -483,12 +485,12 @@ module _ (S : Type 0) (model : StoreModel S) (opening : ℕ → S) (W : ℕ) (x 
                 shows = sending_shows q
                     (ap (λ b. record { ask = ask; phase = SegmentedRequest out' b; repeats = t.repeats; since = now.here }) phase_is)
                     (ap (λ (j : ℕ). pieces_from (client.request_piece c ask.choice ask.pieces) out.first j) is') refl refl
-                    (entry_shows e entry of None no_request st state);
+                    (entry_shows e entry of (of_entry e None) no_request refl st state);
                 most = suc k + 3 * wc;
                 cheap = omega arith;
-                fin = ends_finish t.repeats e.begin found.live None (suc k + 3 * wc) q refl
+                fin = ends_finish t.repeats e.begin found.live (of_entry e None) (suc k + 3 * wc) q refl
                     (reply_performed S model opening W x bound w kept_in key t at e found.at found.live reply_out Stopped since state p same)
-                    (down.ends_then S model x now number key ask young t.repeats e.begin found.live None w.stores log (suc k) (3 * wc) (suc k + 3 * wc) q mid p
+                    (down.ends_then S model x now number key ask young t.repeats e.begin found.live (of_entry e None) w.stores log (suc k) (3 * wc) (suc k + 3 * wc) q mid p
                     (omega arith) y z);
               }
 
@@ -524,7 +526,7 @@ module _ (S : Type 0) (model : StoreModel S) (opening : ℕ → S) (W : ℕ) (x 
           shows = whole_shows AwaitConfirmation (awaiting_ticks c t young is due left true whole) is q refl refl refl refl refl;
           most = 1 + 3 * wc;
           cheap = omega arith;
-          fin = read_finishes (t.repeats - 1) now.there (alive_now now.there) outcome 1 1 0 0 (Some (join ask.pieces)) q (omega arith)
+          fin = read_finishes (t.repeats - 1) now.there (alive_now now.there) outcome 1 1 0 0 (of_whole ask) q (omega arith)
               (λ h. absurd (omega arith))
               (omega arith) z;
         }
@@ -559,7 +561,7 @@ module _ (S : Type 0) (model : StoreModel S) (opening : ℕ → S) (W : ℕ) (x 
 
           go : (b : Bool) → ask.whole ≡ b → Ready after_tick
           go true whole =
-              let request = Some (join ask.pieces) in
+              let request : Remembered = of_entry e (Some (join ask.pieces)) in
               let q = again_.with_state S model x now number key ask young (t.repeats - 1) e.begin there_is.live request w.stores log
               (waiting AwaitConfirmation) st (client.request_apdu c ask ∷ []) in
               let z = again_.request_answered S model x now number key ask young (t.repeats - 1) e.begin there_is.live request w.stores log p
@@ -568,26 +570,26 @@ module _ (S : Type 0) (model : StoreModel S) (opening : ℕ → S) (W : ℕ) (x 
               record {
                 q = q;
                 shows = whole_shows AwaitConfirmation (awaiting_ticks c t young is due left true whole) is q refl refl refl refl
-                    (entry_shows e entry of request (request_kept e of true whole) st (state ∙ ap Done same));
+                    (entry_shows e entry of request (request_kept e of true whole) refl st (state ∙ ap Done same));
                 most = 2;
                 cheap = omega arith;
                 fin = ends_finish (t.repeats - 1) e.begin there_is.live request 2 q refl done z;
               }
           go false whole =
-              let q = again_.with_state S model x now number key ask young (t.repeats - 1) e.begin there_is.live None w.stores log
+              let q = again_.with_state S model x now number key ask young (t.repeats - 1) e.begin there_is.live (of_entry e None) w.stores log
               (waiting (SegmentedRequest anew true)) st (pieces_from (client.request_piece c ask.choice ask.pieces) 0 1) in
               let big = room in
               let big' = positive in
               let z = again_.segments_answered S model x now number key ask young
-              (t.repeats - 1) e.begin there_is.live None w.stores log p 1 0 now.here anew refl (omega arith) (omega arith) can.kind in
+              (t.repeats - 1) e.begin there_is.live (of_entry e None) w.stores log p 1 0 now.here anew refl (omega arith) (omega arith) can.kind in
               let count = count_is whole in
               record {
                 q = q;
                 shows = pieces_shows whole q refl refl refl refl
-                    (entry_shows e entry of None (request_kept e of false whole) st (state ∙ ap Done same));
+                    (entry_shows e entry of (of_entry e None) (request_kept e of false whole) refl st (state ∙ ap Done same));
                 most = 1 + 1;
                 cheap = omega arith;
-                fin = ends_finish (t.repeats - 1) e.begin there_is.live None (1 + 1) q refl done z;
+                fin = ends_finish (t.repeats - 1) e.begin there_is.live (of_entry e None) (1 + 1) q refl done z;
               }
 
       -- a reply in segments whose transfer has stopped
@@ -606,7 +608,7 @@ module _ (S : Type 0) (model : StoreModel S) (opening : ℕ → S) (W : ℕ) (x 
 
           go : (b : Bool) → ask.whole ≡ b → Ready after_tick
           go true whole =
-              let request = Some (join ask.pieces) in
+              let request : Remembered = of_entry e (Some (join ask.pieces)) in
               let ticket = waiting AwaitConfirmation in
               let q = again_.with_state S model x now number key ask young (t.repeats - 1) e.begin there_is.live request w.stores log ticket st
               (client.request_apdu c ask ∷ []) in
@@ -619,7 +621,7 @@ module _ (S : Type 0) (model : StoreModel S) (opening : ℕ → S) (W : ℕ) (x 
               record {
                 q = q;
                 shows = whole_shows AwaitConfirmation (awaiting_ticks c t young is due left true whole) is q refl refl refl refl
-                    (entry_shows e entry of request (request_kept e of true whole) st state);
+                    (entry_shows e entry of request (request_kept e of true whole) refl st state);
                 most = 1 + 3 * wc;
                 cheap = omega arith;
                 fin = ends_finish (t.repeats - 1) e.begin there_is.live request (1 + 3 * wc) q refl done
@@ -630,22 +632,22 @@ module _ (S : Type 0) (model : StoreModel S) (opening : ℕ → S) (W : ℕ) (x 
               let big = room in
               let big' = positive in
               let ticket = waiting (SegmentedRequest anew true) in
-              let q = again_.with_state S model x now number key ask young (t.repeats - 1) e.begin there_is.live None w.stores log ticket st
+              let q = again_.with_state S model x now number key ask young (t.repeats - 1) e.begin there_is.live (of_entry e None) w.stores log ticket st
               (pieces_from (client.request_piece c ask.choice ask.pieces) 0 1) in
-              let mid = again_.with_state S model x now number key ask young (t.repeats - 1) e.begin there_is.live None w.stores log ticket
+              let mid = again_.with_state S model x now number key ask young (t.repeats - 1) e.begin there_is.live (of_entry e None) w.stores log ticket
               (SegmentedResponse (resume reply_out) Running now.there) (server.reply_window d ask.choice (resume reply_out)) in
-              let y = again_.segments_resume S model x now number key ask young (t.repeats - 1) e.begin there_is.live None w.stores log ticket reply_out since
+              let y = again_.segments_resume S model x now number key ask young (t.repeats - 1) e.begin there_is.live (of_entry e None) w.stores log ticket reply_out since
               0 0 refl refl (omega arith) in
-              let z = from_start reply_out same cut (t.repeats - 1) e.begin there_is.live None N_RETRY (SegmentedRequest anew true) now.here
+              let z = from_start reply_out same cut (t.repeats - 1) e.begin there_is.live (of_entry e None) N_RETRY (SegmentedRequest anew true) now.here
               (sending_waits anew) refl start in
               let count = count_is whole in
               record {
                 q = q;
-                shows = pieces_shows whole q refl refl refl refl (entry_shows e entry of None (request_kept e of false whole) st state);
+                shows = pieces_shows whole q refl refl refl refl (entry_shows e entry of (of_entry e None) (request_kept e of false whole) refl st state);
                 most = 1 + 3 * wc;
                 cheap = omega arith;
-                fin = ends_finish (t.repeats - 1) e.begin there_is.live None (1 + 3 * wc) q refl done
-                    (down.ends_then S model x now number key ask young (t.repeats - 1) e.begin there_is.live None w.stores log 1 (3 * wc) (1 + 3 * wc) q mid p
+                fin = ends_finish (t.repeats - 1) e.begin there_is.live (of_entry e None) (1 + 3 * wc) q refl done
+                    (down.ends_then S model x now number key ask young (t.repeats - 1) e.begin there_is.live (of_entry e None) w.stores log 1 (3 * wc) (1 + 3 * wc) q mid p
                     (omega arith) y z);
               }
 
@@ -657,7 +659,7 @@ module _ (S : Type 0) (model : StoreModel S) (opening : ℕ → S) (W : ℕ) (x 
       → (same : p ≡ Complex (join reply_out.pieces)) → IsCutFor x key (SegmentedResponse reply_out Stopped since) → Ready after_tick
   collecting_stopped inc is due left whole e entry of reply_out since state together same cut =
       let found = there now.there (w.net.entries key) e entry in
-      let request = Some (join ask.pieces) in
+      let request : Remembered = of_entry e (Some (join ask.pieces)) in
       let ticket = waiting (SegmentedConf inc) in
       let st : State = SegmentedResponse reply_out Stopped since in
       let q = again_.with_state S model x now number key ask young (t.repeats - 1) e.begin found.live request w.stores log ticket st
@@ -672,7 +674,7 @@ module _ (S : Type 0) (model : StoreModel S) (opening : ℕ → S) (W : ℕ) (x 
       record {
         q = q;
         shows = whole_shows (SegmentedConf inc) (collecting_ticks c t young inc is due left whole) is q refl refl refl refl
-            (entry_shows e entry of request (request_kept e of true whole) st state);
+            (entry_shows e entry of request (request_kept e of true whole) refl st state);
         most = 1 + 3 * wc;
         cheap = omega arith;
         fin = ends_finish (t.repeats - 1) e.begin found.live request (1 + 3 * wc) q refl done
@@ -697,7 +699,7 @@ module _ (S : Type 0) (model : StoreModel S) (opening : ℕ → S) (W : ℕ) (x 
     abbrev gives : Phase → TransactionPair S
     gives phase = record {
       ticket = record { ask = ask; phase = phase; repeats = t.repeats; since = t.since };
-      entry = Some (entry_with e.begin e.request next_state);
+      entry = Some (entry_with e.begin (of_entry e e.request) next_state);
       pending = server.reply_window d ask.choice (record reply_out { retries = reply_out.retries - 1 });
       stores = w.stores;
       log = log;
@@ -706,10 +708,10 @@ module _ (S : Type 0) (model : StoreModel S) (opening : ℕ → S) (W : ℕ) (x 
     ticket_is : (phase : Phase) → t.phase ≡ phase → (gives phase).ticket ≡ t
     ticket_is phase is i = record { ask = ask; phase = sym is i; repeats = t.repeats; since = t.since }
 
-    entry_is : entry_with e.begin e.request next_state ≡ record e { state = next_state }
-    entry_is i = record { begin = e.begin; choice = sym of.choice i; limits = sym of.limits i; request = e.request; state = next_state }
+    entry_is : entry_with e.begin (of_entry e e.request) next_state ≡ record e { state = next_state }
+    entry_is i = record { begin = e.begin; choice = sym of.choice i; limits = sym of.limits i; request = e.request; first = e.first; state = next_state }
 
-    server_ready : (phase : Phase) → t.phase ≡ phase → is_idle phase ≡ false → EndsIn t.repeats e.begin served_is.live e.request (3 * wc) (gives phase)
+    server_ready : (phase : Phase) → t.phase ≡ phase → is_idle phase ≡ false → EndsIn t.repeats e.begin served_is.live (of_entry e e.request) (3 * wc) (gives phase)
         → Ready (happens S model x w (Tick [] (key ∷ [])))
     server_ready phase is going z = record {
       q = gives phase;
@@ -718,7 +720,7 @@ module _ (S : Type 0) (model : StoreModel S) (opening : ℕ → S) (W : ℕ) (x 
           (ap (λ (ch : ℕ). server.reply_window d ch (record reply_out { retries = reply_out.retries - 1 })) (sym of.choice)) refl refl;
       most = 3 * wc;
       cheap = omega arith;
-      fin = ends_finish t.repeats e.begin served_is.live e.request (3 * wc) (gives phase) going
+      fin = ends_finish t.repeats e.begin served_is.live (of_entry e e.request) (3 * wc) (gives phase) going
           (reply_performed S model opening W x bound w kept_in key t at e served_is.at served_is.live reply_out Running since state p same) z;
     }
 
@@ -728,17 +730,17 @@ module _ (S : Type 0) (model : StoreModel S) (opening : ℕ → S) (W : ℕ) (x 
     server_turn AwaitConfirmation is going h =
         let start : StandsWaiting (SegmentedResponse reply_out Running since) = subst (λ (st : State). StandsWaiting st) state h in
         server_ready AwaitConfirmation is refl
-        (from_start reply_out same cut t.repeats e.begin served_is.live e.request r AwaitConfirmation t.since await_waits refl start)
+        (from_start reply_out same cut t.repeats e.begin served_is.live (of_entry e e.request) r AwaitConfirmation t.since await_waits refl start)
     server_turn (SegmentedConf inc) is going h =
         let together : StandsCollecting actual inc (SegmentedResponse reply_out Running since) =
         subst (λ (st : State). StandsCollecting actual inc st) state h in
-        server_ready (SegmentedConf inc) is refl (from_middle reply_out same cut t.repeats e.begin served_is.live e.request r inc t.since together)
+        server_ready (SegmentedConf inc) is refl (from_middle reply_out same cut t.repeats e.begin served_is.live (of_entry e e.request) r inc t.since together)
     server_turn (SegmentedRequest out all_sent) is going h =
         let start : StandsSending actual ask.pieces out all_sent (SegmentedResponse reply_out Running since) =
         subst (λ (st : State). StandsSending actual ask.pieces out all_sent st) state h.2 in
         let all : SegmentedRequest out all_sent ≡ SegmentedRequest out true = ap (λ b. SegmentedRequest out b) start.0 in
         server_ready (SegmentedRequest out true) (is ∙ all) refl
-        (from_start reply_out same cut t.repeats e.begin served_is.live e.request r (SegmentedRequest out true) t.since (sending_waits out) refl start.1)
+        (from_start reply_out same cut t.repeats e.begin served_is.live (of_entry e e.request) r (SegmentedRequest out true) t.since (sending_waits out) refl start.1)
 
   -- The client's turn.
 

@@ -27,6 +27,7 @@ use Rattle.bac_protocol.proofs.Requested.{server_new}
 use Rattle.bac_liveness.proofs.Deliveries.{Within, Starts, starts_then, first_step}
 use Rattle.bac_liveness.proofs.Acks.{acks_read, moving}
 use Rattle.bac_liveness.proofs.Gets.{lives, alive_now}
+use Rattle.bac_liveness.proofs.Remembered.{Remembered, of_pieces, of_whole}
 use Rattle.bac_liveness.proofs.Uploads as up
 
 module _ (S : Type 0) (model : StoreModel S) (x : Rules) (now : Nows) (number : ℕ) (key : Key) (ask : Ask) (young : client.is_expired now.here ask ≡ false)
@@ -57,11 +58,11 @@ module _ (S : Type 0) (model : StoreModel S) (x : Rules) (now : Nows) (number : 
   abbrev pub asking : Phase → Option ServerTransaction → List Apdu → TransactionPair S
   asking phase o pending = record { ticket = in_phase phase; entry = o; pending = pending; stores = stores; log = log }
 
-  abbrev performed : ClientTransaction → Option (List ℕ) → List Apdu → TransactionPair S
-  performed = up.performed S model x now number key ask young repeats now.there (alive_now now.there) stores log p outcome_is fits
+  abbrev performed : ClientTransaction → Remembered → List Apdu → TransactionPair S
+  performed = up.performed S model x now number key ask young repeats now.there (alive_now now.there) None stores log p outcome_is fits
 
   abbrev sent_first : Apdu
-  sent_first = up.sent_first S model x now number key ask young repeats now.there (alive_now now.there) stores log p outcome_is fits
+  sent_first = up.sent_first S model x now number key ask young repeats now.there (alive_now now.there) None stores log p outcome_is fits
 
   abbrev ack : Bool → ℕ → Apdu
   ack nak i = server.server_ack d nak i actual
@@ -69,13 +70,13 @@ module _ (S : Type 0) (model : StoreModel S) (x : Rules) (now : Nows) (number : 
   -- a request of one APDU
   pub whole_read : (o : Option ServerTransaction) → is_none_live now.there o ≡ true
       → Starts S model x now number key 1 (asking AwaitConfirmation o (client.request_apdu c ask ∷ []))
-      (performed (in_phase AwaitConfirmation) (Some (join ask.pieces)) (sent_first ∷ []))
+      (performed (in_phase AwaitConfirmation) (of_whole ask) (sent_first ∷ []))
   whole_read o dead =
       let a = client.request_apdu c ask in
-      first_step S model x now number key (asking AwaitConfirmation o (a ∷ [])) (performed (in_phase AwaitConfirmation) (Some (join ask.pieces))
+      first_step S model x now number key (asking AwaitConfirmation o (a ∷ [])) (performed (in_phase AwaitConfirmation) (of_whole ask)
       (sent_first ∷ [])) [] a refl (omega arith) refl
-      (up.performs_now S model x now number key ask young repeats now.there (alive_now now.there) stores log p outcome_is fits (in_phase AwaitConfirmation) o
-      (Some (join ask.pieces)) Dropped a [] [] refl (server_new d service o a dead))
+      (up.performs_now S model x now number key ask young repeats now.there (alive_now now.there) None stores log p outcome_is fits (in_phase AwaitConfirmation) o
+      (of_whole ask) Dropped a [] [] refl (server_new d service o a dead))
 
   -- the client waits for the reply, whose first APDU is the oldest copy; after it come some segments of the request that nobody waits for
   pub record StartsRead (from : TransactionPair S) (most : ℕ) : Type 0 where
@@ -84,7 +85,7 @@ module _ (S : Type 0) (model : StoreModel S) (x : Rules) (now : Nows) (number : 
     pub extra : ℕ
     pub cheap : spent + extra ≤ most
     pub few : extra ≤ x.overtake
-    pub reaches : Starts S model x now number key spent from (performed (in_phase AwaitConfirmation) None (sent_first ∷ pieces_from piece first extra))
+    pub reaches : Starts S model x now number key spent from (performed (in_phase AwaitConfirmation) (of_pieces ask) (sent_first ∷ pieces_from piece first extra))
 
   abbrev empty : Incoming
   empty = incoming d.settings.window c.settings.window
@@ -112,9 +113,9 @@ module _ (S : Type 0) (model : StoreModel S) (x : Rules) (now : Nows) (number : 
         let within = sizes.within in
         let len : length out.pieces ≡ n = ap length same in
         let e = takes_last ask.pieces empty 0 one sizes.few sizes.short refl refl in
-        let mid = performed (in_phase (SegmentedRequest out all_sent)) None (ack false 0 ∷ sent_first ∷ []) in
-        let entry = up.performed_entry S model x now number key ask young repeats now.there (alive_now now.there) stores log p outcome_is fits None in
-        let end = performed (in_phase AwaitConfirmation) None (sent_first ∷ []) in
+        let mid = performed (in_phase (SegmentedRequest out all_sent)) (of_pieces ask) (ack false 0 ∷ sent_first ∷ []) in
+        let entry = up.performed_entry S model x now number key ask young repeats now.there (alive_now now.there) None stores log p outcome_is fits (of_pieces ask) in
+        let end = performed (in_phase AwaitConfirmation) (of_pieces ask) (sent_first ∷ []) in
         record {
           spent = 2;
           first = 0;
@@ -123,9 +124,9 @@ module _ (S : Type 0) (model : StoreModel S) (x : Rules) (now : Nows) (number : 
           few = omega arith;
           reaches = starts_then S model x now number key 1 1 2 from mid end (omega arith)
               (first_step S model x now number key from mid [] (piece 0) refl (omega arith) refl
-              (up.performs_now S model x now number key ask young repeats now.there (alive_now now.there) stores log p outcome_is fits
-              (in_phase (SegmentedRequest out all_sent)) o None Dropped (piece 0) (ack false 0 ∷ []) [] refl (first_taken o (Whole ask.pieces) dead e)))
-              (up.last_acked S model x now number key ask young repeats now.there (alive_now now.there) stores log (Some entry)
+              (up.performs_now S model x now number key ask young repeats now.there (alive_now now.there) None stores log p outcome_is fits
+              (in_phase (SegmentedRequest out all_sent)) o (of_pieces ask) Dropped (piece 0) (ack false 0 ∷ []) [] refl (first_taken o (Whole ask.pieces) dead e)))
+              (up.last_acked S model x now number key ask young repeats now.there (alive_now now.there) None stores log (Some entry)
               (lives now.there entry (alive_now now.there))
               mid.stores mid.log s 0 (sent_first ∷ []) (omega arith) (omega arith) same (omega arith) (omega arith) one);
         }
@@ -137,8 +138,8 @@ module _ (S : Type 0) (model : StoreModel S) (x : Rules) (now : Nows) (number : 
         let some = sizes.some in
         let room = sizes.room in
         let within = sizes.within in
-        let carries = up.carries S model x now number key ask young repeats now.there (alive_now now.there) stores log in
-        let requesting = up.requesting S model x now number key ask young repeats now.there (alive_now now.there) stores log in
+        let carries = up.carries S model x now number key ask young repeats now.there (alive_now now.there) None stores log in
+        let requesting = up.requesting S model x now number key ask young repeats now.there (alive_now now.there) None stores log in
         let inc = after_piece ask.pieces empty 0 0 in
         let s' = moved s (next_window actual c.settings.window out 0) in
         let len : length out.pieces ≡ n = ap length same in
@@ -151,7 +152,7 @@ module _ (S : Type 0) (model : StoreModel S) (x : Rules) (now : Nows) (number : 
         (moving S model x now number key actual c.settings.window ask.pieces carries inc now.there) 0 s false 0 [] same (omega arith) (omega arith)
         (omega arith)
         (omega arith) (omega arith) in
-        let z = up.upload S model x now number key ask young repeats now.there (alive_now now.there) stores log p outcome_is fits sizes near s' inc now.there 1
+        let z = up.upload S model x now number key ask young repeats now.there (alive_now now.there) None stores log p outcome_is fits sizes near s' inc now.there 1
         (3 * n - 3)
         (record {
           pieces = same;
@@ -164,7 +165,7 @@ module _ (S : Type 0) (model : StoreModel S) (x : Rules) (now : Nows) (number : 
           behind = omega arith;
           within = omega arith;
           left = omega arith;
-        }) (up.not_late S model x now number key ask young repeats now.there (alive_now now.there) stores log) (omega arith) in
+        }) (up.not_late S model x now number key ask young repeats now.there (alive_now now.there) None stores log) (omega arith) in
         let cheap = z.cheap in
         record {
           spent = z.spent + 2;
@@ -173,7 +174,7 @@ module _ (S : Type 0) (model : StoreModel S) (x : Rules) (now : Nows) (number : 
           cheap = omega arith;
           few = z.few;
           reaches = starts_then S model x now number key 2 z.spent (z.spent + 2) from sent
-              (performed (in_phase AwaitConfirmation) None (sent_first ∷ pieces_from piece z.first z.extra)) (omega arith)
+              (performed (in_phase AwaitConfirmation) (of_pieces ask) (sent_first ∷ pieces_from piece z.first z.extra)) (omega arith)
               (starts_then S model x now number key 1 1 2 from acked sent (omega arith) one two) z.reaches;
         }
 

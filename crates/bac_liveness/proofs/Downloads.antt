@@ -41,6 +41,7 @@ use Rattle.bac_liveness.proofs.Acks.{acks_read, moving}
 use Rattle.bac_liveness.proofs.Rounds.{IsRound, all_rounds}
 use Rattle.bac_liveness.proofs.Serving.{answer_not_from_client}
 use Rattle.bac_liveness.proofs.Gets.{client_opens, server_lives, lives}
+use Rattle.bac_liveness.proofs.Remembered.{Remembered}
 
 same_number : (n : ℕ) → nat_eq n n ≡ true
 same_number n = grind (arith, nat_tests)
@@ -71,7 +72,7 @@ sending_waits out c readable ask (Apdu.Reject id reason) e = absurd cc
 sending_waits out c readable ask (Abort server id reason) e = absurd cc
 
 module _ (S : Type 0) (model : StoreModel S) (x : Rules) (now : Nows) (number : ℕ) (key : Key) (ask : Ask) (young : client.is_expired now.here ask ≡ false)
-    (repeats begin : ℕ) (alive : nat_le (now.there - begin) KEEP ≡ true) (kept : Option Octets) (stores : ℕ → S) (log : List Fact) where
+    (repeats begin : ℕ) (alive : nat_le (now.there - begin) KEEP ≡ true) (kept : Remembered) (stores : ℕ → S) (log : List Fact) where
   abbrev c : Context
   c = client_context x key now.here
 
@@ -89,7 +90,7 @@ module _ (S : Type 0) (model : StoreModel S) (x : Rules) (now : Nows) (number : 
   in_phase phase since = record { ask = ask; phase = phase; repeats = repeats; since = since }
 
   abbrev pub in_state : State → ServerTransaction
-  in_state state = record { begin = begin; choice = ask.choice; limits = c.settings.limits; request = kept; state = state }
+  in_state state = record { begin = begin; choice = ask.choice; limits = c.settings.limits; request = kept.request; first = kept.first; state = state }
 
   abbrev giving : Outgoing → ServerTransaction
   giving out = in_state (SegmentedResponse out Running now.there)
@@ -141,7 +142,7 @@ module _ (S : Type 0) (model : StoreModel S) (x : Rules) (now : Nows) (number : 
   abbrev pub segments : (first extra : ℕ) → List Apdu
   segments first extra = pieces_from (client.request_piece c ask.choice ask.pieces) first extra
 
-  pub skips : (extra first : ℕ) (t : ClientTransaction) (out : Outgoing) (xs : List Apdu) → (0 < extra → kept ≡ None) → is_idle t.phase ≡ false
+  pub skips : (extra first : ℕ) (t : ClientTransaction) (out : Outgoing) (xs : List Apdu) → (0 < extra → kept.request ≡ None) → is_idle t.phase ≡ false
       → Goes extra (record { ticket = t; entry = Some (giving out); pending = segments first extra ++ xs; stores = stores; log = log })
       (record { ticket = t; entry = Some (giving out); pending = xs; stores = stores; log = log })
   skips zero first t out xs none going =
@@ -317,7 +318,7 @@ module _ (S : Type 0) (model : StoreModel S) (x : Rules) (now : Nows) (number : 
           ∙ ap by is
 
       module _ (phase : Phase) (m : ℕ) (waits : Waits phase) (going : is_idle phase ≡ false) (out : Outgoing) (same : out.pieces ≡ ps)
-          (at_start : out.first ≡ 0) (one_piece : out.window ≡ 1) (first extra : ℕ) (plain : 0 < extra → kept ≡ None) (few : extra ≤ x.overtake) where
+          (at_start : out.first ≡ 0) (one_piece : out.window ≡ 1) (first extra : ℕ) (plain : 0 < extra → kept.request ≡ None) (few : extra ≤ x.overtake) where
         abbrev from : TransactionPair S
         from = begun phase m out (piece 0 ∷ segments first extra)
 
@@ -444,7 +445,7 @@ module _ (S : Type 0) (model : StoreModel S) (x : Rules) (now : Nows) (number : 
     }
 
     pub reply_read : (p : reply) (way : Way ℕ) (first extra : ℕ) → reply_way_of d.settings c.settings.limits p ≡ way → WayFits way
-        → KindFits x.readable ask.choice p → 0 < actual → actual < 256 → actual ≤ x.overtake → (0 < extra → kept ≡ None) → extra ≤ x.overtake
+        → KindFits x.readable ask.choice p → 0 < actual → actual < 256 → actual ≤ x.overtake → (0 < extra → kept.request ≡ None) → extra ≤ x.overtake
         → EndsWith (3 * way_count way + extra) (given p way (segments first extra)) p
     reply_read p InOne first extra is fits kind some small room plain few =
         let e = pieces_length (client.request_piece c ask.choice ask.pieces) first extra in

@@ -25,6 +25,7 @@ pub mod Windows
 pub mod Acks
 pub mod Rounds
 pub mod Gets
+pub mod Remembered
 pub mod Uploads
 pub mod Downloads
 pub mod Begins

@@ -23,11 +23,12 @@ use Rattle.bac_liveness.proofs.Deliveries.{Within, within_then, one_step, no_ste
 use Rattle.bac_liveness.proofs.Windows.{repeated, one_more, length_repeated}
 use Rattle.bac_liveness.proofs.Serving.{serves_again, serves_segment, serves_stopped, serves_stopped_segment}
 use Rattle.bac_liveness.proofs.Gets.{lives}
+use Rattle.bac_liveness.proofs.Remembered.{Remembered}
 use Rattle.bac_liveness.proofs.Downloads.{Waits, sending_waits}
 use Rattle.bac_liveness.proofs.Downloads as down
 
 module _ (S : Type 0) (model : StoreModel S) (x : Rules) (now : Nows) (number : ℕ) (key : Key) (ask : Ask) (young : client.is_expired now.here ask ≡ false)
-    (repeats begin : ℕ) (alive : nat_le (now.there - begin) KEEP ≡ true) (kept : Option Octets) (stores : ℕ → S) (log : List Fact) where
+    (repeats begin : ℕ) (alive : nat_le (now.there - begin) KEEP ≡ true) (kept : Remembered) (stores : ℕ → S) (log : List Fact) where
   abbrev c : Context
   c = client_context x key now.here
 
@@ -44,7 +45,7 @@ module _ (S : Type 0) (model : StoreModel S) (x : Rules) (now : Nows) (number : 
   in_phase phase since = record { ask = ask; phase = phase; repeats = repeats; since = since }
 
   abbrev in_state : State → ServerTransaction
-  in_state state = record { begin = begin; choice = ask.choice; limits = c.settings.limits; request = kept; state = state }
+  in_state state = record { begin = begin; choice = ask.choice; limits = c.settings.limits; request = kept.request; first = kept.first; state = state }
 
   abbrev Goes : ℕ → TransactionPair S → TransactionPair S → Type 0
   Goes most p q = Within S model x now number key most p q
@@ -68,7 +69,7 @@ module _ (S : Type 0) (model : StoreModel S) (x : Rules) (now : Nows) (number : 
   answer p = server.reply_apdu d ask.choice p
 
   -- each segment brings it again
-  answers_on : (a : Apdu) (w i first : ℕ) (t : ClientTransaction) → kept ≡ None → is_idle t.phase ≡ false → w + i ≤ x.overtake
+  answers_on : (a : Apdu) (w i first : ℕ) (t : ClientTransaction) → kept.request ≡ None → is_idle t.phase ≡ false → w + i ≤ x.overtake
       → Goes w (with_state t (Done a) (segments first w ++ repeated i a)) (with_state t (Done a) (repeated (i + w) a))
   answers_on a zero i first t none going few =
       let e : i ≡ i + 0 = omega arith in
@@ -91,7 +92,7 @@ module _ (S : Type 0) (model : StoreModel S) (x : Rules) (now : Nows) (number : 
       (subst (λ (j : ℕ). Goes w mid (with_state t (Done a) (repeated j a))) e (answers_on a w (suc i) (first + 1) t none going (omega arith)))
 
   -- a window of the request is sent again
-  pub segments_answered : (p : Reply) (w first m : ℕ) (out : Outgoing) → kept ≡ None → 0 < w → w ≤ x.overtake → KindFits x.readable ask.choice p
+  pub segments_answered : (p : Reply) (w first m : ℕ) (out : Outgoing) → kept.request ≡ None → 0 < w → w ≤ x.overtake → KindFits x.readable ask.choice p
       → EndsIn (w + 1) (with_state (in_phase (Phase.SegmentedRequest out true) m) (Done (answer p)) (segments first w)) p
   segments_answered p zero first m out none some few kind = absurd (omega arith)
   segments_answered p (suc w) first m out none some few kind =
@@ -109,7 +110,7 @@ module _ (S : Type 0) (model : StoreModel S) (x : Rules) (now : Nows) (number : 
       (in_state (Done a)) (repeated w a) kind (lives now.there (in_state (Done a)) alive) (omega arith))
 
   -- the whole request is sent again
-  pub request_answered : (p : Reply) (phase : Phase) (m : ℕ) → Waits phase → is_idle phase ≡ false → kept ≡ Some (join ask.pieces)
+  pub request_answered : (p : Reply) (phase : Phase) (m : ℕ) → Waits phase → is_idle phase ≡ false → kept.request ≡ Some (join ask.pieces)
       → KindFits x.readable ask.choice p → EndsIn 2 (with_state (in_phase phase m) (Done (answer p)) (request ∷ [])) p
   request_answered p phase m waits going same kind =
       let t = in_phase phase m in
@@ -135,7 +136,7 @@ module _ (S : Type 0) (model : StoreModel S) (x : Rules) (now : Nows) (number : 
   window out = server.reply_window d ask.choice (resume out)
 
   -- the whole request is sent again
-  pub request_resumes : (t : ClientTransaction) (out : Outgoing) (since : ℕ) → is_idle t.phase ≡ false → kept ≡ Some (join ask.pieces)
+  pub request_resumes : (t : ClientTransaction) (out : Outgoing) (since : ℕ) → is_idle t.phase ≡ false → kept.request ≡ Some (join ask.pieces)
       → Goes 1 (with_state t (stopped out since) (request ∷ [])) (with_state t (running out) (window out))
   request_resumes t out since going same =
       let from = with_state t (stopped out since) (request ∷ []) in
@@ -145,7 +146,7 @@ module _ (S : Type 0) (model : StoreModel S) (x : Rules) (now : Nows) (number : 
       (serves_stopped d c service (in_state (stopped out since)) true ask out since alive refl refl same))
 
   -- a window of the request is sent again: its first segment sets the transfer going, and the others change nothing
-  pub segments_resume : (t : ClientTransaction) (out : Outgoing) (since w first : ℕ) → is_idle t.phase ≡ false → kept ≡ None → suc w ≤ x.overtake
+  pub segments_resume : (t : ClientTransaction) (out : Outgoing) (since w first : ℕ) → is_idle t.phase ≡ false → kept.request ≡ None → suc w ≤ x.overtake
       → Goes (suc w) (with_state t (stopped out since) (segments first (suc w))) (with_state t (running out) (window out))
   segments_resume t out since w first going none few =
       let seg = client.request_piece c ask.choice ask.pieces first in

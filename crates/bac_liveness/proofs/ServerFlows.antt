@@ -252,7 +252,8 @@ module _ (V W : ℕ) (x : Rules) (key : Key) (now : Hands) (ask : Ask) (repeats 
     segment_fine e of number window (Taken false inc) h =
         begins_in e of (State.SegmentedRequest inc now.server) [] tt (λ begun. reassembly_fine inc now.server [] h)
     segment_fine e of number window (Whole parts) h =
-        performs_fine e of (server.server_ack d false number window ∷ []) (refl, tt) (tt, tt) (join parts) h
+        performs_fine (server.keeps_first parts e) (λ begun. record { limits = (of begun).limits; request = (of begun).request })
+        (server.server_ack d false number window ∷ []) (refl, tt) (tt, tt) (join parts) h
     segment_fine e of number window (Nak inc) h =
         begins_in e of (State.SegmentedRequest inc now.server) (server.server_ack d true ((length inc.parts - 1) % 256) window ∷ []) (refl, tt)
         (λ begun. reassembly_fine inc now.server (server.server_ack d true ((length inc.parts - 1) % 256) window ∷ []) h)

@@ -34,9 +34,10 @@ use Rattle.bac_liveness.proofs.Windows.{repeated, length_repeated, quiet, Channe
 use Rattle.bac_liveness.proofs.Acks.{acknowledged_some, acks_read}
 use Rattle.bac_liveness.proofs.Rounds.{IsRound, LastLeft, all_rounds}
 use Rattle.bac_liveness.proofs.Gets.{client_opens, server_lives, lives, performs_is}
+use Rattle.bac_liveness.proofs.Remembered.{Remembered, of_pieces}
 
 module _ (S : Type 0) (model : StoreModel S) (x : Rules) (now : Nows) (number : ℕ) (key : Key) (ask : Ask) (young : client.is_expired now.here ask ≡ false)
-    (repeats begin : ℕ) (alive : nat_le (now.there - begin) KEEP ≡ true) (stores : ℕ → S) (log : List Fact) where
+    (repeats begin : ℕ) (alive : nat_le (now.there - begin) KEEP ≡ true) (piece_kept : Option Octets) (stores : ℕ → S) (log : List Fact) where
   abbrev c : Context
   c = client_context x key now.here
 
@@ -65,11 +66,12 @@ module _ (S : Type 0) (model : StoreModel S) (x : Rules) (now : Nows) (number : 
   abbrev sending : Sender → ClientTransaction
   sending s = in_phase (Phase.SegmentedRequest s.out s.all_sent)
 
-  abbrev pub begun : Option Octets → State → ServerTransaction
-  begun kept state = record { begin = begin; choice = ask.choice; limits = c.settings.limits; request = kept; state = state }
+  abbrev pub begun : Remembered → State → ServerTransaction
+  begun kept state =
+      record { begin = begin; choice = ask.choice; limits = c.settings.limits; request = kept.request; first = kept.first; state = state }
 
   abbrev taking : Incoming → ℕ → ServerTransaction
-  taking inc m = begun None (State.SegmentedRequest inc m)
+  taking inc m = begun (record { request = None; first = piece_kept }) (State.SegmentedRequest inc m)
 
   -- the request is under way
   abbrev pub requesting : Sender → Incoming → ℕ → List Apdu → TransactionPair S
@@ -211,11 +213,11 @@ module _ (S : Type 0) (model : StoreModel S) (x : Rules) (now : Nows) (number : 
     abbrev pub log_after : List Fact
     log_after = Performed number (request_of ask) p ∷ log
 
-    abbrev pub performed_entry : Option Octets → ServerTransaction
+    abbrev pub performed_entry : Remembered → ServerTransaction
     performed_entry kept = begun kept (kept_state d ask.choice p way)
 
     -- the request was performed, and these copies are left
-    abbrev pub performed : ClientTransaction → Option Octets → List Apdu → TransactionPair S
+    abbrev pub performed : ClientTransaction → Remembered → List Apdu → TransactionPair S
     performed t kept pending = record {
       ticket = t;
       entry = Some (performed_entry kept);
@@ -228,7 +230,7 @@ module _ (S : Type 0) (model : StoreModel S) (x : Rules) (now : Nows) (number : 
     asking t o pending = record { ticket = t; entry = o; pending = pending; stores = stores; log = log }
 
     -- the whole request was taken, and is performed
-    pub performs_now : (t : ClientTransaction) (o : Option ServerTransaction) (kept : Option Octets) (state : State) (a : Apdu) (acks xs : List Apdu)
+    pub performs_now : (t : ClientTransaction) (o : Option ServerTransaction) (kept : Remembered) (state : State) (a : Apdu) (acks xs : List Apdu)
         → is_from_client a ≡ true
         → server.server_on_apdu d service o true a ≡ server.performs d service (begun kept state) acks (join ask.pieces)
         → step S model x now number key (asking t o (a ∷ xs)) xs a ≡ performed t kept (xs ++ (acks ++ sent_first ∷ []))
@@ -249,7 +251,7 @@ module _ (S : Type 0) (model : StoreModel S) (x : Rules) (now : Nows) (number : 
       pub extra : ℕ
       pub cheap : spent + extra ≤ most
       pub few : extra ≤ x.overtake
-      pub reaches : Goes spent from (performed waiting None (sent_first ∷ pieces_from piece first extra))
+      pub reaches : Goes spent from (performed waiting (of_pieces ask) (sent_first ∷ pieces_from piece first extra))
 
     module _ (sizes : Fitting x.overtake actual c.settings.window ask.pieces) (near : actual < 256) where
       abbrev RoundOf : Sender → Incoming → ℕ → Type 0
@@ -258,8 +260,8 @@ module _ (S : Type 0) (model : StoreModel S) (x : Rules) (now : Nows) (number : 
       abbrev LastOf : TransactionPair S → ℕ → Type 0
       LastOf from most = LastLeft S model x now number key actual c.settings.window ask.pieces sizes near carries from most
 
-      abbrev live_after : is_none_live now.there (Some (performed_entry None)) ≡ false
-      live_after = lives now.there (performed_entry None) alive
+      abbrev live_after : is_none_live now.there (Some (performed_entry (of_pieces ask))) ≡ false
+      live_after = lives now.there (performed_entry (of_pieces ask)) alive
 
       abbrev acked_next : Sender → ℕ → Sender
       acked_next s q = moved s (next_window actual c.settings.window s.out q)
@@ -270,7 +272,7 @@ module _ (S : Type 0) (model : StoreModel S) (x : Rules) (now : Nows) (number : 
       -- the last piece is delivered
       last_taken : (from : TransactionPair S) (most : ℕ) (z : LastOf from most)
           → Goes 1 (requesting z.s z.inc z.m (piece z.p ∷ acks_of z.nak z.q z.acks))
-          (performed (sending z.s) None (acks_of z.nak z.q z.acks ++ (ack false (z.p % 256) ∷ sent_first ∷ [])))
+          (performed (sending z.s) (of_pieces ask) (acks_of z.nak z.q z.acks ++ (ack false (z.p % 256) ∷ sent_first ∷ [])))
       unfolding carries
       last_taken from most z =
           let xs = acks_of z.nak z.q z.acks in
@@ -285,9 +287,9 @@ module _ (S : Type 0) (model : StoreModel S) (x : Rules) (now : Nows) (number : 
           let f = server_takes z.inc z.m z.p (Whole ask.pieces) z.timely
           (takes_last ask.pieces z.inc z.p z.last sizes.few sizes.short z.taken z.parts)
           ∙ ap (λ (i : ℕ). server.request_segment_taken d service (taking z.inc z.m) (z.p % 256) i (Whole ask.pieces)) z.actual_is in
-          one_step S model x now number key before (performed (sending z.s) None (xs ++ (ack false (z.p % 256) ∷ sent_first ∷ []))) xs (piece z.p) refl
+          one_step S model x now number key before (performed (sending z.s) (of_pieces ask) (xs ++ (ack false (z.p % 256) ∷ sent_first ∷ []))) xs (piece z.p) refl
           (omega arith) refl (lives now.there (taking z.inc z.m) alive)
-          (performs_now (sending z.s) (Some (taking z.inc z.m)) None (State.SegmentedRequest z.inc z.m) (piece z.p) (ack false (z.p % 256) ∷ []) xs refl f)
+          (performs_now (sending z.s) (Some (taking z.inc z.m)) (of_pieces ask) (State.SegmentedRequest z.inc z.m) (piece z.p) (ack false (z.p % 256) ∷ []) xs refl f)
 
       -- and what the client then hears
       all_acked : (from : TransactionPair S) (most : ℕ) (z : LastOf from most)
@@ -302,12 +304,12 @@ module _ (S : Type 0) (model : StoreModel S) (x : Rules) (now : Nows) (number : 
           let room = sizes.room in
           let positive = sizes.some in
           let window = z.window in
-          let mid = performed (sending z.s) None (ack false (z.p % 256) ∷ sent_first ∷ []) in
-          let end = performed waiting None (sent_first ∷ []) in
+          let mid = performed (sending z.s) (of_pieces ask) (ack false (z.p % 256) ∷ sent_first ∷ []) in
+          let end = performed waiting (of_pieces ask) (sent_first ∷ []) in
           let one : Goes 1 (requesting z.s z.inc z.m (piece z.p ∷ acks_of z.nak z.q z.acks)) mid =
           subst (λ (i : ℕ). Goes 1 (requesting z.s z.inc z.m (piece z.p ∷ acks_of z.nak z.q z.acks))
-          (performed (sending z.s) None (acks_of z.nak z.q i ++ (ack false (z.p % 256) ∷ sent_first ∷ [])))) e (last_taken from most z) in
-          let two = last_acked (Some (performed_entry None)) live_after stores_after log_after z.s z.p (sent_first ∷ []) (omega arith) (omega arith)
+          (performed (sending z.s) (of_pieces ask) (acks_of z.nak z.q i ++ (ack false (z.p % 256) ∷ sent_first ∷ [])))) e (last_taken from most z) in
+          let two = last_acked (Some (performed_entry (of_pieces ask))) live_after stores_after log_after z.s z.p (sent_first ∷ []) (omega arith) (omega arith)
           z.pieces z.behind (omega arith) z.last in
           record {
             spent = z.spent + 2;
@@ -337,15 +339,15 @@ module _ (S : Type 0) (model : StoreModel S) (x : Rules) (now : Nows) (number : 
           let rest = sent_first ∷ pieces_from piece (q + 1) extra in
           let rest_len = pieces_length piece (q + 1) extra in
           let before = requesting z.s z.inc z.m (piece z.p ∷ acks_of z.nak q z.acks) in
-          let mid = performed (sending z.s) None (acks_of z.nak q (suc j) ++ ys) in
-          let one : Goes 1 before mid = subst (λ (i : ℕ). Goes 1 before (performed (sending z.s) None (acks_of z.nak q i ++ ys))) e
+          let mid = performed (sending z.s) (of_pieces ask) (acks_of z.nak q (suc j) ++ ys) in
+          let one : Goes 1 before mid = subst (λ (i : ℕ). Goes 1 before (performed (sending z.s) (of_pieces ask) (acks_of z.nak q i ++ ys))) e
           (last_taken from most z) in
-          let two : Goes (suc j) mid (performed (sending s') None (ack false (z.p % 256) ∷ rest)) = acks_read S model x now number key actual
-          c.settings.window ask.pieces sizes near (sends_on (Some (performed_entry None)) live_after stores_after log_after) j z.s z.nak q ys z.pieces
+          let two : Goes (suc j) mid (performed (sending s') (of_pieces ask) (ack false (z.p % 256) ∷ rest)) = acks_read S model x now number key actual
+          c.settings.window ask.pieces sizes near (sends_on (Some (performed_entry (of_pieces ask))) live_after stores_after log_after) j z.s z.nak q ys z.pieces
           z.window (omega arith) (omega arith) (omega arith) (omega arith) in
-          let three = last_acked (Some (performed_entry None)) live_after stores_after log_after s' z.p rest (omega arith) (omega arith) z.pieces
+          let three = last_acked (Some (performed_entry (of_pieces ask))) live_after stores_after log_after s' z.p rest (omega arith) (omega arith) z.pieces
           (omega arith) (omega arith) z.last in
-          let end = performed waiting None rest in
+          let end = performed waiting (of_pieces ask) rest in
           record {
             spent = z.spent + (j + 3);
             first = q + 1;
@@ -354,7 +356,7 @@ module _ (S : Type 0) (model : StoreModel S) (x : Rules) (now : Nows) (number : 
             few = omega arith;
             reaches = within_then S model x now number key (z.spent + 1) (j + 2) (z.spent + (j + 3)) from mid end (omega arith)
                 (within_then S model x now number key z.spent 1 (z.spent + 1) from before mid (omega arith) reaches one)
-                (within_then S model x now number key (suc j) 1 (j + 2) mid (performed (sending s') None (ack false (z.p % 256) ∷ rest)) end
+                (within_then S model x now number key (suc j) 1 (j + 2) mid (performed (sending s') (of_pieces ask) (ack false (z.p % 256) ∷ rest)) end
                 (omega arith) two three);
           }
 

@@ -89,7 +89,7 @@ server_more W times number ask f log up down None ne (inr h) = inr (lost_more ti
 server_more W times number ask f log up down (Some e) ne (inl h) =
     inl (record { dead = h.dead; unbegun = unbegun_more number f log up down ne h.unbegun })
 server_more W times number ask f log up down (Some e) ne (inr h) = inr
-    (record { begun = h.begun; choice = h.choice; state = state_more W number ask f log e.state up down ne h.state })
+    (record { begun = h.begun; choice = h.choice; first = h.first; state = state_more W number ask f log e.state up down ne h.state })
 
 -- what any transaction's soundness says of the log
 pub record IsLogOf (asks : ℕ) (log : List Fact) : Type 0 where
@@ -420,7 +420,7 @@ server_renewing W exact times number ask log up down None (inr h) = inr (record 
 })
 server_renewing W exact times number ask log up down (Some e) (inl h) = inl (record { dead = h.dead; unbegun = h.unbegun })
 server_renewing W exact times number ask log up down (Some e) (inr h) =
-    inr (record { begun = begun_renewing exact times e.begin h.begun; choice = h.choice; state = h.state })
+    inr (record { begun = begun_renewing exact times e.begin h.begun; choice = h.choice; first = h.first; state = h.state })
 
 -- the ticket is lost
 loses_ticket : (W exact : ℕ) (key : Key) (w : Transaction) (o : Option ClientTransaction) → IsSoundAt W key o w
@@ -566,7 +566,7 @@ module _ (by a b until : ℕ) (times : Moments) (later : times.until ≤ until) 
     dead = let dead = h.dead in let on = shows_on times.pace timed.timely.some by b times.server timed.server in omega arith;
     unbegun = h.unbegun;
   })
-  server_later W number ask log up down (Some e) timed (inr h) = inr (record { begun = begun_later e.begin h.begun; choice = h.choice; state = h.state })
+  server_later W number ask log up down (Some e) timed (inr h) = inr (record { begun = begun_later e.begin h.begun; choice = h.choice; first = h.first; state = h.state })
 
   moment_later : (W : ℕ) (key : Key) (w : Transaction) (t : ClientTransaction) → w.times ≡ times → IsTimed (passing by a b until times) t.ask.first
       → IsSoundAt W key (Some t) (record w { times = times }) → IsSoundAt W key (Some t) (record w { times = passing by a b until times })

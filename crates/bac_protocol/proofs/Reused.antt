@@ -1,10 +1,10 @@
 -- Laws of the machine that lets invoke IDs be used again.
-use Rattle.std.proofs.Common.{◌≡◌, ℕ, ◌⊎◌, Bool, true, false, ◌&&◌, ◌||◌, not, [], ◌∷◌, Option, Some, None, if◌then◌else◌, refl, ap, sym, inl, inr, ◌∙◌, nat_eq}
-use Rattle.std.specs.Prelude.{is_some}
+use Rattle.std.proofs.Common.{◌≡◌, ℕ, ◌⊎◌, Bool, true, false, ◌&&◌, ◌||◌, not, [], ◌∷◌, Option, Some, None, if◌then◌else◌, refl, ap, sym, inl, inr, ◌∙◌, nat_eq, arith}
+use Rattle.std.proofs.lemmas.Bool.Decides.{nat_tests}
 use Rattle.bac_apdu.specs.Apdu.{Apdu, Limits, Segment}
 use Rattle.bac_apdu.specs.Apdu.Apdu.{ConfirmedRequest}
 use Rattle.bac_protocol.specs.Context.{Context}
-use Rattle.bac_protocol.specs.Reuse.{Reads, ends_entry, entry_left, idle_on_read, idle_reusing, is_ended_by, is_over, left_on_apdu, reads_so, reusing_on_apdu}
+use Rattle.bac_protocol.specs.Reuse.{Reads, ends_entry, entry_left, idle_on_read, idle_reusing, is_ended_by, is_other_first, is_over, left_on_apdu, reads_so, reusing_on_apdu}
 use Rattle.bac_protocol.specs.ReuseLaws.{GoesOnAsEver, PerformsWhereEnded, ReadsAreFresh, fresh_read}
 use Rattle.bac_protocol.specs.Server.{Effect, Reaction, ServerTransaction, Service, begins, idle_on_request, is_kept, is_live, is_none_live, performs_so, sends_reply}
 use Rattle.bac_protocol.specs.Server.{server_on_apdu}
@@ -26,7 +26,8 @@ module _ (c : Context) (service : Service) (reads : Reads) (e : ServerTransactio
 
 not_over : (reads : Reads) (e : ServerTransaction) (a : Apdu) → is_over e.state ≡ false → is_ended_by reads e a ≡ false
 not_over reads e (ConfirmedRequest limits id None choice octets) over = ap (λ x. x && (reads choice || not (is_kept e e.request choice octets))) over
-not_over reads e (ConfirmedRequest limits id (Some segment) choice octets) over = ap (λ x. x && (nat_eq segment.number 0 && is_some e.request)) over
+not_over reads e (ConfirmedRequest limits id (Some segment) choice octets) over =
+    ap (λ x. x && (nat_eq segment.number 0 && is_other_first e e.first choice octets)) over
 not_over reads e _ over = refl
 
 and_false : (b : Bool) → b && false ≡ false
@@ -38,11 +39,14 @@ kept_stays : (reads : Reads) (e : ServerTransaction) (limits : Limits) (id choic
 kept_stays reads e limits id choice octets no_read kept =
     ap (λ x. is_over e.state && (x || not (is_kept e e.request choice octets))) no_read ∙ ap (λ x. is_over e.state && not x) kept ∙ and_false (is_over e.state)
 
-segment_stays : (reads : Reads) (e : ServerTransaction) (limits : Limits) (id choice : ℕ) (segment : Segment) (octets : Octets) → e.request ≡ None
+pub segment_stays : (reads : Reads) (e : ServerTransaction) (limits : Limits) (id choice : ℕ) (segment : Segment) (octets : Octets)
+    → (segment.number ≡ 0 → is_other_first e e.first choice octets ≡ false)
     → is_ended_by reads e (ConfirmedRequest limits id (Some segment) choice octets) ≡ false
-segment_stays reads e limits id choice segment octets none =
-    ap (λ o. is_over e.state && (nat_eq segment.number 0 && is_some o)) none ∙ ap (λ x. is_over e.state && x) (and_false (nat_eq segment.number 0))
-    ∙ and_false (is_over e.state)
+segment_stays reads e limits id choice segment octets same = go (nat_eq segment.number 0) refl
+  where
+    go : (b : Bool) → nat_eq segment.number 0 ≡ b → is_over e.state && (b && is_other_first e e.first choice octets) ≡ false
+    go false is = and_false (is_over e.state)
+    go true is = ap (λ x. is_over e.state && x) (same (grind (arith, nat_tests))) ∙ and_false (is_over e.state)
 
 pub goes_on_as_ever : GoesOnAsEver
 goes_on_as_ever = record {
@@ -50,9 +54,9 @@ goes_on_as_ever = record {
   going = λ c service reads e free a live over. goes_on_where c service reads e free live a (not_over reads e a over);
   kept = λ c service reads e free limits id choice octets live no_read kept.
       goes_on_where c service reads e free live (ConfirmedRequest limits id None choice octets) (kept_stays reads e limits id choice octets no_read kept);
-  segments = λ c service reads e free limits id choice segment octets live none.
+  segments = λ c service reads e free limits id choice segment octets live same.
       goes_on_where c service reads e free live (ConfirmedRequest limits id (Some segment) choice octets)
-      (segment_stays reads e limits id choice segment octets none);
+      (segment_stays reads e limits id choice segment octets same);
 }
 
 -- Where a request is performed.

@@ -10,7 +10,7 @@ use Rattle.bac_protocol.specs.Pace.{IsTimely, IsShown, Since, most}
 use Rattle.bac_protocol.specs.Service.{Octets, Reply as reply}
 use Rattle.bac_protocol.specs.Client.{Ask, request_of, Phase, ClientTransaction, is_idle}
 use Rattle.bac_protocol.specs.Client.Phase.{AwaitConfirmation, SegmentedConf, Idle}
-use Rattle.bac_protocol.specs.Server.{State, ServerTransaction}
+use Rattle.bac_protocol.specs.Server.{State, ServerTransaction, first_of}
 use Rattle.bac_protocol.specs.Server.State.{Done, SegmentedResponse, Dropped}
 use Rattle.bac_protocol.specs.Log.{Fact, Has, asks_in, IsUnperformed, IsUnended, IsOrderly}
 use Rattle.bac_protocol.specs.Log.Fact.{Asked, Performed, Ended, Changed, Restarted, Served, AskedAway, EndedAway}
@@ -188,10 +188,15 @@ StateFits W number ask (SegmentedResponse out transfer since) up down log = IsGi
 StateFits W number ask Dropped (Reading taken sent) Unsent log = (taken < length ask.pieces) × IsUnperformed number log
 StateFits W number ask _ _ _ log = ⊥
 
+-- an entry for the ask keeps no piece, or the first one of its request
+abbrev pub FirstFits : Ask → Option Octets → Type 0
+FirstFits ask first = (first ≡ None) ⊎ (first ≡ first_of ask.pieces)
+
 -- the entry was begun for the ask
 pub record IsBegunFor (W : ℕ) (times : Moments) (number : ℕ) (ask : Ask) (e : ServerTransaction) (up : Up) (down : Down) (log : List Fact) : Type 0 where
   pub begun : IsBegunSince times e.begin
   pub choice : e.choice ≡ ask.choice
+  pub first : FirstFits ask e.first
   pub state : StateFits W number ask e.state up down log
 
 -- the entry was dead before the ask was made, and is

@@ -25,10 +25,16 @@ is_over (State.Done kept) = true
 is_over (State.SegmentedResponse out transfer since) = is_transfer_over transfer
 is_over State.Dropped = true
 
--- an entry that is over ends when a read comes, or a request without SEG that is not the kept one, or segment 0 where it began with a request without SEG
+-- a segment 0 is not that of the entry's request: where it began with a request without SEG, or keeps a first piece, and this one is another
+abbrev pub is_other_first : ServerTransaction → (first : Option Octets) → (choice : ℕ) → Octets → Bool
+is_other_first e None choice octets = is_some e.request
+is_other_first e (Some first) choice octets = not (is_kept e (Some first) choice octets)
+
+-- an entry that is over ends when a read comes, or a request without SEG that is not the kept one, or a segment 0 that is not that of its request
 abbrev pub is_ended_by : Reads → ServerTransaction → Apdu → Bool
 is_ended_by reads e (ConfirmedRequest limits invoke_id None choice octets) = is_over e.state && (reads choice || not (is_kept e e.request choice octets))
-is_ended_by reads e (ConfirmedRequest limits invoke_id (Some segment) choice octets) = is_over e.state && (nat_eq segment.number 0 && is_some e.request)
+is_ended_by reads e (ConfirmedRequest limits invoke_id (Some segment) choice octets) =
+    is_over e.state && (nat_eq segment.number 0 && is_other_first e e.first choice octets)
 is_ended_by reads e _ = false
 
 -- an APDU ends the entry of its key, if that is live

@@ -3,7 +3,7 @@ use Rattle.std.specs.Prelude.{◌≡◌, ℕ, ◌⊎◌, Bool, true, false, [], 
 use Rattle.bac_apdu.specs.Apdu.{Apdu, Limits, Segment}
 use Rattle.bac_apdu.specs.Apdu.Apdu.{ConfirmedRequest}
 use Rattle.bac_protocol.specs.Context.{Context}
-use Rattle.bac_protocol.specs.Reuse.{Reads, ends_entry, is_over, reusing_on_apdu, server_hears}
+use Rattle.bac_protocol.specs.Reuse.{Reads, ends_entry, is_other_first, is_over, reusing_on_apdu, server_hears}
 use Rattle.bac_protocol.specs.Server.{Effect, Reaction, ServerTransaction, Service, is_kept, is_live, is_none_live, reply_apdu, server_on_apdu}
 use Rattle.bac_protocol.specs.Service.{Octets, Reply}
 use Rattle.bac_protocol.specs.Service.Outcome.{Replies}
@@ -22,7 +22,7 @@ pub record GoesOnAsEver : Type 0 where
       → reusing_on_apdu c service reads (Some e) free (ConfirmedRequest limits id None choice octets)
       ≡ server_on_apdu c service (Some e) free (ConfirmedRequest limits id None choice octets)
   pub segments : (c : Context) (service : Service) (reads : Reads) (e : ServerTransaction) (free : Bool) (limits : Limits) (id choice : ℕ) (segment : Segment)
-      (octets : Octets) → is_live c.now e ≡ true → e.request ≡ None
+      (octets : Octets) → is_live c.now e ≡ true → (segment.number ≡ 0 → is_other_first e e.first choice octets ≡ false)
       → reusing_on_apdu c service reads (Some e) free (ConfirmedRequest limits id (Some segment) choice octets)
       ≡ server_on_apdu c service (Some e) free (ConfirmedRequest limits id (Some segment) choice octets)
 

@@ -37,7 +37,8 @@ module _ (c : Context) (service : Service) where
       → HasBegun c.now (server.request_segment_taken c service e number window t).entry
   taken_begun e h number window (Taking.Taken true inc) = h
   taken_begun e h number window (Taking.Taken false inc) = h
-  taken_begun e h number window (Taking.Whole parts) = so_begun e h (server.server_ack c false number window ∷ []) (join parts) (service e.choice (join parts))
+  taken_begun e h number window (Taking.Whole parts) =
+      so_begun (server.keeps_first parts e) h (server.server_ack c false number window ∷ []) (join parts) (service e.choice (join parts))
   taken_begun e h number window (Taking.Nak inc) = h
   taken_begun e h number window Taking.TooLong = h
 

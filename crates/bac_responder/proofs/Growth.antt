@@ -6,7 +6,7 @@ use Rattle.std.proofs.lemmas.List.{length-take}
 use Rattle.bac_apdu.specs.Apdu.{Apdu, Limits, Segment}
 use Rattle.bac_apdu.specs.Apdu.Apdu.{ConfirmedRequest, SegmentAck, Abort}
 use Rattle.bac_segment.specs.Numbers.{ahead}
-use Rattle.bac_segment.specs.Pieces.{count_of, join, pieces_of}
+use Rattle.bac_segment.specs.Pieces.{count_of, join, piece_at, pieces_of}
 use Rattle.bac_segment.specs.Limits.{N_RETRY}
 use Rattle.bac_segment.specs.Window.{Incoming, Outgoing, Taking, again, in_window, incoming, is_acknowledged, is_expected, is_finished, is_too_long, resume, takes}
 use Rattle.bac_segment.specs.Window.{takes_expected}
@@ -22,7 +22,7 @@ use Rattle.bac_protocol.specs.Service.Outcome.{Rejects, Replies}
 use Rattle.bac_protocol.specs.Sizes.{Way, allows_segments, reply_way_in_segments, reply_way_of, reply_way_of_size, transfer_size}
 use Rattle.bac_protocol.specs.Sizes.Way.{InOne, InSegments, Refused}
 use Rattle.bac_transaction.specs.Reuse.{is_read}
-use Rattle.bac_responder.specs.Kept.{adds_nothing, entry_octets, growth, is_known, is_read_in_one, is_whole, octets_of, parts_octets, reply_octets, request_octets, state_octets}
+use Rattle.bac_responder.specs.Kept.{adds_nothing, entry_octets, growth, is_known, is_read_in_one, is_whole, kept_length, octets_of, parts_octets, reply_octets, request_octets, state_octets}
 
 -- Segments and pieces.
 
@@ -40,6 +40,15 @@ part_more parts octets =
     let places = length-append parts (octets ∷ []) in
     omega (arith, whole, places)
 
+-- the first of some parts has no more octets than all
+first_within : (parts : List Octets) → kept_length (server.first_of parts) ≤ length (join parts)
+first_within parts = go (nat_le (length parts) 256) parts
+  where
+    go : (b : Bool) (ps : List Octets) → kept_length (if b then Some (piece_at ps 0) else None) ≤ length (join ps)
+    go false ps = omega arith
+    go true [] = omega arith
+    go true (p ∷ ps) = let long = length-append p (join ps) in omega (arith, long)
+
 pieces_within : (size : ℕ) (octets : Octets) → length (join (pieces_of size octets)) ≤ length octets
 pieces_within size octets =
     let same = ap length (join-cut (count_of size octets) size octets) in
@@ -48,7 +57,7 @@ pieces_within size octets =
 
 abbrev taking_octets : Taking → ℕ
 taking_octets (Taking.Taken ack next) = parts_octets next.parts
-taking_octets (Taking.Whole parts) = 0
+taking_octets (Taking.Whole parts) = parts_octets parts
 taking_octets (Taking.Nak next) = parts_octets next.parts
 taking_octets Taking.TooLong = 0
 
@@ -63,7 +72,7 @@ takes_octets inc number more octets = go (is_expected inc number) (is_too_long i
     taken false = let e = part_more inc.parts octets in omega (arith, e)
 
     expected : (m : Bool) → taking_octets (takes_expected inc m octets) ≤ parts_octets inc.parts + (length octets + 4)
-    expected false = omega arith
+    expected false = let e = part_more inc.parts octets in omega (arith, e)
     expected true = taken (is_acknowledged inc)
 
     go : (x y : Bool) → taking_octets (if x then (if y then Taking.TooLong else takes_expected inc more octets) else Taking.Nak (record inc { unacknowledged = 0 }))
@@ -156,28 +165,30 @@ module _ (c : Context) (service : Service) (short : HasShort service) where
   in_one e (Reply.Error class code) = refl
 
   sends_octets : (e : ServerTransaction) (before : List Apdu) (octets : Octets) (reply : Reply) (way : Way ℕ) (n : ℕ) → data_octets reply ≤ n
-      → way_octets way ≤ n → octets_of (server.sends_reply c e before octets reply way).entry ≤ request_octets e.request + n
+      → way_octets way ≤ n → octets_of (server.sends_reply c e before octets reply way).entry ≤ request_octets e + n
   sends_octets e before octets reply InOne n small sent = let same = in_one e reply in omega (arith, same, small)
   sends_octets e before octets reply (InSegments pieces) n small sent = omega (arith, sent)
   sends_octets e before octets reply (Refused reason) n small sent = omega arith
 
   so_octets : (e : ServerTransaction) (before : List Apdu) (octets : Octets) (o : Outcome) (n : ℕ) → outcome_octets o ≤ n
-      → octets_of (server.performs_so c e before octets o).entry ≤ request_octets e.request + n
+      → octets_of (server.performs_so c e before octets o).entry ≤ request_octets e + n
   so_octets e before octets (Replies reply) n h =
       let way = way_within c.settings e.limits reply in
       sends_octets e before octets reply (reply_way_of c.settings e.limits reply) n h (omega (arith, way, h))
   so_octets e before octets (Rejects reason) n h = omega arith
 
   performs_octets : (e : ServerTransaction) (before : List Apdu) (octets : Octets)
-      → octets_of (server.performs c service e before octets).entry ≤ request_octets e.request + DATA_LIMIT
+      → octets_of (server.performs c service e before octets).entry ≤ request_octets e + DATA_LIMIT
   performs_octets e before octets = so_octets e before octets (service e.choice octets) DATA_LIMIT (short e.choice octets)
 
   taken_octets : (e : ServerTransaction) (number window : ℕ) (t : Taking)
-      → octets_of (server.request_segment_taken c service e number window t).entry ≤ request_octets e.request + (taking_octets t + DATA_LIMIT)
+      → octets_of (server.request_segment_taken c service e number window t).entry ≤ request_octets e + (taking_octets t + DATA_LIMIT)
   taken_octets e number window (Taking.Taken true inc) = omega arith
   taken_octets e number window (Taking.Taken false inc) = omega arith
   taken_octets e number window (Taking.Whole parts) =
-      let all = performs_octets e (server.server_ack c false number window ∷ []) (join parts) in omega (arith, all)
+      let all = performs_octets (server.keeps_first parts e) (server.server_ack c false number window ∷ []) (join parts) in
+      let one = first_within parts in
+      omega (arith, all, one)
   taken_octets e number window (Taking.Nak inc) = omega arith
   taken_octets e number window Taking.TooLong = omega arith
 
@@ -238,17 +249,17 @@ module _ (c : Context) (service : Service) (short : HasShort service) where
   -- An entry is live.
 
   module _ (e : ServerTransaction) where
-    rests_octets : (a : Apdu) (z : State) → e.state ≡ z → entry_octets e ≤ request_octets e.request + state_octets z + growth a
+    rests_octets : (a : Apdu) (z : State) → e.state ≡ z → entry_octets e ≤ request_octets e + state_octets z + growth a
     rests_octets a z is = let same = ap state_octets is in omega (arith, same)
 
     on_segment_octets : (inc : Incoming) (since : ℕ) (g : Segment) (octets : Octets)
         → octets_of (server.segmented_request_on_segment c service e inc since g octets).entry
-        ≤ request_octets e.request + parts_octets inc.parts + (length octets + (DATA_LIMIT + 4))
+        ≤ request_octets e + parts_octets inc.parts + (length octets + (DATA_LIMIT + 4))
     on_segment_octets inc since g octets = go (nat_le T_WAIT_FOR_SEG (c.now - since))
       where
         go : (b : Bool) → octets_of (if b then server.becomes e State.Dropped (server.server_abort c OTHER ∷ [])
             else server.request_segment_taken c service e g.number inc.window (takes inc g.number g.more octets)).entry
-            ≤ request_octets e.request + parts_octets inc.parts + (length octets + (DATA_LIMIT + 4))
+            ≤ request_octets e + parts_octets inc.parts + (length octets + (DATA_LIMIT + 4))
         go true = omega arith
         go false =
             let all = taken_octets e g.number inc.window (takes inc g.number g.more octets) in
@@ -256,23 +267,23 @@ module _ (c : Context) (service : Service) (short : HasShort service) where
             omega (arith, all, more)
 
     receiving : (inc : Incoming) (since : ℕ) (a : Apdu) → e.state ≡ State.SegmentedRequest inc since
-        → octets_of (server.segmented_request_on_apdu c service e inc since a).entry ≤ request_octets e.request + parts_octets inc.parts + growth a
+        → octets_of (server.segmented_request_on_apdu c service e inc since a).entry ≤ request_octets e + parts_octets inc.parts + growth a
     receiving inc since (ConfirmedRequest limits i (Some g) choice octets) is = on_segment_octets inc since g octets
     receiving inc since (Abort false i reason) is = omega arith
     receiving inc since a is = rests_octets a (State.SegmentedRequest inc since) is
 
     done : (kept a : Apdu) → e.state ≡ State.Done kept
-        → octets_of (server.done_on_apdu c e kept a).entry ≤ request_octets e.request + reply_octets kept + growth a
+        → octets_of (server.done_on_apdu c e kept a).entry ≤ request_octets e + reply_octets kept + growth a
     done kept (ConfirmedRequest limits i None choice octets) is = rests_octets (ConfirmedRequest limits i None choice octets) (State.Done kept) is
     done kept (ConfirmedRequest limits i (Some g) choice octets) is = rests_octets (ConfirmedRequest limits i (Some g) choice octets) (State.Done kept) is
     done kept a is = rests_octets a (State.Done kept) is
 
     module _ (out : Outgoing) (transfer : Transfer) (since : ℕ) (is : e.state ≡ State.SegmentedResponse out transfer since) where
       abbrev all : ℕ
-      all = request_octets e.request + length (join out.pieces)
+      all = request_octets e + length (join out.pieces)
 
       same_all : entry_octets e ≡ all
-      same_all = ap (λ (z : State). request_octets e.request + state_octets z) is
+      same_all = ap (λ (z : State). request_octets e + state_octets z) is
 
       stays_octets : entry_octets e ≤ all
       stays_octets = let same = same_all in omega (arith, same)
@@ -312,7 +323,7 @@ module _ (c : Context) (service : Service) (short : HasShort service) where
       replying (Abort false i reason) = omega arith
       replying _ = stays_octets
 
-    dropped : (a : Apdu) → e.state ≡ State.Dropped → octets_of (server.dropped_on_apdu c e a).entry ≤ request_octets e.request + growth a
+    dropped : (a : Apdu) → e.state ≡ State.Dropped → octets_of (server.dropped_on_apdu c e a).entry ≤ request_octets e + growth a
     dropped (ConfirmedRequest limits i g choice octets) is = let same = ap state_octets is in omega (arith, same)
     dropped a is = let same = ap state_octets is in omega (arith, same)
 

@@ -36,14 +36,18 @@ state_octets (State.Done kept) = reply_octets kept
 state_octets (State.SegmentedResponse out transfer since) = length (join out.pieces)
 state_octets State.Dropped = 0
 
--- of a request that came without SEG
-abbrev pub request_octets : Option Octets → ℕ
-request_octets None = 0
-request_octets (Some octets) = length octets
+-- of what may be kept
+abbrev pub kept_length : Option Octets → ℕ
+kept_length None = 0
+kept_length (Some octets) = length octets
+
+-- of a request: its service data where it came without SEG, or its first piece
+abbrev pub request_octets : ServerTransaction → ℕ
+request_octets e = kept_length e.request + kept_length e.first
 
 -- of an entry: its request, and what its state keeps
 abbrev pub entry_octets : ServerTransaction → ℕ
-entry_octets e = request_octets e.request + state_octets e.state
+entry_octets e = request_octets e + state_octets e.state
 
 -- of all slots, whether their entries are live or not
 abbrev pub kept_octets : List ServerSlot → ℕ

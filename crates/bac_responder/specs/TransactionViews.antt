@@ -73,7 +73,14 @@ IsSendable choice state_case.Dropped = Unit {0}
 -- an entry of this origin in a state
 abbrev pub entry_of : Origin → server.State → server.ServerTransaction
 entry_of o s =
-    record { begin = o.begin; choice = o.terms.choice; limits = limits_view o.terms.limits; request = option_map (λ v. v.items) o.request; state = s }
+    record {
+      begin = o.begin;
+      choice = o.terms.choice;
+      limits = limits_view o.terms.limits;
+      request = option_map (λ v. v.items) o.request;
+      first = option_map (λ v. v.items) o.first;
+      state = s;
+    }
 
 abbrev pub entry_view : Origin → state.State → server.ServerTransaction
 entry_view o s = entry_of o (state_view o.terms.choice s)

@@ -80,6 +80,7 @@ fn is_same_origin(origin: &Origin, other: &Origin) -> bool
         && origin.terms.choice == other.terms.choice
         && origin.terms.limits == other.terms.limits
         && origin.request == other.request
+        && origin.first == other.first
 }
 
 impl Same for ServerTransaction {

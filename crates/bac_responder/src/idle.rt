@@ -43,6 +43,7 @@ fn on_request(
         begin: context.moment,
         terms,
         request: Some(request),
+        first: None,
     };
     let transaction = ServerTransaction { origin, state };
     Ok((Performed { sends, effect }, Some(transaction)))
@@ -61,17 +62,18 @@ fn on_first_segment(
     ensures { IdleReacts (λ dead. machine.idle_on_segment (context_view context.now) (service_of store.old) dead true terms.choice
         (limits_view terms.limits) (segment_view segment) octets.now) (peer_of context.now) store.old result store.new }
 {
-    let origin = Origin {
+    let mut origin = Origin {
         begin: context.moment,
         terms,
         request: None,
+        first: None,
     };
     let mut reassembly = Reassembly {
         incoming: Incoming::new(alloc, segment.window, context.settings.window),
         since: context.moment,
     };
     let received = ReceivedSegment { segment, octets };
-    let (performed, next) = reassembly.take_segment(alloc, context, &origin, received, store)?;
+    let (performed, next) = reassembly.take_segment(alloc, context, &mut origin, received, store)?;
     match next {
         None => {
             let state = State::SegmentedRequest(reassembly);

@@ -1,10 +1,11 @@
 //! How many octets of service data the entries of the reply table keep, and whether there is room for more. `Responder` calls it.
 ghost use Rattle.std.specs.Prelude.{◌≡◌, ℕ, ◌+◌, ◌≤◌, true, IfSome, IsTrue, MatchOption, Some, false, slice_get};
+ghost use Rattle.std.specs.Option.{option_map};
 ghost use Rattle.bac_apdu.specs.Views.{apdu_view};
 ghost use Rattle.bac_slots.specs.declared.slot.Slot.{Slot};
 ghost use Rattle.bac_slots.specs.Slots.{value_at};
 ghost use Rattle.bac_transaction.specs.Views.{code_same_key};
-ghost use Rattle.bac_responder.specs.Kept.{counted, entry_octets, given_back, growth, is_whole, octets_of, reply_octets, state_octets, sum_of};
+ghost use Rattle.bac_responder.specs.Kept.{counted, entry_octets, given_back, growth, is_whole, kept_length, octets_of, reply_octets, state_octets, sum_of};
 ghost use Rattle.bac_responder.specs.TransactionViews.{kept_reply_view, state_view};
 
 use crate::ServerTransaction;
@@ -53,11 +54,19 @@ impl ServerTransaction {
     fn octets(&self) -> Option<usize>
         ensures { IfSome result (λ n. n ≡ entry_octets self.now) }
     {
-        let request = match &self.origin.request {
-            None => 0,
-            Some(octets) => octets.len(),
-        };
-        request.checked_add(self.state.octets())
+        let request = len_of(&self.origin.request);
+        let first = len_of(&self.origin.first);
+        request.checked_add(first)?.checked_add(self.state.octets())
+    }
+}
+
+/// How many octets are kept of what may be kept.
+fn len_of(kept: &Option<Vec<u8>>) -> usize
+    ensures { result ≡ kept_length (option_map (λ v. v.items) kept.now) }
+{
+    match kept {
+        None => 0,
+        Some(octets) => octets.len(),
     }
 }
 

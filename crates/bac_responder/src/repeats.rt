@@ -2,6 +2,7 @@
 ghost use Rattle.std.specs.Prelude.{◌≡◌};
 ghost use Rattle.std.specs.Option.{option_map};
 ghost use Rattle.bac_apdu.specs.Views.{segment_view};
+ghost use Rattle.bac_protocol.specs.Reuse.{is_other_first as is_another};
 ghost use Rattle.bac_protocol.specs.Server.{State as ServerState};
 ghost use Rattle.bac_responder.specs.Segments.{is_repeated as is_repeat};
 ghost use Rattle.bac_responder.specs.TransactionViews.{entry_of};
@@ -24,5 +25,15 @@ pub(crate) fn is_repeated(
             Some(first) => choice == origin.terms.choice && octets == first.as_slice(),
         },
         Some(_) => origin.request.is_none(),
+    }
+}
+
+/// Whether a segment 0 is not that of the entry's request: where it began without SEG, or keeps a first piece, and this one is another.
+pub(crate) fn is_other_first(origin: &Origin, choice: u8, octets: &[u8]) -> bool
+    ensures { (z : ServerState) → result ≡ is_another (entry_of origin.now z) (entry_of origin.now z).first choice octets.now }
+{
+    match &origin.first {
+        None => origin.request.is_some(),
+        Some(first) => !(choice == origin.terms.choice && octets == first.as_slice()),
     }
 }

@@ -24,7 +24,7 @@ use crate::lookup::{self, begins_request, has_place, served};
 use crate::performed::Performed;
 use crate::performing::commit;
 use crate::reading::read_whole;
-use crate::repeats::is_repeated;
+use crate::repeats::{is_other_first, is_repeated};
 use crate::replying::{PreparedReply, prepare_reply};
 use crate::served::Served;
 use crate::server_transaction::{Origin, State, Terms, Transfer};
@@ -94,7 +94,7 @@ impl ServerTransaction {
         }
         match segment {
             None => is_read(choice) || !is_repeated(&self.origin, None, choice, service),
-            Some(segment) => segment.number == 0 && self.origin.request.is_some(),
+            Some(segment) => segment.number == 0 && is_other_first(&self.origin, choice, service),
         }
     }
 
@@ -150,6 +150,7 @@ fn on_read(
         begin: context.moment,
         terms,
         request: Some(request),
+        first: None,
     };
     let transaction = ServerTransaction { origin, state };
     Ok((Performed { sends, effect }, Some(transaction)))

@@ -1,5 +1,6 @@
 //! SEGMENTED_REQUEST (clause 5.4.5.2): a request that is received in segments. `live` calls it for each APDU in this state, and `idle` for segment 0.
 ghost use Rattle.std.specs.Prelude.{◌≡◌, IfOk, Ok};
+ghost use Rattle.std.specs.Option.{option_map};
 ghost use Rattle.bac_apdu.specs.Views.{apdu_view, limits_view, segment_view};
 ghost use Rattle.bac_segment.specs.Answers.{answer_of};
 ghost use Rattle.bac_segment.specs.Pieces.{join};
@@ -22,7 +23,7 @@ use bac_protocol::times::T_WAIT_FOR_SEG;
 use bac_segment::{Incoming, Step};
 use bac_store::Store;
 use bac_transaction::{Context, only_abort, only_ack, step_acks};
-use bac_value::NoMemory;
+use bac_value::{NoMemory, copy_of};
 use std::alloc::Global;
 
 /// The whole request is there: the SegmentACK of its last segment, and its reply.
@@ -52,6 +53,34 @@ fn prepare_whole(
     })
 }
 
+/// The first piece of a request that is whole, where no other one has its number, which counts modulo 256.
+fn first_kept(alloc: Global, incoming: &Incoming) -> Result<Option<Vec<u8>>, NoMemory>
+    ensures { IfOk result (λ first. option_map (λ v. v.items) first ≡ machine.first_of incoming.now.parts) }
+{
+    if incoming.taken() > 256 {
+        return Ok(None);
+    }
+    let first = copy_of(alloc, incoming.first())?;
+    Ok(Some(first))
+}
+
+/// The whole request is there: its reply, as above, and its first piece, where it is kept.
+fn prepare_last(
+    alloc: Global,
+    context: &Context,
+    terms: Terms,
+    incoming: &Incoming,
+    number: u8,
+    store: &Store,
+) -> Result<(PreparedReply, Option<Vec<u8>>), NoMemory>
+    ensures { IfOk result (λ x. IsWhole (context_view context.now) (peer_of context.now) terms.choice (limits_view terms.limits) store.now number
+        incoming.now.window (join incoming.now.parts) x.0 × (option_map (λ v. v.items) x.1 ≡ machine.first_of incoming.now.parts)) }
+{
+    let first = first_kept(alloc, incoming)?;
+    let reply = prepare_whole(alloc, context, terms, incoming, number, store)?;
+    Ok((reply, first))
+}
+
 /// A segment of a request that was received: its place, and its octets of service data.
 #[derive(Clone, Copy)]
 pub(crate) struct ReceivedSegment<'a> {
@@ -60,7 +89,8 @@ pub(crate) struct ReceivedSegment<'a> {
 }
 
 impl Reassembly {
-    /// The last segment comes (LastSegmentOfMessageReceived). Where an allocation fails, the segment is taken back.
+    /// The last segment comes (LastSegmentOfMessageReceived): the reply, and the first piece, where it is kept. Where an allocation fails, the segment is
+    /// taken back.
     fn take_last(
         &mut self,
         alloc: Global,
@@ -68,7 +98,7 @@ impl Reassembly {
         terms: Terms,
         received: ReceivedSegment<'_>,
         store: &Store,
-    ) -> Result<PreparedReply, NoMemory>
+    ) -> Result<(PreparedReply, Option<Vec<u8>>), NoMemory>
         requires { Ok step.Whole ≡ answer_of (takes self.old.incoming received.segment.number received.segment.more received.octets.now) }
         ensures { TakesLast (context_view context.now) (peer_of context.now) terms.choice (limits_view terms.limits) store.now
             received.entry.segment.number (takes self.old.incoming received.entry.segment.number received.entry.segment.more received.entry.octets.now)
@@ -83,11 +113,12 @@ impl Reassembly {
             return Err(NoMemory);
         };
         let incoming = &self.incoming;
-        let Ok(reply) = prepare_whole(alloc, context, terms, incoming, segment.number, store) else {
+        let Ok(prepared) = prepare_last(alloc, context, terms, incoming, segment.number, store)
+        else {
             self.incoming.take_back(unacknowledged);
             return Err(NoMemory);
         };
-        Ok(reply)
+        Ok(prepared)
     }
 
     /// A segment comes in time: what it makes the entry send, what is performed, and the state that follows; None where more segments are awaited
@@ -97,14 +128,14 @@ impl Reassembly {
         &mut self,
         alloc: Global,
         context: &Context,
-        origin: &Origin,
+        origin: &mut Origin,
         received: ReceivedSegment<'_>,
         store: &mut Store,
     ) -> Result<(Performed, Option<State>), NoMemory>
-        ensures { TakesSegment (λ z. machine.request_segment_taken (context_view context.now) (service_of store.old) (entry_of origin.now z)
+        ensures { TakesSegment (λ z. machine.request_segment_taken (context_view context.now) (service_of store.old) (entry_of origin.old z)
             received.entry.segment.number self.old.incoming.window
             (takes self.old.incoming received.entry.segment.number received.entry.segment.more received.entry.octets.now))
-            (peer_of context.now) origin.now self.old self.new store.old result store.new }
+            (peer_of context.now) origin.old origin.new self.old self.new store.old result store.new }
     {
         let ReceivedSegment { segment, octets } = received;
         let Ok(step) = self.incoming.answer(segment.number, segment.more, octets) else {
@@ -112,12 +143,14 @@ impl Reassembly {
             return Ok((Performed::sends(sends), Some(State::Dropped)));
         };
         if let Step::Whole = step {
+            let (prepared, first) = self.take_last(alloc, context, origin.terms, received, store)?;
             let PreparedReply {
                 state,
                 sends,
                 commit: change,
-            } = self.take_last(alloc, context, origin.terms, received, store)?;
+            } = prepared;
             let effect = commit(change, store);
+            origin.first = first;
             return Ok((Performed { sends, effect }, Some(state)));
         }
         let (window, taken) = (self.incoming.window(), self.incoming.taken());
@@ -137,13 +170,13 @@ impl Reassembly {
         &mut self,
         alloc: Global,
         context: &Context,
-        origin: &Origin,
+        origin: &mut Origin,
         received: ReceivedSegment<'_>,
         store: &mut Store,
     ) -> Result<(Performed, Option<State>), NoMemory>
-        ensures { TakesSegment (λ z. machine.segmented_request_on_segment (context_view context.now) (service_of store.old) (entry_of origin.now z)
+        ensures { TakesSegment (λ z. machine.segmented_request_on_segment (context_view context.now) (service_of store.old) (entry_of origin.old z)
             self.old.incoming self.old.since (segment_view received.entry.segment) received.entry.octets.now)
-            (peer_of context.now) origin.now self.old self.new store.old result store.new }
+            (peer_of context.now) origin.old origin.new self.old self.new store.old result store.new }
     {
         if context.moment.saturating_sub(self.since) >= T_WAIT_FOR_SEG {
             let sends = only_abort(alloc, context, true, OTHER)?;
@@ -158,22 +191,25 @@ impl Reassembly {
         &mut self,
         alloc: Global,
         context: &Context,
-        origin: &Origin,
+        origin: &mut Origin,
         apdu: &Apdu<'_>,
         store: &mut Store,
     ) -> Result<(Performed, Option<State>), NoMemory>
-        ensures { Receives (machine.segmented_request_on_apdu (context_view context.now) (service_of store.old) (entry_of origin.now (reassembly_state self.old))
-            self.old.incoming self.old.since (apdu_view apdu.now)) (peer_of context.now) origin.now self.old self.new store.old result store.new }
+        ensures { Receives (machine.segmented_request_on_apdu (context_view context.now) (service_of store.old) (entry_of origin.old (reassembly_state self.old))
+            self.old.incoming self.old.since (apdu_view apdu.now)) (peer_of context.now) origin.old origin.new self.old self.new store.old result store.new }
     {
         match *apdu {
             Apdu::ConfirmedRequest {
-                segment: Some(segment),
+                segment,
                 service: octets,
                 ..
-            } => {
-                let received = ReceivedSegment { segment, octets };
-                self.on_segment(alloc, context, origin, received, store)
-            }
+            } => match segment {
+                Some(segment) => {
+                    let received = ReceivedSegment { segment, octets };
+                    self.on_segment(alloc, context, origin, received, store)
+                }
+                None => Ok((Performed::nothing(alloc), None)),
+            },
             // AbortPDU_Received; own: the entry is remembered
             Apdu::Abort { server: false, .. } => {
                 Ok((Performed::nothing(alloc), Some(State::Dropped)))

@@ -19,12 +19,14 @@ pub(crate) struct Terms {
     pub(crate) limits: Limits,
 }
 
-/// What of an entry never changes: when it began, and what its request says, with its service data where it came without SEG.
+/// What an entry keeps of its request: when it began, and what the request says, with its service data where it came without SEG. Once one that came in
+/// segments is whole, its first piece is kept, where no other piece has that number.
 #[derive(Drop)]
 pub(crate) struct Origin {
     pub(crate) begin: u64,
     pub(crate) terms: Terms,
     pub(crate) request: Option<Vec<u8>>,
+    pub(crate) first: Option<Vec<u8>>,
 }
 
 /// A request that is received in segments (SEGMENTED_REQUEST, clause 5.4.5.2).

@@ -1,6 +1,6 @@
 -- The examples are computed.
 use Rattle.std.proofs.Common.{refl}
-use Rattle.bac_reuse.specs.Examples.{WritesAreOnce, ReadsAreFresh, OneInvokeId, ReadsThatWrite}
+use Rattle.bac_reuse.specs.Examples.{WritesAreOnce, ReadsAreFresh, OneInvokeId, PiecesAreOnce, ReadsThatWrite}
 
 pub writes_are_once : WritesAreOnce
 writes_are_once = refl
@@ -10,6 +10,9 @@ reads_are_fresh = refl
 
 pub one_invoke_id : OneInvokeId
 one_invoke_id = refl
+
+pub pieces_are_once : PiecesAreOnce
+pieces_are_once = record { first = refl; another = refl; repeated = refl }
 
 pub reads_that_write : ReadsThatWrite
 reads_that_write = refl

@@ -1,13 +1,13 @@
 -- What a server that lets invoke IDs be used again makes of an APDU of the newest ask, beside what one makes that does not.
-use Rattle.std.proofs.Common.{◌≡◌, ℕ, ◌+◌, ◌-◌, ◌<◌, ◌⊎◌, Bool, true, false, ◌&&◌, not, List, [], ◌∷◌, Option, Some, None, if◌then◌else◌}
+use Rattle.std.proofs.Common.{◌≡◌, ℕ, ◌+◌, ◌-◌, ◌<◌, ◌≤◌, ◌⊎◌, Bool, true, false, ◌&&◌, not, List, [], ◌∷◌, length, Option, Some, None, if◌then◌else◌}
 use Rattle.std.proofs.Common.{nat_eq, nat_le, refl, ap, sym, subst, inl, inr, ◌∙◌, arith}
 use Rattle.std.specs.Prelude.{is_some}
 use Rattle.std.specs.Str.{bytes_eq}
 use Rattle.std.proofs.lemmas.Bool.Decides.{nat_tests}
 use Rattle.std.proofs.lemmas.Slice.Eq.{bytes_eq-Decides}
-use Rattle.bac_apdu.specs.Apdu.{Apdu}
+use Rattle.bac_apdu.specs.Apdu.{Apdu, Segment}
 use Rattle.bac_apdu.specs.Apdu.Apdu.{ConfirmedRequest, UnconfirmedRequest, SimpleAck, ComplexAck, SegmentAck, Error, Reject, Abort}
-use Rattle.bac_segment.specs.Pieces.{join}
+use Rattle.bac_segment.specs.Pieces.{join, piece_at}
 use Rattle.bac_segment.specs.Window.{Outgoing, Taking, acknowledged, again, incoming, is_finished, resume, takes}
 use Rattle.bac_protocol.specs.declared.times.TheConstants.{KEEP, T_SEG}
 use Rattle.bac_protocol.specs.Context.{Context}
@@ -15,14 +15,16 @@ use Rattle.bac_protocol.specs.Service.{OTHER, Octets, Outcome, Reply as reply}
 use Rattle.bac_protocol.specs.Service.Outcome.{Replies, Rejects}
 use Rattle.bac_protocol.specs.Sizes.{Way, reply_way_of}
 use Rattle.bac_protocol.specs.Sizes.Way.{InOne, InSegments, Refused}
+use Rattle.bac_protocol.specs.Claims.{IsPieceOf}
 use Rattle.bac_protocol.specs.Client.{Ask}
 use Rattle.bac_protocol.specs.Server as server
 use Rattle.bac_protocol.specs.Server.{Effect, Reaction, ServerTransaction, Service, State, Transfer, is_kept, is_live, is_none_live, server_on_apdu, server_ticks}
 use Rattle.bac_protocol.specs.Server.State.{Done, SegmentedResponse, Dropped}
 use Rattle.bac_protocol.specs.Server.Transfer.{Running, Stopped, Finished}
-use Rattle.bac_protocol.specs.Reuse.{Reads, idle_on_read, idle_reusing, is_ended_by, is_transfer_over, left_on_apdu, reusing_on_apdu}
+use Rattle.bac_protocol.specs.Reuse.{Reads, idle_on_read, idle_reusing, is_ended_by, is_other_first, is_transfer_over, left_on_apdu, reusing_on_apdu}
 use Rattle.bac_protocol.specs.Steps.{IsSegmentedRequest, MayPerform, StateStays, StaysIn}
 use Rattle.bac_protocol.proofs.Reused.{goes_on_as_ever, goes_on_where}
+use Rattle.bac_protocol.proofs.Sound.{FirstFits}
 use Rattle.bac_protocol.proofs.Served.{effects_are_kept, live_stays_law}
 
 -- What an APDU of an ask is.
@@ -30,7 +32,7 @@ use Rattle.bac_protocol.proofs.Served.{effects_are_kept, live_stays_law}
 -- a request is of that ask
 abbrev pub IsRequestOf : Ask → Apdu → Type 0
 IsRequestOf ask (ConfirmedRequest limits id None choice octets) = (ask.whole ≡ true) × (choice ≡ ask.choice) × (octets ≡ join ask.pieces)
-IsRequestOf ask (ConfirmedRequest limits id (Some segment) choice octets) = (ask.whole ≡ false) × (choice ≡ ask.choice)
+IsRequestOf ask (ConfirmedRequest limits id (Some segment) choice octets) = (ask.whole ≡ false) × (choice ≡ ask.choice) × IsPieceOf ask.pieces segment octets
 IsRequestOf ask _ = Unit {0}
 
 -- an Abort of a client
@@ -119,7 +121,7 @@ module _ (c : Context) (service : Service) where
     taken_for e h number window (Taking.Taken true inc) = record { request = h.request; choice = h.choice }
     taken_for e h number window (Taking.Taken false inc) = record { request = h.request; choice = h.choice }
     taken_for e h number window (Taking.Whole parts) =
-        performs_for e h (server.server_ack c false number window ∷ []) (join parts) (service e.choice (join parts))
+        performs_for (server.keeps_first parts e) (record { request = h.request; choice = h.choice }) (server.server_ack c false number window ∷ []) (join parts) (service e.choice (join parts))
     taken_for e h number window (Taking.Nak inc) = record { request = h.request; choice = h.choice }
     taken_for e h number window Taking.TooLong = record { request = h.request; choice = h.choice }
 
@@ -185,21 +187,41 @@ module _ (c : Context) (service : Service) where
           let test : nat_eq choice e.choice ≡ true = grind (arith, nat_tests) in
           ap (λ y. is_kept e y choice octets) request ∙ ap (λ b. b && bytes_eq octets octets) test ∙ (bytes_eq-Decides octets octets).1 refl
 
-      pub live_same : (e : ServerTransaction) (free : Bool) → is_live c.now e ≡ true → IsFor ask e → (a : Apdu) → IsRequestOf ask a
+      -- a segment 0 is the first piece of the ask's request, where the entry keeps that
+      first_is : (e : ServerTransaction) → FirstFits ask e.first → IsFor ask e → (choice : ℕ) (segment : Segment) (octets : Octets) → ask.whole ≡ false
+          → choice ≡ ask.choice → IsPieceOf ask.pieces segment octets → segment.number ≡ 0 → is_other_first e e.first choice octets ≡ false
+      first_is e (inl none) is choice segment octets whole chosen piece zero =
+          ap (λ (y : Option Octets). is_other_first e y choice octets) none
+          ∙ ap is_some (is.request ∙ ap (λ b. if b then Some (join ask.pieces) else None) whole)
+      first_is e (inr first) is choice segment octets whole chosen piece zero =
+          ap (λ (y : Option Octets). is_other_first e y choice octets) first ∙ go (nat_le (length ask.pieces) 256) refl
+        where
+          go : (b : Bool) → nat_le (length ask.pieces) 256 ≡ b → is_other_first e (if b then Some (piece_at ask.pieces 0) else None) choice octets ≡ false
+          go false many = ap is_some (is.request ∙ ap (λ b. if b then Some (join ask.pieces) else None) whole)
+          go true few =
+              let small : length ask.pieces ≤ 256 = grind (arith, nat_tests) in
+              let within = piece.1.within in
+              let number = piece.1.number_is in
+              let start : piece.0 ≡ 0 = omega (arith, within, number, zero, small) in
+              let same : octets ≡ piece_at ask.pieces 0 = piece.1.octets_is ∙ ap (λ (n : ℕ). piece_at ask.pieces n) start in
+              let equal : choice ≡ e.choice = chosen ∙ sym is.choice in
+              let test : nat_eq choice e.choice ≡ true = grind (arith, nat_tests) in
+              ap (λ b. not (b && bytes_eq octets (piece_at ask.pieces 0))) test ∙ ap not ((bytes_eq-Decides octets (piece_at ask.pieces 0)).1 same)
+
+      pub live_same : (e : ServerTransaction) (free : Bool) → is_live c.now e ≡ true → FirstFits ask e.first → IsFor ask e → (a : Apdu) → IsRequestOf ask a
           → reusing_on_apdu c service reads (Some e) free a ≡ server_on_apdu c service (Some e) free a
-      live_same e free live is (ConfirmedRequest limits id None choice octets) of =
+      live_same e free live first is (ConfirmedRequest limits id None choice octets) of =
           goes_on_as_ever.kept c service reads e free limits id choice octets live (ap reads of.1 ∙ not_read of.0) (kept_is e is choice octets of.0 of.1 of.2)
-      live_same e free live is (ConfirmedRequest limits id (Some segment) choice octets) of =
-          goes_on_as_ever.segments c service reads e free limits id choice segment octets live
-          (is.request ∙ ap (λ b. if b then Some (join ask.pieces) else None) of.0)
-      live_same e free live is (UnconfirmedRequest choice octets) of = goes_on_where c service reads e free live (UnconfirmedRequest choice octets) refl
-      live_same e free live is (SimpleAck id choice) of = goes_on_where c service reads e free live (SimpleAck id choice) refl
-      live_same e free live is (ComplexAck id segment choice octets) of =
+      live_same e free live first is (ConfirmedRequest limits id (Some segment) choice octets) of =
+          goes_on_as_ever.segments c service reads e free limits id choice segment octets live (first_is e first is choice segment octets of.0 of.1 of.2)
+      live_same e free live first is (UnconfirmedRequest choice octets) of = goes_on_where c service reads e free live (UnconfirmedRequest choice octets) refl
+      live_same e free live first is (SimpleAck id choice) of = goes_on_where c service reads e free live (SimpleAck id choice) refl
+      live_same e free live first is (ComplexAck id segment choice octets) of =
           goes_on_where c service reads e free live (ComplexAck id segment choice octets) refl
-      live_same e free live is (SegmentAck up id ack) of = goes_on_where c service reads e free live (SegmentAck up id ack) refl
-      live_same e free live is (Error id choice class code) of = goes_on_where c service reads e free live (Error id choice class code) refl
-      live_same e free live is (Reject id reason) of = goes_on_where c service reads e free live (Reject id reason) refl
-      live_same e free live is (Abort up id reason) of = goes_on_where c service reads e free live (Abort up id reason) refl
+      live_same e free live first is (SegmentAck up id ack) of = goes_on_where c service reads e free live (SegmentAck up id ack) refl
+      live_same e free live first is (Error id choice class code) of = goes_on_where c service reads e free live (Error id choice class code) refl
+      live_same e free live first is (Reject id reason) of = goes_on_where c service reads e free live (Reject id reason) refl
+      live_same e free live first is (Abort up id reason) of = goes_on_where c service reads e free live (Abort up id reason) refl
 
     pub live_for : (e : ServerTransaction) (free : Bool) → is_live c.now e ≡ true → IsFor ask e → (a : Apdu)
         → EntryIs (IsFor ask) (server_on_apdu c service (Some e) free a).entry

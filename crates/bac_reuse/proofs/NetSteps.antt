@@ -35,7 +35,7 @@ use Rattle.bac_protocol.proofs.Nets.{net_server_restarted, net_starts, room_open
 use Rattle.bac_protocol.proofs.Paces.{since_now, within_most}
 use Rattle.bac_protocol.proofs.Served.{BeginIs}
 use Rattle.bac_protocol.proofs.ServerKeeps.{server_gets_kept, server_ticks_kept}
-use Rattle.bac_protocol.proofs.Sound.{Down, IsBegunFor, IsPastFor, IsSound, Says, ServerFits, Sound, Up}
+use Rattle.bac_protocol.proofs.Sound.{Down, FirstFits, IsBegunFor, IsPastFor, IsSound, Says, ServerFits, Sound, Up}
 use Rattle.bac_protocol.proofs.StrangerTables.{Away, AwayIn, away_after, away_asked, away_client_restarted, away_ended, away_later, away_more, away_performed}
 use Rattle.bac_protocol.proofs.StrangerTables.{away_server_restarted, away_starts, right_after, right_asked}
 
@@ -276,6 +276,10 @@ module _ (W : ℕ) (x : Rules) (bound : IsBounded W x) where
         go (inl past) = let dead = past.dead in absurd (grind (arith, nat_tests))
         go (inr begun) = begun
 
+    -- so it keeps no piece, or the first one of the ask's request
+    pub entry_first : (e : ServerTransaction) → n.entries key ≡ Some e → is_live (server_now n key) e ≡ true → FirstFits t.ask e.first
+    entry_first e is live = (begun_at e is live).2.first
+
     pub entry_in_time : (e : ServerTransaction) → n.entries key ≡ Some e → is_live (server_now n key) e ≡ true → IsInTime n key
     entry_in_time e is live = record { late = late; lost = lost }
       where
@@ -426,6 +430,7 @@ module _ (W : ℕ) (x : Rules) (bound : IsBounded W x) where
               go (inr begun) = inr (record {
                 begun = record { began = n.now; after = q.clock.on; before = again.4.soon; since = now_since };
                 choice = begun.choice;
+                first = begun.first;
                 state = begun.state;
               })
 

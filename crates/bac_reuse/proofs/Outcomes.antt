@@ -14,6 +14,7 @@ use Rattle.bac_protocol.specs.Server.Transfer.{Running}
 use Rattle.bac_protocol.specs.Reuse.{idle_on_read, is_over, is_transfer_over, reusing_on_apdu, server_hears}
 use Rattle.bac_protocol.specs.Transaction.{Key}
 use Rattle.bac_protocol.proofs.Reused.{goes_on_where}
+use Rattle.bac_protocol.proofs.Sound.{FirstFits}
 use Rattle.bac_reuse.specs.Runs.{Reusing}
 use Rattle.bac_reuse.proofs.Beside.{AreGone, FitOf, Holds, IsFresh, IsLeftOf, fresh_is, is_fresh, not_fresh}
 use Rattle.bac_reuse.proofs.FreshReads.{BeginsNow, BeginsRead, GoesAlone, IsFreshRead, alone_none, alone_some, going_read, idle_reads, read_goes}
@@ -106,16 +107,16 @@ module _ (c : Context) (service : Service) (u : Reusing) (key : Key) (ask : Ask)
       go (inr h) = inr (inl (gone, (h.0, ours ∙ h.1, theirs ∙ h.2)))
 
   -- An entry counts, and the ask is no fresh read.
-  live_old : is_fresh u key ask ≡ false → (a : Apdu) → IsRequestOf ask a → (e : ServerTransaction) → is_live c.now e ≡ true → IsFor ask e
+  live_old : is_fresh u key ask ≡ false → (a : Apdu) → IsRequestOf ask a → (e : ServerTransaction) → is_live c.now e ≡ true → FirstFits ask e.first → IsFor ask e
       → OutcomeOf false a (Some e) (Some e)
-  live_old old a is e live for = inl (by (not_fresh u key ask old), live_for c service ask e room live for a)
+  live_old old a is e live first for = inl (by (not_fresh u key ask old), live_for c service ask e room live for a)
     where
       by : (u.reuses key.server ≡ false) ⊎ ((u.reads ask.choice ≡ false) ⊎ (ask.whole ≡ false)) → ours_does a (Some e) ≡ theirs_does a (Some e)
       by (inl off) = ap (λ b. server_hears b c service u.reads (Some e) room a) off
       by (inr old) = so (u.reuses key.server)
         where
           so : (b : Bool) → server_hears b c service u.reads (Some e) room a ≡ theirs_does a (Some e)
-          so true = live_same c service ask u.reads old e room live for a is
+          so true = live_same c service ask u.reads old e room live first for a is
           so false = refl
 
   -- A fresh read.
@@ -275,17 +276,22 @@ module _ (c : Context) (service : Service) (u : Reusing) (key : Key) (ask : Ask)
   gone_goes true fresh a is o p gone = gone_fresh (fresh_is u key ask fresh) o p gone a is
   gone_goes false old a is o p gone = gone_old old a is o p gone
 
-  live_goes : (b : Bool) → is_fresh u key ask ≡ b → (a : Apdu) → IsRequestOf ask a → (e : ServerTransaction) → is_live c.now e ≡ true → Holds b idle ask e
-      → OutcomeOf b a (Some e) (Some e)
-  live_goes true fresh a is e live h = live_fresh (fresh_is u key ask fresh) e live h.0 h.1 a is
-  live_goes false old a is e live h = live_old old a is e live h
+  live_goes : (b : Bool) → is_fresh u key ask ≡ b → (a : Apdu) → IsRequestOf ask a → (e : ServerTransaction) → is_live c.now e ≡ true → FirstFits ask e.first
+      → Holds b idle ask e → OutcomeOf b a (Some e) (Some e)
+  live_goes true fresh a is e live first h = live_fresh (fresh_is u key ask fresh) e live h.0 h.1 a is
+  live_goes false old a is e live first h = live_old old a is e live first h
 
-  same_goes : (b : Bool) → is_fresh u key ask ≡ b → (a : Apdu) → IsRequestOf ask a → (p : Option ServerTransaction) → EntryIs (Holds b idle ask) p → OutcomeOf b a p p
-  same_goes b fresh a is None h = absurd h
-  same_goes b fresh a is (Some e) h = go (is_live c.now e) refl
+  -- an entry that counts keeps no piece, or the first one of the ask's request
+  abbrev FirstsFit : Option ServerTransaction → Type 0
+  FirstsFit p = (e : ServerTransaction) → p ≡ Some e → is_live c.now e ≡ true → FirstFits ask e.first
+
+  same_goes : (b : Bool) → is_fresh u key ask ≡ b → (a : Apdu) → IsRequestOf ask a → (p : Option ServerTransaction) → FirstsFit p → EntryIs (Holds b idle ask) p
+      → OutcomeOf b a p p
+  same_goes b fresh a is None firsts h = absurd h
+  same_goes b fresh a is (Some e) firsts h = go (is_live c.now e) refl
     where
       go : (z : Bool) → is_live c.now e ≡ z → OutcomeOf b a (Some e) (Some e)
-      go true live = live_goes b fresh a is e live h
+      go true live = live_goes b fresh a is e live (firsts e refl live) h
       go false dead = gone_goes b fresh a is (Some e) (Some e) (dead_now e dead, dead_now e dead)
 
   left_gone : (e : ServerTransaction) → e.begin + KEEP < c.now → (o : Option ServerTransaction) → IsLeftOf e o → IsGone c.now o
@@ -301,7 +307,8 @@ module _ (c : Context) (service : Service) (u : Reusing) (key : Key) (ask : Ask)
       go true live = subst (λ y. OutcomeOf y a o (Some e)) (sym is_true) (apart_fresh (fresh_is u key ask (fresh ∙ is_true)) over e live o left a is)
       go false dead = gone_goes b fresh a is o (Some e) (left_gone e (dead_now e dead) o left, dead_now e dead)
 
-  pub outcome : (b : Bool) → is_fresh u key ask ≡ b → (a : Apdu) → IsRequestOf ask a → (o p : Option ServerTransaction) → FitOf c.now b idle ask o p → OutcomeOf b a o p
-  outcome b fresh a is o p (inl gone) = gone_goes b fresh a is o p gone
-  outcome b fresh a is o p (inr (inl h)) = subst (λ (q : Option ServerTransaction). OutcomeOf b a q p) (sym h.0) (same_goes b fresh a is p h.1)
-  outcome b fresh a is o p (inr (inr h)) = apart_goes b fresh h.0 h.1 a is o p h.2
+  pub outcome : (b : Bool) → is_fresh u key ask ≡ b → (a : Apdu) → IsRequestOf ask a → (o p : Option ServerTransaction) → FirstsFit p → FitOf c.now b idle ask o p
+      → OutcomeOf b a o p
+  outcome b fresh a is o p firsts (inl gone) = gone_goes b fresh a is o p gone
+  outcome b fresh a is o p firsts (inr (inl h)) = subst (λ (q : Option ServerTransaction). OutcomeOf b a q p) (sym h.0) (same_goes b fresh a is p firsts h.1)
+  outcome b fresh a is o p firsts (inr (inr h)) = apart_goes b fresh h.0 h.1 a is o p h.2

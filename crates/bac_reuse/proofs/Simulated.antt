@@ -27,6 +27,7 @@ use Rattle.bac_protocol.proofs.Facts.{all_map, grows_same}
 use Rattle.bac_protocol.proofs.Headline.{asked_once, net_log}
 use Rattle.bac_protocol.proofs.Keys.{decide_key, set_other, set_same}
 use Rattle.bac_protocol.proofs.Nets.{room_opens, sound_at}
+use Rattle.bac_protocol.proofs.Claimed.{piece_up_of}
 use Rattle.bac_protocol.proofs.Own.{server_sends_own}
 use Rattle.bac_protocol.proofs.Served.{ticks_quiet}
 use Rattle.bac_protocol.proofs.Sound.{ClientFits, Down, DownFits, IsBegunFor, IsPastFor, Says, SendsDown, ServerFits, Sound, StateFits, Up}
@@ -40,14 +41,15 @@ use Rattle.bac_reuse.proofs.Clients.{AbortsIf}
 use Rattle.bac_reuse.proofs.FreshReads.{IsFromServer, IsOfRead, all_from_server, given_from_server, giving_own}
 use Rattle.bac_reuse.proofs.Machine.{EntryIs, GoesOnFrom, IsClientAbort, IsGiving, IsGone, IsRequestOf, OverBy, OverIf, gone_ticks, ticks_for, ticks_gives, ticks_over}
 use Rattle.bac_reuse.proofs.Outcomes.{GivesOn, GoesApart, HoldsOn, Outcome, ReadsFresh, outcome}
-use Rattle.bac_reuse.proofs.NetSteps.{IsInTime, IsSoon, Stands, aborts, copy_is_soon, entry_gets, entry_in_time, entry_ticks, server_aborts}
+use Rattle.bac_reuse.proofs.NetSteps.{IsInTime, IsSoon, Stands, aborts, copy_is_soon, entry_first, entry_gets, entry_in_time, entry_ticks, server_aborts}
 use Rattle.bac_reuse.proofs.NetSteps.{soon_in_time}
 
 -- what comes of the transaction is of its ask
 pub says_of : (W : ℕ) (times : Moments) (number : ℕ) (ask : Ask) (log : List Fact) (up : Up) (down : Down) (moment k : ℕ) (a : Apdu)
     → Says W times number ask log up down moment k a → IsRequestOf ask a
 says_of W times number ask log up down moment k (ConfirmedRequest limits id None choice octets) s = (s.1, s.2, s.3)
-says_of W times number ask log up down moment k (ConfirmedRequest limits id (Some segment) choice octets) s = (s.1, s.2)
+says_of W times number ask log up down moment k (ConfirmedRequest limits id (Some segment) choice octets) s =
+    (s.1, s.2, piece_up_of W k ask up segment octets s.3)
 says_of W times number ask log up down moment k (UnconfirmedRequest choice octets) s = tt
 says_of W times number ask log up down moment k (SimpleAck id choice) s = tt
 says_of W times number ask log up down moment k (ComplexAck id segment choice octets) s = tt
@@ -481,7 +483,7 @@ module _ (W : ℕ) (x : Rules) (bound : IsBounded W x) (u : Reusing) where
 
       pub copy_comes : IsFollowed (server_acts (over n g) key ours)
       copy_comes = go (outcome told service u key t.ask (is_idle t.phase) (is_room n key free) (is_fresh u key t.ask) refl p.apdu of_ask
-          (g.entries key) (n.entries key) fit_at)
+          (g.entries key) (n.entries key) (entry_first W x bound n s key t at) fit_at)
         where
           go : Outcome told service (is_fresh u key t.ask) (is_idle t.phase) t.ask (is_room n key free) p.apdu (g.entries key) (n.entries key) ours theirs
               → Goes ours

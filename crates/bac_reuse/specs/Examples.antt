@@ -1,5 +1,5 @@
 -- Runs that are computed, in which node 1 lets invoke IDs be used again. A store counts its writes, a reply tells how many there were, and choice 12 is a read.
-use Rattle.std.specs.Prelude.{◌≡◌, ℕ, suc, true, false, List, [], ◌∷◌, None, nat_eq, if◌then◌else◌}
+use Rattle.std.specs.Prelude.{◌≡◌, ℕ, suc, Bool, true, false, List, [], ◌∷◌, ◌++◌, Option, Some, None, nat_eq, if◌then◌else◌}
 use Rattle.bac_apdu.specs.Apdu.{Apdu}
 use Rattle.bac_apdu.specs.Apdu.Apdu.{ConfirmedRequest, ComplexAck}
 use Rattle.bac_protocol.specs.Service.{Octets, Request, Reply}
@@ -8,7 +8,9 @@ use Rattle.bac_protocol.specs.Service.Outcome.{Replies}
 use Rattle.bac_protocol.specs.Service.Ending.{Answered}
 use Rattle.bac_protocol.specs.Log.{StoreModel}
 use Rattle.bac_protocol.specs.Log.Fact.{Asked, Performed, Ended}
-use Rattle.bac_protocol.specs.Transaction.{Key}
+use Rattle.bac_protocol.specs.Reuse.{reusing_on_apdu}
+use Rattle.bac_protocol.specs.Server.{Effect, Reaction, ServerTransaction}
+use Rattle.bac_protocol.specs.Transaction.{Key, server_context}
 use Rattle.bac_protocol.specs.Pace.{one_clock}
 use Rattle.bac_protocol.specs.World.{Event, start}
 use Rattle.bac_protocol.specs.World.Event.{MakeAsk, Deliver, Tick}
@@ -107,6 +109,31 @@ OneInvokeId =
           ∷ Ended 0 (Answered (tells 0)) ∷ Performed 0 (write on) (tells 0) ∷ Asked 0 0 1 (write on) ∷ [];
       effects = 2;
     }
+
+-- A request in two segments, which the client sends and the server takes, with these octets in its first segment and its last.
+
+-- whether more follow, and a number
+abbrev pub piece : (more : Bool) → ℕ → Octets → Apdu
+piece more number octets = ConfirmedRequest (limits true 7) 0 (Some (record { more = more; number = number; window = 32 })) 7 octets
+
+-- node 1, with that entry, hears both segments in turn: what is performed then, and its entry
+abbrev pub hears_pieces : Option ServerTransaction → (first last : Octets) → Reaction
+hears_pieces entry first last =
+    reusing_on_apdu (server_context (rules 32) (from 0) 0) (counting.outcome 0) reusing.reads
+    (reusing_on_apdu (server_context (rules 32) (from 0) 0) (counting.outcome 0) reusing.reads entry true (piece true 0 first)).entry true (piece false 1 last)
+
+abbrev pub performs_pieces : Option ServerTransaction → (first last : Octets) → Option Effect
+performs_pieces entry first last = (hears_pieces entry first last).effect
+
+-- the entry that a request in segments leaves, each a write
+abbrev pub left_by : (first last : Octets) → Option ServerTransaction
+left_by first last = (hears_pieces None first last).entry
+
+-- Two writes in segments under one invoke ID are both performed, where their first segments differ; a repeat is not.
+pub record PiecesAreOnce : Type 0 where
+  pub first : performs_pieces None on off ≡ Some (record { request = write (on ++ off); reply = tells 0 })
+  pub another : performs_pieces (left_by on off) off on ≡ Some (record { request = write (off ++ on); reply = tells 0 })
+  pub repeated : performs_pieces (left_by on off) on off ≡ None
 
 -- Beyond: where what is called a read changes its store, its ask takes effect each time that its request comes.
 abbrev pub careless : StoreModel ℕ

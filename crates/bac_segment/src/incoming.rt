@@ -3,7 +3,7 @@ ghost use Rattle.std.specs.Prelude.{◌≡◌, ◌+◌, ◌<◌, ◌≤◌, ◌�
 ghost use Rattle.bac_value.specs.Octets.{IsBytes};
 ghost use Rattle.bac_value.specs.Views.{parts_view};
 ghost use Rattle.bac_segment.specs.Answers.{Takes, answer_of};
-ghost use Rattle.bac_segment.specs.Pieces.{join};
+ghost use Rattle.bac_segment.specs.Pieces.{join, piece_at};
 ghost use Rattle.bac_segment.specs.Window.{incoming, takes, taken_back};
 
 use crate::chunks::{append, cut_back, same_octets};
@@ -104,6 +104,18 @@ impl Incoming {
         let len = parts.len();
         prove!(len == self.total);
         parts
+    }
+
+    /// The octets of the first segment; none if no segment was taken. The call passes over the vectors once.
+    pub fn first(&self) -> Parts<'_>
+        ensures { parts_view result ≡ piece_at self.now.parts 0 }
+    {
+        let all = self.parts();
+        let len = match self.lengths.first() {
+            Some(len) => *len as usize,
+            None => 0,
+        };
+        all.front(len)
     }
 
     /// The actual window size: the lesser of the proposed one and that of this node.

@@ -81,7 +81,7 @@ module _ (c : Context) (service : Service) where
   taken_other : (e : ServerTransaction) (number window : ℕ) (t : Taking) → (server.request_segment_taken c service e number window t).sends ≡ refusal → ⊥
   taken_other e number window (Taking.Taken true inc) is = absurd cc
   taken_other e number window (Taking.Taken false inc) is = absurd cc
-  taken_other e number window (Taking.Whole parts) is = after_ack e number window (join parts) (service e.choice (join parts)) is
+  taken_other e number window (Taking.Whole parts) is = after_ack (server.keeps_first parts e) number window (join parts) (service e.choice (join parts)) is
   taken_other e number window (Taking.Nak inc) is = absurd cc
   taken_other e number window Taking.TooLong is = let r : ◌≡◌ {A = ℕ} 1 0 = cc in absurd (omega (arith, r))
 

@@ -115,7 +115,7 @@ KEPT =
     record {
       key = key 2 7;
       begin = 0;
-      value = record { begin = 0; choice = 15; limits = LIMITS; request = Some SERVICE_DATA; state = server.State.Done (SimpleAck 7 15) };
+      value = record { begin = 0; choice = 15; limits = LIMITS; request = Some SERVICE_DATA; first = None; state = server.State.Done (SimpleAck 7 15) };
     }
 
 abbrev pub servers : ServerEnd

@@ -41,7 +41,7 @@ entry_at now octets =
     record {
       key = key 2 7;
       begin = now;
-      value = record { begin = now; choice = 15; limits = LIMITS; request = Some octets; state = server.State.Done (SimpleAck 7 15) };
+      value = record { begin = now; choice = 15; limits = LIMITS; request = Some octets; first = None; state = server.State.Done (SimpleAck 7 15) };
     }
 
 abbrev pub with_slots : List ServerSlot → ServerEnd
@@ -81,6 +81,7 @@ transfer_entry transfer =
         choice = 12;
         limits = LIMITS;
         request = Some SERVICE_DATA;
+        first = None;
         state = server.State.SegmentedResponse (outgoing ((1 ∷ []) ∷ (2 ∷ []) ∷ [])) transfer 0;
       };
     }

@@ -13,11 +13,11 @@ use Rattle.bac_transaction.specs.Reuse.{is_read}
 use Rattle.bac_transaction.proofs.Entries.{entry_here, entry_there}
 use Rattle.bac_world.proofs.Reused.{heard_left, heard_none}
 use Rattle.bac_world.proofs.Settings.{slots_heard}
-use Rattle.bac_writes.specs.Writes.{IsNoOther}
+use Rattle.bac_writes.specs.Writes.{IsNoOther, KeptOctets}
 use Rattle.bac_writes.proofs.Machine.{IsKeptEntry, Performs, Rests, from_live, hears_rests, live_is, live_until, ticks_kept}
 
 -- the table has it at that key
-pub record HasKept (begin choice : ℕ) (request : Option Octets) (key : PeerKey) (slots : List ServerSlot) : Type 0 where
+pub record HasKept (begin choice : ℕ) (request : KeptOctets) (key : PeerKey) (slots : List ServerSlot) : Type 0 where
   pub entry : ServerTransaction
   pub there : value_at same_key key slots ≡ Some entry
   pub kept : IsKeptEntry begin choice request entry
@@ -52,7 +52,7 @@ module _ (now : ℕ) (reuse : Bool) (c : Settings) (service : Service) (q : Peer
   performs_there segment choice octets p = from_live now (value_at same_key q table) p.entry
       (here ∙ ap (live_entry now) p.entry_is ∙ live_is now p.entry p.live)
 
-  module _ (begin choice : ℕ) (request : Option Octets) (young : now ≤ begin + KEEP) where
+  module _ (begin choice : ℕ) (request : KeptOctets) (young : now ≤ begin + KEEP) where
     alive : (e : ServerTransaction) → IsKeptEntry begin choice request e → is_live now e ≡ true
     alive e k = live_until now e (let b = k.begin_is in omega arith)
 
@@ -83,7 +83,7 @@ module _ (now : ℕ) (reuse : Bool) (c : Settings) (service : Service) (q : Peer
       }
 
 -- A tick.
-pub tick_kept : (begin choice : ℕ) (request : Option Octets) (c : Context) (e : ServerTransaction) → c.now ≤ begin + KEEP → IsKeptEntry begin choice request e
+pub tick_kept : (begin choice : ℕ) (request : KeptOctets) (c : Context) (e : ServerTransaction) → c.now ≤ begin + KEEP → IsKeptEntry begin choice request e
     → IsKeptEntry begin choice request (entry_or e (server_ticks c (Some e)).entry)
 tick_kept begin choice request c e young k =
     let d = ticks_kept begin choice request c e (live_until c.now e (let b = k.begin_is in omega arith)) k in

@@ -1,3 +1,4 @@
+pub mod Firsts
 pub mod Machine
 pub mod Logs
 pub mod Kept

@@ -9,24 +9,25 @@ use Rattle.bac_apdu.specs.Apdu.{Apdu, Limits, Segment}
 use Rattle.bac_apdu.specs.Apdu.Apdu.{ConfirmedRequest}
 use Rattle.bac_protocol.specs.declared.times.TheConstants.{KEEP}
 use Rattle.bac_protocol.specs.Context.{Context}
-use Rattle.bac_protocol.specs.Reuse.{ends_entry, idle_on_read, idle_reusing, is_ended_by, is_over, left_on_apdu, server_hears}
+use Rattle.bac_protocol.specs.Reuse.{ends_entry, idle_on_read, idle_reusing, is_ended_by, is_other_first, is_over, left_on_apdu, server_hears}
 use Rattle.bac_protocol.specs.Server.{Effect, Reaction, ServerTransaction, Service, State, Transfer, idle_on_request, is_kept, is_live, is_none_live, live_entry, server_on_apdu}
 use Rattle.bac_protocol.specs.Server.{server_ticks}
 use Rattle.bac_protocol.specs.Server as server
 use Rattle.bac_protocol.specs.Server.State.{Done, Dropped, SegmentedResponse}
 use Rattle.bac_protocol.specs.Service.{Octets}
 use Rattle.bac_protocol.specs.Steps.{BeginsWith, IsEffect, IsEntryFor, IsSegmentedRequest, KeepsReply, MayPerform, StateStays, StaysIn}
-use Rattle.bac_protocol.proofs.Reused.{goes_on_where}
+use Rattle.bac_protocol.proofs.Reused.{goes_on_where, segment_stays}
 use Rattle.bac_protocol.proofs.Served.{effects_are_kept, live_stays_law}
 use Rattle.bac_transaction.specs.Reuse.{is_read}
 use Rattle.bac_transaction.proofs.ServerTables.{idle_is}
-use Rattle.bac_writes.specs.Writes.{IsNoOther}
+use Rattle.bac_writes.specs.Writes.{IsNoOther, IsNoOtherThan, KeptOctets, kept_by}
+use Rattle.bac_writes.proofs.Firsts.{FirstIn, gets_first, ticks_first}
 
 -- an entry of that beginning, choice and request, which gathers no segments: it keeps a reply, or was given up
-pub record IsKeptEntry (begin choice : ℕ) (request : Option Octets) (e : ServerTransaction) : Type 0 where
+pub record IsKeptEntry (begin choice : ℕ) (request : KeptOctets) (e : ServerTransaction) : Type 0 where
   pub begin_is : e.begin ≡ begin
   pub choice_is : e.choice ≡ choice
-  pub request_is : e.request ≡ request
+  pub request_is : kept_by e ≡ request
   pub gathered : IsSegmentedRequest e.state → ⊥
 
 -- Entries that are live.
@@ -56,25 +57,28 @@ gathers_none (SegmentedResponse out transfer since) (SegmentedResponse next goin
 gathers_none (SegmentedResponse out transfer since) Dropped none stays more = more
 gathers_none Dropped new none stays more = subst IsSegmentedRequest stays more
 
-module _ (begin choice : ℕ) (request : Option Octets) where
+same_kept : (e d : ServerTransaction) → d.request ≡ e.request → d.first ≡ e.first → kept_by d ≡ kept_by e
+same_kept e d request first = λ i. record { request = request i; first = first i }
+
+module _ (begin choice : ℕ) (request : KeptOctets) where
   abbrev pub Kept : ServerTransaction → Type 0
   Kept e = IsKeptEntry begin choice request e
 
-  pub stays_kept : (e : ServerTransaction) (o : Option ServerTransaction) → Kept e → StaysIn e o → (d : ServerTransaction) × (o ≡ Some d) × Kept d
-  stays_kept e None k stays = absurd stays
-  stays_kept e (Some d) k stays = (
+  pub stays_kept : (e : ServerTransaction) (o : Option ServerTransaction) → Kept e → StaysIn e o → FirstIn e o → (d : ServerTransaction) × (o ≡ Some d) × Kept d
+  stays_kept e None k stays one = absurd stays
+  stays_kept e (Some d) k stays one = (
     d,
     refl,
     record {
       begin_is = stays.0.begin ∙ k.begin_is;
       choice_is = stays.0.choice ∙ k.choice_is;
-      request_is = stays.0.request ∙ k.request_is;
+      request_is = same_kept e d stays.0.request one ∙ k.request_is;
       gathered = gathers_none e.state d.state k.gathered stays.1;
     },
   )
 
   pub ticks_kept : (c : Context) (e : ServerTransaction) → is_live c.now e ≡ true → Kept e → (d : ServerTransaction) × ((server_ticks c (Some e)).entry ≡ Some d) × Kept d
-  ticks_kept c e live k = stays_kept e (server_ticks c (Some e)).entry k (live_stays_law.ticks c e live)
+  ticks_kept c e live k = stays_kept e (server_ticks c (Some e)).entry k (live_stays_law.ticks c e live) (ticks_first c e)
 
 -- No APDU that is no other request ends such an entry.
 
@@ -83,35 +87,39 @@ and_false true = refl
 and_false false = refl
 
 module _ (choice : ℕ) where
-  unended_by : (e : ServerTransaction) (request : Option Octets) → e.choice ≡ choice → e.request ≡ request → (a : Apdu) → IsNoOther choice request a
-      → is_ended_by is_read e a ≡ false
-  unended_by e (Some kept) asked is (ConfirmedRequest limits id None c octets) same_as =
+  unended_by : (e : ServerTransaction) (request first : Option Octets) → e.choice ≡ choice → e.request ≡ request → e.first ≡ first → (a : Apdu)
+      → IsNoOtherThan choice request first a → is_ended_by is_read e a ≡ false
+  unended_by e (Some kept) first asked is one (ConfirmedRequest limits id None c octets) same_as =
       let read : is_read c ≡ false = same_as.2 in
       let same : nat_eq c e.choice ≡ true = let eq : c ≡ e.choice = same_as.0 ∙ sym asked in grind (arith, nat_tests) in
       let own : is_kept e e.request c octets ≡ true =
       ap (λ r. is_kept e r c octets) is ∙ ap (λ b. b && bytes_eq octets kept) same ∙ (bytes_eq-Decides octets kept).1 same_as.1 in
       ap (λ b. is_over e.state && (b || not (is_kept e e.request c octets))) read ∙ ap (λ b. is_over e.state && not b) own ∙ and_false (is_over e.state)
-  unended_by e (Some kept) asked is (ConfirmedRequest limits id (Some g) c octets) same_as =
+  unended_by e (Some kept) first asked is one (ConfirmedRequest limits id (Some g) c octets) same_as =
       let later : nat_eq g.number 0 ≡ false = go (nat_eq g.number 0) refl in
-      ap (λ b. is_over e.state && (b && is_some e.request)) later ∙ and_false (is_over e.state)
+      ap (λ b. is_over e.state && (b && is_other_first e e.first c octets)) later ∙ and_false (is_over e.state)
     where
       go : (b : Bool) → nat_eq g.number 0 ≡ b → b ≡ false
       go true eq = absurd (same_as (grind (arith, nat_tests)))
       go false eq = refl
-  unended_by e None asked is (ConfirmedRequest limits id None c octets) same_as = absurd same_as
-  unended_by e None asked is (ConfirmedRequest limits id (Some g) c octets) same_as =
-      ap (λ o. is_over e.state && (nat_eq g.number 0 && is_some o)) is ∙ ap (λ b. is_over e.state && b) (and_false (nat_eq g.number 0))
-      ∙ and_false (is_over e.state)
-  unended_by e request asked is _ same_as = refl
+  unended_by e None first asked is one (ConfirmedRequest limits id None c octets) same_as = absurd same_as
+  unended_by e None None asked is one (ConfirmedRequest limits id (Some g) c octets) same_as =
+      segment_stays is_read e limits id c g octets (λ zero. ap (λ (o : Option Octets). is_other_first e o c octets) one ∙ ap is_some is)
+  unended_by e None (Some piece) asked is one (ConfirmedRequest limits id (Some g) c octets) same_as =
+      segment_stays is_read e limits id c g octets (λ zero.
+      let same : nat_eq c e.choice ≡ true = let eq : c ≡ e.choice = (same_as zero).0 ∙ sym asked in grind (arith, nat_tests) in
+      ap (λ (o : Option Octets). is_other_first e o c octets) one ∙ ap (λ b. not (b && bytes_eq octets piece)) same
+      ∙ ap not ((bytes_eq-Decides octets piece).1 (same_as zero).1))
+  unended_by e request first asked is one _ same_as = refl
 
   -- what a server that keeps such an entry makes of an APDU that is no other request
-  pub record Rests (begin : ℕ) (request : Option Octets) (v : Reaction) : Type 0 where
+  pub record Rests (begin : ℕ) (request : KeptOctets) (v : Reaction) : Type 0 where
     pub effect : v.effect ≡ None
     pub entry : ServerTransaction
     pub entry_is : v.entry ≡ Some entry
     pub kept : IsKeptEntry begin choice request entry
 
-  module _ (c : Context) (service : Service) (free : Bool) (begin : ℕ) (request : Option Octets) (e : ServerTransaction)
+  module _ (c : Context) (service : Service) (free : Bool) (begin : ℕ) (request : KeptOctets) (e : ServerTransaction)
       (live : is_live c.now e ≡ true) (k : IsKeptEntry begin choice request e) (a : Apdu) where
     abbrev goes : Reaction
     goes = server_on_apdu c service (Some e) free a
@@ -126,13 +134,14 @@ module _ (choice : ℕ) where
 
     goes_rests : Rests begin request goes
     goes_rests =
-        let d = stays_kept begin choice request e goes.entry k (live_stays_law.gets c service e free a live) in
+        let d = stays_kept begin choice request e goes.entry k (live_stays_law.gets c service e free a live) (gets_first c service e free a live k.gathered) in
         record { effect = performs_none goes.effect refl; entry = d.0; entry_is = d.1; kept = d.2 }
 
     pub hears_rests : (reuse : Bool) → IsNoOther choice request a → Rests begin request (server_hears reuse c service is_read (Some e) free a)
     hears_rests false same_as = goes_rests
     hears_rests true same_as = subst (λ (v : Reaction). Rests begin request v)
-        (sym (goes_on_where c service is_read e free live a (unended_by e request k.choice_is k.request_is a same_as))) goes_rests
+        (sym (goes_on_where c service is_read e free live a (unended_by e request.request request.first k.choice_is (ap (λ (r : KeptOctets). r.request) k.request_is)
+        (ap (λ (r : KeptOctets). r.first) k.request_is) a same_as))) goes_rests
 
 -- A write that is performed.
 

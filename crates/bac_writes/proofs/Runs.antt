@@ -31,7 +31,7 @@ use Rattle.bac_world.proofs.Headline.{fresh_over, rules_bounded, rules_of, run_o
 use Rattle.bac_world.proofs.Heard.{IsHeardIn, IsHeardInBy, heard_in}
 use Rattle.bac_world.proofs.Settings.{end_heard}
 use Rattle.bac_world.proofs.Steps.{Over}
-use Rattle.bac_writes.specs.Writes.{AddsNothingFor, HearsNoOther, KeepsWrite, PerformsWrite, WritesActOnce}
+use Rattle.bac_writes.specs.Writes.{AddsNothingFor, HearsNoOther, KeepsWrite, KeptOctets, PerformsWrite, WritesActOnce, kept_by}
 use Rattle.bac_writes.proofs.Kept.{heard, performs_there}
 use Rattle.bac_writes.proofs.Logs.{adds_none, adds_then}
 use Rattle.bac_writes.proofs.Machine.{IsBegunBy, Performs, hears_performs}
@@ -48,7 +48,7 @@ first_on i (Advance by own) es h = (tt, h)
 first_on i (Change node c) es h = (tt, h)
 first_on i (Restart node exact store) es h = ((h.0, tt), h.1)
 
-first_no : (node : ℕ) (key : PeerKey) (choice : ℕ) (request : Option Octets) (e : Event) (es : List Event) → HearsNoOther node key choice request (e ∷ es)
+first_no : (node : ℕ) (key : PeerKey) (choice : ℕ) (request : KeptOctets) (e : Event) (es : List Event) → HearsNoOther node key choice request (e ∷ es)
     → HearsNoOther node key choice request (e ∷ []) × HearsNoOther node key choice request es
 first_no node key choice request (Ask client server limits r) es h = (tt, h)
 first_no node key choice request (AskAway client peer limits r) es h = (tt, h)
@@ -76,7 +76,7 @@ module _ (links : ℕ → Option Octets) (apart : (i j : ℕ) (l : Octets) → l
   one_event : (e : Event) (v v' : World) → Reached v → WorldStepSo x.overtake u v e v' → Reached v'
   one_event e v v' r s = reaches (e ∷ []) v v' r (v', s, refl)
 
-  module _ (begin choice : ℕ) (request : Option Octets) (key : PeerKey) (node : ℕ) (stranger : (i : ℕ) → links i ≡ Some key.peer.link → ⊥) where
+  module _ (begin choice : ℕ) (request : KeptOctets) (key : PeerKey) (node : ℕ) (stranger : (i : ℕ) → links i ≡ Some key.peer.link → ⊥) where
     run_later : (es : List Event) (v last : World) → Reached v → WorldRunSo x.overtake u v es last → RunsOn node es → told v node ≤ told last node
     run_later [] v last r run on = subst (λ (y : World). told v node ≤ told y node) (sym run) (omega arith)
     run_later (e ∷ es) v last r run on =
@@ -187,7 +187,7 @@ module _ (W overtake : ℕ) (u : Reuses) (first old new : World) (fresh : IsFres
   is_after : (a : Node) → slice_get new.nodes node ≡ Some a → p.hears.after ≡ a
   is_after a at = let e : Some p.hears.after ≡ Some a = sym p.hears.acts.nodes.here ∙ at in cc
 
-  kept : KeptAt entry.begin entry.choice entry.request key new.nodes node
+  kept : KeptAt entry.begin entry.choice (kept_by entry) key new.nodes node
   kept a at = record {
     entry = entry;
     there = subst (λ (n : Node). value_at same_key key n.servers.slots ≡ Some entry) (is_after a at) keeping.there;
@@ -204,7 +204,7 @@ module _ (W overtake : ℕ) (u : Reuses) (first old new : World) (fresh : IsFres
     there = keeping.there;
     whole = begun_whole (told old node) segment choice octets entry keeping.performs.begun;
     once = λ more last go on none young. run_adds (link_at first.nodes) fresh.apart W (rules_of overtake first) (rules_bounded W overtake first bounded) refl u
-        (stores_of first.nodes) entry.begin entry.choice entry.request key node of_none more new last after kept go on none young;
+        (stores_of first.nodes) entry.begin entry.choice (kept_by entry) key node of_none more new last after kept go on none young;
   }
 
 pub writes_act_once : WritesActOnce

@@ -33,7 +33,7 @@ use Rattle.bac_world.proofs.Heard.{IsHeardIn, IsHeardInBy, heard_in}
 use Rattle.bac_world.proofs.ServerTick.{entry_tick}
 use Rattle.bac_world.proofs.Settings.{end_heard, reusing_in}
 use Rattle.bac_world.proofs.Steps.{Over, decide_number, each_with}
-use Rattle.bac_writes.specs.Writes.{AddsNothingFor, HearsNoOther, IsNoOther}
+use Rattle.bac_writes.specs.Writes.{AddsNothingFor, HearsNoOther, IsNoOther, KeptOctets}
 use Rattle.bac_writes.proofs.Kept.{HasKept, none_performed, other_kept, own_kept, table, tick_kept}
 use Rattle.bac_writes.proofs.Machine.{IsKeptEntry, live_until}
 use Rattle.bac_writes.proofs.Logs.{IsOfOther, adds_ended, adds_logged, adds_none, adds_one, adds_then}
@@ -52,7 +52,7 @@ performed_none store p None None done is = refl
 performed_none store p None (Some y) done is = absurd done
 performed_none store p (Some x) o done is = absurd cc
 
-module _ (begin choice : ℕ) (request : Option Octets) (key : PeerKey) where
+module _ (begin choice : ℕ) (request : KeptOctets) (key : PeerKey) where
   abbrev KeptIn : Node → Type 0
   KeptIn a = HasKept begin choice request key a.servers.slots
 

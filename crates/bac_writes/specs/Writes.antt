@@ -21,17 +21,30 @@ use Rattle.bac_world.specs.Services.{Performed}
 use Rattle.bac_world.specs.World.{Event, IsBounded, IsFresh, IsOfNone, RunsOn, World, told}
 use Rattle.bac_world.specs.World.Event.{Stray}
 
+-- what an entry keeps of its request: the octets of one that came in one APDU, or the first piece of one that came in segments
+pub record KeptOctets : Type 0 where
+  pub request : Option Octets
+  pub first : Option Octets
+
+abbrev pub kept_by : ServerTransaction → KeptOctets
+kept_by e = record { request = e.request; first = e.first }
+
 -- An APDU that comes is no other request than the one of an entry: it is that request again, which is no read, a later segment, or no Confirmed-Request. Where
--- that request came in segments, its octets are not kept, and any segment counts as one of it.
-abbrev pub IsNoOther : (choice : ℕ) → (request : Option Octets) → Apdu → Type 0
-IsNoOther choice (Some kept) (ConfirmedRequest limits invoke_id None asked octets) = (asked ≡ choice) × (octets ≡ kept) × (is_read asked ≡ false)
-IsNoOther choice (Some kept) (ConfirmedRequest limits invoke_id (Some segment) asked octets) = segment.number ≢ 0
-IsNoOther choice None (ConfirmedRequest limits invoke_id None asked octets) = ⊥
-IsNoOther choice None (ConfirmedRequest limits invoke_id (Some segment) asked octets) = Unit {0}
-IsNoOther choice request _ = Unit {0}
+-- that request came in segments, a segment 0 is its first piece again; where that is not kept, any segment counts as one of it.
+abbrev pub IsNoOtherThan : (choice : ℕ) → (request first : Option Octets) → Apdu → Type 0
+IsNoOtherThan choice (Some kept) first (ConfirmedRequest limits invoke_id None asked octets) = (asked ≡ choice) × (octets ≡ kept) × (is_read asked ≡ false)
+IsNoOtherThan choice (Some kept) first (ConfirmedRequest limits invoke_id (Some segment) asked octets) = segment.number ≢ 0
+IsNoOtherThan choice None first (ConfirmedRequest limits invoke_id None asked octets) = ⊥
+IsNoOtherThan choice None None (ConfirmedRequest limits invoke_id (Some segment) asked octets) = Unit {0}
+IsNoOtherThan choice None (Some piece) (ConfirmedRequest limits invoke_id (Some segment) asked octets) =
+    segment.number ≡ 0 → (asked ≡ choice) × (octets ≡ piece)
+IsNoOtherThan choice request first _ = Unit {0}
+
+abbrev pub IsNoOther : (choice : ℕ) → KeptOctets → Apdu → Type 0
+IsNoOther choice kept a = IsNoOtherThan choice kept.request kept.first a
 
 -- in these events the node hears no other request of that stranger under that invoke ID
-abbrev pub HearsNoOther : (node : ℕ) → PeerKey → (choice : ℕ) → (request : Option Octets) → List Event → Type 0
+abbrev pub HearsNoOther : (node : ℕ) → PeerKey → (choice : ℕ) → (request : KeptOctets) → List Event → Type 0
 HearsNoOther node key choice request [] = Unit {0}
 HearsNoOther node key choice request (Stray i from octets ∷ es) =
     (i ≡ node → (peer : PeerView) (a : Apdu) → Means SpellsApdu from octets peer a → key_of peer a ≡ key → IsNoOther choice request a)
@@ -68,7 +81,7 @@ pub record PerformsWrite (u : Reuses) (old : World) (node : ℕ) (key : PeerKey)
 -- nothing more is performed for it
 abbrev pub IsOnceWhileKept : (overtake : ℕ) → Reuses → (node : ℕ) → PeerKey → ServerTransaction → World → Type 0
 IsOnceWhileKept overtake u node key e new =
-    (events : List Event) (last : World) → WorldRunSo overtake u new events last → RunsOn node events → HearsNoOther node key e.choice e.request events
+    (events : List Event) (last : World) → WorldRunSo overtake u new events last → RunsOn node events → HearsNoOther node key e.choice (kept_by e) events
     → told last node ≤ e.begin + KEEP → AddsNothingFor node key new.log last.log
 
 -- the entry that the node keeps then: of a request in one APDU it has the octets, and begins with it

@@ -15,7 +15,7 @@ use Rattle.bac_protocol.specs.Context.{Context}
 use Rattle.bac_protocol.specs.Service.{Octets}
 use Rattle.bac_protocol.specs.Service as machine
 use Rattle.bac_protocol.specs.Server as server
-use Rattle.bac_protocol.specs.Server.{ServerTransaction, begins, performs_so}
+use Rattle.bac_protocol.specs.Server.{ServerTransaction, begins, keeps_first, performs_so}
 use Rattle.bac_protocol.proofs.AtDrift.{lives}
 use Rattle.bac_transaction.specs.Keys.{PeerKey}
 use Rattle.bac_transaction.specs.Meanings.Ending.{Answered}
@@ -115,7 +115,7 @@ abbrev ENTRY : ServerTransaction
 ENTRY = record (begins CONTEXT 7 LIMITS None) { state = server.State.SegmentedRequest (record { parts = FRONT ∷ []; unacknowledged = 0; window = 1 }) 0 }
 
 abbrev done_by : machine.Outcome → server.Reaction
-done_by o = performs_so CONTEXT ENTRY (ACK 1 ∷ []) SERVICE_DATA o
+done_by o = performs_so CONTEXT (keeps_first (FRONT ∷ BACK ∷ []) ENTRY) (ACK 1 ∷ []) SERVICE_DATA o
 
 abbrev REPLIES : machine.Outcome
 REPLIES = machine.Outcome.Replies (machine.Reply.Error 1 31)

@@ -12,5 +12,9 @@ pub returns : goal.returns
 returns c =
     let took = takes_whole (takes c.args.self.now.incoming c.args.received.segment.number c.args.received.segment.more c.args.received.octets.now) c.args.self.now.incoming c.on_segment.new.self
     c.in-Ok.field-0 c.requires c.in-Ok.ensures in
-    rw took.taken (subst (λ (k : ℕ). IsWhole (context_view c.args.context.now) (peer_of c.args.context.now) c.args.terms.choice (limits_view c.args.terms.limits)
-    c.args.store.now c.args.received.segment.number k (join c.on_segment.new.self.parts) c.in-Ok-prepare_whole.reply) took.window c.in-Ok-prepare_whole.ensures)
+    rw took.taken (
+      subst (λ (k : ℕ). IsWhole (context_view c.args.context.now) (peer_of c.args.context.now) c.args.terms.choice (limits_view c.args.terms.limits)
+          c.args.store.now c.args.received.segment.number k (join c.on_segment.new.self.parts) c.in-Ok-prepare_last.prepared.0) took.window
+          c.in-Ok-prepare_last.ensures.0,
+      c.in-Ok-prepare_last.ensures.1,
+    )

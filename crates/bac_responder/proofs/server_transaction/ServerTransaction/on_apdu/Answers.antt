@@ -29,14 +29,14 @@ returns c =
           ap (λ z. entry_view o z) (sym w.in-SegmentedRequest.is) ∙ c.self.view_is in
           let did = rw w.in-None.is at w.in_ok-performed-in-SegmentedRequest.ensures in
           rw (w.self-inside-is, w.result-is, w.store-is) (subst (λ (d : ServerTransaction). IsReaction (live_on_apdu set (service_of s) d d.state a) peer s
-          (entry_of o (reassembly_state w.on_apdu.new.self)) x.sends.items (performed_view x.effect) w.on_apdu.new.store) e did)
+          (entry_of w.on_apdu.new.origin (reassembly_state w.on_apdu.new.self)) x.sends.items (performed_view x.effect) w.on_apdu.new.store) e did)
       | in-SegmentedRequest+in_ok-performed-in-SegmentedRequest+in-Some w ↦
           let x = w.in_ok-performed-in-SegmentedRequest.performed in
           let e : entry_of o (reassembly_state w.in-SegmentedRequest.reassembly) ≡ c.args.self.now =
           ap (λ z. entry_view o z) (sym w.in-SegmentedRequest.is) ∙ c.self.view_is in
           let did = rw w.in-Some.is at w.in_ok-performed-in-SegmentedRequest.ensures in
           rw (w.self-inside-is, w.result-is, w.store-is) (subst (λ (d : ServerTransaction). IsReaction (live_on_apdu set (service_of s) d d.state a) peer s
-          (entry_view o w.in-Some.next) x.sends.items (performed_view x.effect) w.on_apdu.new.store) e did.1)
+          (entry_view w.on_apdu.new.origin w.in-Some.next) x.sends.items (performed_view x.effect) w.on_apdu.new.store) e did.1)
       | in-Done w ↦
           let e : entry_of o (Done (kept_reply_view w.in-Done.invoke_id o.terms.choice w.in-Done.kept)) ≡ c.args.self.now =
           ap (λ z. entry_view o z) (sym w.in-Done.is) ∙ c.self.view_is in
