@@ -4,8 +4,8 @@
 A server on a new file is asked bursts of writes, while disk.c makes one of its calls fail: the K-th write with ENOSPC, as all later ones, or after half of its
 octets, or with EIO that once; or the K-th sync with EIO. K goes from 1 to MOST (350), or to the last call of that kind. As root, small file systems are filled too.
 
-A run of which a call failed has to end: with status 2 and a reason while it opens its file, and otherwise with status 3 and `keep fault`. Then a server starts on
-what it left, on a disk that has room, and has to find each write that was answered, and no other but those of the round that was under way. The same has to hold
+A run of which a call failed has to end: with status 2 and a reason while it opens its file, and otherwise with status 3, `keep fault` and a line with the file. Then a server
+starts on what it left, on a disk that has room, and has to find each write that was answered, and no other but those of the round that was under way. The same has to hold
 where the power is cut at the end, and only some of what was written since the last sync is there."""
 
 import sys
@@ -62,7 +62,7 @@ def is_right_end(status, failed, answered, said):
     """Whether a run may end so: refused at its start, with a fault of its keeper, or, if no call failed, not at all."""
     if status is None:
         return not failed
-    return status == 2 and not answered or status == 3 and said.endswith('keep fault\n')
+    return status == 2 and not answered or status == 3 and said.splitlines()[-2:-1] == ['keep fault']
 
 
 def cut_images(events, draws):

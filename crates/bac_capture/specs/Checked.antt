@@ -17,12 +17,12 @@ use Rattle.bac_capture.specs.Judged.{IsVerdict}
 use Rattle.bac_capture.specs.CheckTexts.{frame_fault_text}
 use Rattle.bac_capture.specs.Walks.{Prints}
 
--- for the frame with this number, from 1: nothing unless it is bad
-abbrev pub verdict_text : ℕ → Verdict → List ℕ
-verdict_text number Nothing = []
-verdict_text number Good = []
-verdict_text number (Other other) = []
-verdict_text number (Bad fault) = (codes "frame " ++ (decimal number ++ (codes ": " ++ frame_fault_text fault))) ++ line_end
+-- for the frame with this number, from 1, in words or not: nothing unless it is bad
+abbrev pub verdict_text : (in_words : Bool) → ℕ → Verdict → List ℕ
+verdict_text in_words number Nothing = []
+verdict_text in_words number Good = []
+verdict_text in_words number (Other other) = []
+verdict_text in_words number (Bad fault) = (codes "frame " ++ (decimal number ++ (codes ": " ++ frame_fault_text in_words fault))) ++ line_end
 
 -- ---- counts
 
@@ -41,33 +41,34 @@ abbrev pub others_text : ℕ → List ℕ → List ℕ
 others_text zero others = []
 others_text (suc n) others = others_text n others ++ other_text n (slice_index others n)
 
-abbrev pub named_text : (named : Bool) → List ℕ → List ℕ
+-- in words they are all printed
+abbrev pub named_text : (in_words : Bool) → List ℕ → List ℕ
 named_text true others = others_text OTHERS others
 named_text false others = []
 
--- the counts of BVLLs with other functions, if requested; then how many frames there are, and how many carry a good datagram, a bad one, and one
+-- in words the counts of BVLLs with other functions; then how many frames there are, and how many carry a good datagram, a bad one, and one
 -- with another function; all others carry none
-abbrev pub tally_text : (named : Bool) → Counts → List ℕ
-tally_text named c =
-    named_text named c.others ++ (codes "frames=" ++ (decimal c.frames ++ (codes " good=" ++ (decimal c.good ++ (codes " bad=" ++ (decimal c.bad
+abbrev pub tally_text : (in_words : Bool) → Counts → List ℕ
+tally_text in_words c =
+    named_text in_words c.others ++ (codes "frames=" ++ (decimal c.frames ++ (codes " good=" ++ (decimal c.good ++ (codes " bad=" ++ (decimal c.bad
     ++ (codes " other=" ++ decimal c.other))))))) ++ line_end
 
 -- ---- a file
 
--- the counts so far, and whether those of other functions are printed by name
+-- the counts so far, and whether faults are printed in words, and counts of other functions by name
 pub record Checking : Type 0 where
-  pub named : Bool
+  pub in_words : Bool
   pub counts : Counts
 
-abbrev pub nothing_checked : (named : Bool) → Checking
-nothing_checked named = record { named = named; counts = no_frames }
+abbrev pub nothing_checked : (in_words : Bool) → Checking
+nothing_checked in_words = record { in_words = in_words; counts = no_frames }
 
 -- a frame with this result is printed if it is bad, and counted
-abbrev pub IsCounted : Verdict → Counts → (text : List ℕ) → (next : Counts) → Type 0
-IsCounted verdict counts text next = (text ≡ verdict_text (counts.frames + 1) verdict) × (next ≡ counted counts verdict)
+abbrev pub IsCounted : (in_words : Bool) → Verdict → Counts → (text : List ℕ) → (next : Counts) → Type 0
+IsCounted in_words verdict counts text next = (text ≡ verdict_text in_words (counts.frames + 1) verdict) × (next ≡ counted counts verdict)
 
 abbrev pub IsCountedIn : Verdict → Checking → (text : List ℕ) → (next : Checking) → Type 0
-IsCountedIn verdict c text next = (next.named ≡ c.named) × IsCounted verdict c.counts text next.counts
+IsCountedIn verdict c text next = (next.in_words ≡ c.in_words) × IsCounted c.in_words verdict c.counts text next.counts
 
 -- a frame is checked; `also` is a port in addition to the sixteen
 pub record SeesFrame (also : Option ℕ) (frame : FrameView) (before : Checking) (text : List ℕ) (next : Checking) : Type 0 where
@@ -81,11 +82,15 @@ BreaksFile fault before text next = IsCountedIn (Bad (File fault)) before text n
 
 -- the counts are printed below the frames
 abbrev pub EndsFile : Ending Checking
-EndsFile c text status = (text ≡ tally_text c.named c.counts) × IsTallied c.counts.bad status
+EndsFile c text status = (text ≡ tally_text c.in_words c.counts) × IsTallied c.counts.bad status
 
 -- ---- any capture
 
+-- any other input is checked as lines
+abbrev pub ReportsLines : Checking → report.Other
+ReportsLines c octets old new status = lines.IsReportAs c.in_words false octets old new status
+
 -- a file is checked frame by frame, and any other input as lines
-abbrev pub IsReportOf : Option ℕ → (named : Bool) → Option (List ℕ) → Option (List ℕ) → Option (List ℕ) → Status → Type 0
-IsReportOf also named input old new status =
-    report.IsReportOf Checking (SeesFrame also) BreaksFile no_heading EndsFile lines.IsReportOf (nothing_checked named) input old new status
+abbrev pub IsReportOf : Option ℕ → (in_words : Bool) → Option (List ℕ) → Option (List ℕ) → Option (List ℕ) → Status → Type 0
+IsReportOf also in_words input old new status =
+    report.IsReportOf Checking (SeesFrame also) BreaksFile no_heading EndsFile (ReportsLines (nothing_checked in_words)) (nothing_checked in_words) input old new status

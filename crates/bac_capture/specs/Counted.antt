@@ -8,4 +8,4 @@ abbrev pub counts_of : Tally → Counts
 counts_of t = record { frames = t.frames; good = t.good; bad = t.bad; other = t.other; others = t.others }
 
 abbrev pub check_view : Check → Checking
-check_view c = record { named = c.named; counts = counts_of c.tally }
+check_view c = record { in_words = c.in_words; counts = counts_of c.tally }

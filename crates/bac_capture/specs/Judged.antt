@@ -8,6 +8,7 @@ use Rattle.bac_text.specs.declared.bvlc.OtherBvll.{OtherBvll}
 use Rattle.bac_capture.specs.Frames.{datagram_at}
 use Rattle.bac_capture.specs.Links.{link_kind_of}
 use Rattle.bac_capture.specs.Packets.{DatagramView}
+use Rattle.bac_text.specs.Faults.{function_in}
 use Rattle.bac_text.specs.Layers.{IsFine, IsAtFault}
 use Rattle.bac_capture.specs.declared.check_fault.CapturedFault.TheVariants.{Link, Packet, Datagram, File}
 use Rattle.bac_capture.specs.declared.check_fault.Verdict.{Verdict}
@@ -20,7 +21,7 @@ IsReadVerdict datagram Good = IsFine datagram
 IsReadVerdict datagram (Other other) = ⊥
 IsReadVerdict datagram (Bad Link) = ⊥
 IsReadVerdict datagram (Bad (Packet fault)) = ⊥
-IsReadVerdict datagram (Bad (Datagram fault)) = IsAtFault datagram fault
+IsReadVerdict datagram (Bad (Datagram fault function)) = IsAtFault datagram fault × (function ≡ function_in datagram)
 IsReadVerdict datagram (Bad (File fault)) = ⊥
 
 abbrev pub IsVerdictIn : (other : Option OtherBvll) → List ℕ → Verdict → Type 0

@@ -1,5 +1,5 @@
 //! The result of checking a frame.
-ghost use Rattle.std.specs.Prelude.{Some};
+ghost use Rattle.std.specs.Prelude.{false, Some};
 ghost use Rattle.bac_capture.specs.CheckTexts.{frame_fault_text};
 
 use crate::{FileFault, OtherBvll, PacketFault};
@@ -13,20 +13,23 @@ pub(crate) enum CapturedFault {
     Link,
     /// The packet in it is not complete.
     Packet(PacketFault),
-    /// Its datagram has this fault.
-    Datagram(LayerFault),
+    /// Its datagram has this fault; its BVLL has this function, if it is there.
+    Datagram {
+        fault: LayerFault,
+        function: Option<u8>,
+    },
     /// The file cannot be read beyond it.
     File(FileFault),
 }
 
 impl fmt::Display for CapturedFault {
-    ghost output = { λ x. Some (frame_fault_text x) };
+    ghost output = { λ x. Some (frame_fault_text false x) };
 
     fn fmt<W: fmt::Write>(&self, f: &mut fmt::Formatter<W>) -> fmt::Result {
         match self {
             CapturedFault::Link => write!(f, "unknown link layer"),
             CapturedFault::Packet(fault) => write!(f, "{fault}"),
-            CapturedFault::Datagram(fault) => write!(f, "{fault}"),
+            CapturedFault::Datagram { fault, .. } => write!(f, "{fault}"),
             CapturedFault::File(fault) => write!(f, "{fault}"),
         }
     }

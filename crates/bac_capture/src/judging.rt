@@ -4,7 +4,7 @@ ghost use Rattle.bac_capture.specs.Judged.{IsDatagramVerdict, IsVerdict};
 
 use crate::check_fault::{CapturedFault, Verdict};
 use crate::{Frame, LinkKind, OtherBvll, Ports, read_frame};
-use bac_text::check_datagram;
+use bac_text::{check_datagram, function_in};
 
 fn judge_datagram(datagram: &[u8]) -> Verdict
     ensures { IsDatagramVerdict datagram.now result }
@@ -14,7 +14,10 @@ fn judge_datagram(datagram: &[u8]) -> Verdict
     }
     match check_datagram(datagram) {
         Ok(()) => Verdict::Good,
-        Err(fault) => Verdict::Bad(CapturedFault::Datagram(fault)),
+        Err(fault) => {
+            let function = function_in(datagram);
+            Verdict::Bad(CapturedFault::Datagram { fault, function })
+        }
     }
 }
 

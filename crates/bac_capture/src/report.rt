@@ -37,7 +37,7 @@ pub trait FileReport<W: Write> {
     ghost Ends: { State → (text : List ℕ) → Ended → Type 0 };
 
     // What is printed for octets that are no file, if they are known, and the status.
-    ghost Others: { (octets : Option (List ℕ)) → (old : Option (List ℕ)) → (new : Option (List ℕ)) → Ended → Type 0 };
+    ghost Others: { State → (octets : Option (List ℕ)) → (old : Option (List ℕ)) → (new : Option (List ℕ)) → Ended → Type 0 };
 
     /// Prints what there is to print for a frame.
     fn visit_frame(&mut self, frame: Frame<'_>, ports: Ports, out: &mut W) -> Result<(), CheckError>
@@ -63,7 +63,7 @@ pub trait FileReport<W: Write> {
         out: &mut W,
         err: &mut E,
     ) -> Status
-        ensures { IfEnded result (Others (R.remaining input.old) (W.contents out.old) (W.contents out.new) result) };
+        ensures { IfEnded result (Others (state self.old) (R.remaining input.old) (W.contents out.old) (W.contents out.new) result) };
 
     /// Prints why the report stopped before the end of the file, and returns the status.
     fn stop<E: Write>(&self, error: CheckError, out: &mut W, err: &mut E) -> Status
@@ -128,7 +128,7 @@ pub fn report_over<R: BufRead, O: Write, E: Write, V: FileReport<O>>(
     out: &mut O,
     err: &mut E,
 ) -> Status
-    ensures { IsReportOf V.State (V.Visits ports.also) V.Breaks V.heading V.Ends V.Others (V.state report.old) (R.remaining input.old)
+    ensures { IsReportOf V.State (V.Visits ports.also) V.Breaks V.heading V.Ends (V.Others (V.state report.old)) (V.state report.old) (R.remaining input.old)
         (O.contents out.old) (O.contents out.new) result }
 {
     let mut front = Vec::new(alloc);

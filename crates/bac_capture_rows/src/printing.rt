@@ -50,7 +50,7 @@ pub(crate) const MERMAID_PAIRS: ChartOptions = ChartOptions {
 /// What is printed of a file.
 #[derive(Clone, Copy)]
 pub(crate) enum Print {
-    /// The datagrams that are faulty, and counts, without other functions by name or with them.
+    /// The datagrams that are faulty, and counts; by number, or in words and with other functions by name.
     Check,
     Named,
     /// The transactions, as those options say.

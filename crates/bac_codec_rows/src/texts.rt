@@ -56,7 +56,7 @@ fn check(alloc: Global, notes: bool, text: &str, out: &mut Vec<u8>) -> Option<()
     let mut err = Vec::new(alloc);
     let mut input = text.as_bytes();
     let status = if notes {
-        check_lines_over(alloc, true, &mut input, out, &mut err)
+        check_lines_over(alloc, false, true, &mut input, out, &mut err)
     } else {
         check_over(alloc, &mut input, out, &mut err)
     };

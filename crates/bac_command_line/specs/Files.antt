@@ -30,10 +30,10 @@ pub record OfFile (IsAt : (path : List ℕ) → (content : Option (List ℕ)) �
 abbrev pub IsPrintedFile : (IsAt : (path : List ℕ) → (content : Option (List ℕ)) → Type 0) → (path : List ℕ) → Status → (Says : Option (List ℕ) → Type 0) → Type 0
 IsPrintedFile IsAt path s Says = ByStatus s (OfFile IsAt path Says) (OfFile IsAt path Says) ⊤
 
--- the capture in the file was checked to its end; there is a port beside those of BACnet/IP, or none, and other functions are counted by name or not
-abbrev pub IsCheckedFile : (IsAt : (path : List ℕ) → (content : Option (List ℕ)) → Type 0) → (named : Bool) → (path : List ℕ) → (also : Option ℕ) → Status
+-- the capture in the file was checked to its end; there is a port beside those of BACnet/IP, or none; in words, with other functions counted by name, or not
+abbrev pub IsCheckedFile : (IsAt : (path : List ℕ) → (content : Option (List ℕ)) → Type 0) → (in_words : Bool) → (path : List ℕ) → (also : Option ℕ) → Status
     → (old new : Option (List ℕ)) → Type 0
-IsCheckedFile IsAt named path also s old new = IsPrintedFile IsAt path s (λ content. IsReportOf also named content old new s)
+IsCheckedFile IsAt in_words path also s old new = IsPrintedFile IsAt path s (λ content. IsReportOf also in_words content old new s)
 
 -- the capture in the file was explained to its end, as those options say
 abbrev pub IsExplainedFile : (IsAt : (path : List ℕ) → (content : Option (List ℕ)) → Type 0) → ReportOptions → (path : List ℕ) → (also : Option ℕ) → Status

@@ -24,4 +24,4 @@ IsDecodedFrom IsAt in_words text s old new = IsDecodedBy IsAt in_words (bytes_eq
 
 -- the capture of lines and notes in the file was checked to its end
 abbrev pub AreCheckedLines : (IsAt : (path : List ℕ) → (content : Option (List ℕ)) → Type 0) → (path : List ℕ) → Status → (old new : Option (List ℕ)) → Type 0
-AreCheckedLines IsAt path s old new = IsPrintedFile IsAt path s (λ content. IsReportAs true content old new s)
+AreCheckedLines IsAt path s old new = IsPrintedFile IsAt path s (λ content. IsReportAs false true content old new s)

@@ -50,7 +50,7 @@ fn ask_from<L: Link, C: Clock, E: Write>(
     };
     match ask_unprinted(&mut station.bound_node, &mut station.clock, &command, err) {
         Ok(end) => Ok(end),
-        Err(fault) => Err(fault.report(err)),
+        Err(fault) => Err(fault.report_at(station.bound_node.node().link(), err)),
     }
 }
 

@@ -9,12 +9,14 @@ use crate::asking::Asking;
 use crate::client_pair::ClientPair;
 use crate::online::Machine;
 use crate::past_ports::PastPorts;
+use crate::reasons::print_no_link;
 use crate::recording::{Printer, Stamp};
 use crate::station::Station;
 use bac_commands::{bound_client, clock_fault, link_fault};
 use bac_npdu::LinkAddress;
 use bac_text::{Status, no_memory};
 use std::alloc::Global;
+use std::io;
 use std::io::{ErrorKind, Write};
 
 /// A link of a new node, its own address, and the pair with which the node begins.
@@ -25,13 +27,21 @@ struct NewLink<L> {
     pair: ClientPair,
 }
 
+/// A link that the system refuses, and its reason.
+#[derive(Drop)]
+struct Unbound {
+    host: [u8; 4],
+    port: u16,
+    error: io::Error,
+}
+
 /// Why there is no link of a new node.
-#[derive(Clone, Copy, PartialEq, Eq)]
+#[derive(Drop)]
 enum NoLink {
     /// The time of day can't be read.
     NoClock,
-    /// The system refuses the link, or so many ports are taken.
-    NotBound,
+    /// The system refuses the link, or so many ports are taken: the last one. None where no port was, and each was that of the node that asks now.
+    NotBound(Option<Unbound>),
 }
 
 impl NoLink {
@@ -41,7 +51,10 @@ impl NoLink {
     {
         match self {
             NoLink::NoClock => clock_fault(err),
-            NoLink::NotBound => link_fault(err),
+            NoLink::NotBound(Some(unbound)) => {
+                print_no_link(unbound.host, unbound.port, &unbound.error, err)
+            }
+            NoLink::NotBound(None) => link_fault(err),
         }
     }
 }
@@ -85,6 +98,7 @@ fn bind_apart<M: Machine>(
     ensures bound { IfOk result (λ c. M.is_bound host c.pair.port c.link c.address) }
     ensures other { IfOk result (λ c. IfSome held (λ own. c.address ≢ own)) }
 {
+    let mut taken = None;
     for _ in 0..MOST_TRIES {
         let Some(pair) = pair_apart(machine, past, now) else {
             return Err(NoLink::NoClock);
@@ -100,11 +114,17 @@ fn bind_apart<M: Machine>(
                     });
                 }
             }
-            Err(error) if error.kind() == ErrorKind::AddrInUse => {}
-            Err(_) => return Err(NoLink::NotBound),
+            Err(error) => {
+                let is_taken = error.kind() == ErrorKind::AddrInUse;
+                let port = pair.port;
+                taken = Some(Unbound { host, port, error });
+                if !is_taken {
+                    break;
+                }
+            }
         }
     }
-    Err(NoLink::NotBound)
+    Err(NoLink::NotBound(taken))
 }
 
 /// The port of a link address (clause J.1.2).

@@ -53,7 +53,7 @@ fn perform<F: OpenFiles, M: Machine, O: Write, E: Write>(
         Task::DecodeJson(datagram) => decode_json(alloc, files, datagram, out, err),
         Task::CheckJson(capture) => check_json(alloc, files, &capture, out, err),
         Task::CheckJsonLines(path) => check_json_lines(alloc, files, path, out, err),
-        Task::Check { named, capture } => check(alloc, files, named, &capture, out, err),
+        Task::Check { in_words, capture } => check(alloc, files, in_words, &capture, out, err),
         Task::CheckLines(path) => check_lines(alloc, files, path, out, err),
         Task::Explain { options, capture } => { explain(alloc, files, options, &capture, out, err) }
         Task::ExplainJson { options, capture } => {

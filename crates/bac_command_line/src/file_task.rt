@@ -7,6 +7,7 @@ use crate::environment::Environment;
 use crate::files::OpenFiles;
 use crate::online::Machine;
 use crate::reasons::print_no_whole_file;
+use crate::unsent::tell_unsent;
 use crate::whole_files::{get, put};
 use bac_npdu::Peer;
 use bac_text::Status;
@@ -132,7 +133,7 @@ pub(crate) fn do_with_files<F: OpenFiles, M: Machine, O: Write, E: Write>(
 ) -> Status
     ensures { IsFiled result }
 {
-    match work {
+    let status = match work {
         FileWork::Get { object, path } => {
             status_of(get(environment, task, object, path, out, err))
         }
@@ -144,5 +145,7 @@ pub(crate) fn do_with_files<F: OpenFiles, M: Machine, O: Write, E: Write>(
         }
         FileWork::Restore(folder) => status_of(restore(environment, task, folder, out, err)),
         FileWork::Nothing => print_no_whole_file(err),
-    }
+    };
+    tell_unsent(status, environment.machine, task.peer.link, err);
+    status
 }

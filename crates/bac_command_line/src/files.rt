@@ -101,22 +101,22 @@ pub(crate) struct ScriptFile<'a> {
     pub reasons: bool,
 }
 
-/// Checks the capture in a file: one of pcap or pcapng, or of lines; with counts of other functions by name or not. A file that cannot be opened: `cannot read`
-/// on `err`.
+/// Checks the capture in a file: one of pcap or pcapng, or of lines; in words, with counts of other functions by name, or not. A file that cannot be opened:
+/// `cannot read` on `err`.
 pub(crate) fn check<F: OpenFiles, O: Write, E: Write>(
     alloc: Global,
     files: &F,
-    named: bool,
+    in_words: bool,
     capture: &CaptureFile<'_>,
     out: &mut O,
     err: &mut E,
 ) -> Status
-    ensures { IsCheckedFile (OnFile F.is_file F.File.remaining) named capture.now.path.now capture.now.port result (O.contents out.old) (O.contents out.new) }
+    ensures { IsCheckedFile (OnFile F.is_file F.File.remaining) in_words capture.now.path.now capture.now.port result (O.contents out.old) (O.contents out.new) }
 {
     match reader_of(alloc, files, capture.path, err) {
         Ok(mut input) => {
             let ports = Ports { also: capture.port };
-            check_capture_over(alloc, &mut input, ports, named, out, err)
+            check_capture_over(alloc, &mut input, ports, in_words, out, err)
         }
         Err(status) => status,
     }

@@ -7,7 +7,7 @@ ghost use Rattle.bac_command_line.specs.Keeping.{IsListed};
 
 use crate::environment::Environment;
 use crate::files::{OpenFiles, opened};
-use crate::keeping::{open_kept, print_not_kept};
+use crate::keeping::{open_kept, print_keep_fault, print_not_kept};
 use crate::listing::{ListForm, print_cells};
 use crate::online::Machine;
 use crate::part_words::print_about;
@@ -86,7 +86,9 @@ fn print_not_forgotten<E: Write>(alloc: Global, path: &str, fault: KeepFault, er
 {
     match fault {
         KeepFault::Database(StoreError::Io) | KeepFault::Database(StoreError::Full) => {
-            CommandError::Keep.report(err)
+            let status = CommandError::Keep(fault).report(err);
+            print_keep_fault(path, Some(fault), err);
+            status
         }
         KeepFault::Database(StoreError::OutOfMemory) => no_memory(err),
         other => print_not_kept(alloc, path, other, err),
@@ -112,7 +114,7 @@ fn print_nothing_kept<E: Write>(
 /// its document there.
 ///
 /// Words that name no object or no property; a file that is not there, that is damaged, or in use; nothing kept of the selection: why on `err`, and the file
-/// keeps what it kept. A disk that fails: `keep fault`.
+/// keeps what it kept. A disk that fails: `keep fault`, and which and why.
 pub(crate) fn forget_kept<F: OpenFiles, M: Machine, O: Write, E: Write>(
     environment: &Environment<'_, F, M>,
     forgetting: Forgetting<'_>,

@@ -78,6 +78,14 @@ pub(crate) fn print_not_kept<E: Write>(
     Status::CommandLine
 }
 
+/// Tells behind `keep fault` which file it is about, and why.
+pub(crate) fn print_keep_fault<E: Write>(path: &str, fault: Option<KeepFault>, err: &mut E) {
+    if let Some(fault) = fault {
+        // if that fails too, only the status is left
+        let _ = writeln!(err, "{path}: {fault}");
+    }
+}
+
 /// Prints what is kept and has no effect.
 fn print_idle<E: Write>(alloc: Global, path: &str, idle: &[Part], err: &mut E) {
     for part in idle {
@@ -144,9 +152,9 @@ fn keeper_over<S: Store + Drop, E: Write>(
     }
 }
 
-/// A node with a store, which a keeper keeps, serves.
+/// A node with a store, which a keeper keeps in the file at a path, serves.
 fn serve_round<M: Machine, K: Keeper, O: Write, E: Write>(
-    environment: (Global, &M),
+    environment: (Global, &M, &str),
     serving: &Serving,
     round: Round<K>,
     store: Objects,
@@ -157,26 +165,18 @@ fn serve_round<M: Machine, K: Keeper, O: Write, E: Write>(
     ensures { IsServedInRounds store (OnPort M.is_bound M.Link.failures M.Link.calls) (OnClock M.is_made M.Timer.told) result serving.now
         (EndsWith K.IsHonest K.IsOpen K.kept K.noted K.base (keeper_in round)) (O.contents out.old) (O.contents out.new) }
 {
-    let (alloc, machine) = environment;
-    let bound = match machine.bind(serving.host, serving.port) {
+    let (alloc, machine, path) = environment;
+    let (link, address) = match machine.bind(serving.host, serving.port) {
         Ok(bound) => bound,
         Err(error) => return print_not_bound(serving, &error, err),
     };
     let Some(mut timer) = machine.timer() else {
         return clock_fault(err);
     };
-    let address = bound.1;
     let start = timer.now();
     let objects = store.object_count();
     let restart = serving.restart(start);
-    let mut bound_node = match bound_server(
-        alloc,
-        bound.0,
-        address,
-        store,
-        serving.slots,
-        restart,
-    ) {
+    let mut bound_node = match bound_server(alloc, link, address, store, serving.slots, restart) {
         Ok(bound_node) => bound_node,
         Err(NewNodeFault::BadSlots) => return complain(err, "bad slots", Status::CommandLine),
         Err(_) => return no_memory(err),
@@ -191,8 +191,11 @@ fn serve_round<M: Machine, K: Keeper, O: Write, E: Write>(
         bound_node,
         clock: timer,
         round,
+        fault: None,
     };
-    serve_kept_from(alloc, serving, began, &mut server, out, err)
+    let status = serve_kept_from(alloc, serving, began, &mut server, out, err);
+    print_keep_fault(path, server.fault, err);
+    status
 }
 
 /// A node serves with the store that a database, which may be new, makes over a document.
@@ -224,7 +227,8 @@ fn serve_database<M: Machine, O: Write, E: Write>(
         return no_memory(err);
     };
     let serving = serving.restarted_by(is_new);
-    serve_round((alloc, machine), &serving, round, store, out, err)
+    let environment = (alloc, machine, path);
+    serve_round(environment, &serving, round, store, out, err)
 }
 
 /// A node whose store the file at a path keeps serves, with the house or the objects of a document below what is kept. Where the file had a table of cells, the

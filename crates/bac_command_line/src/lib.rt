@@ -43,6 +43,7 @@ mod station;
 mod system;
 mod task;
 mod telling;
+mod unsent;
 mod whole_files;
 mod whole_reading;
 mod whole_writing;

@@ -60,7 +60,7 @@ pub(crate) fn check_lines<F: OpenFiles, O: Write, E: Write>(
     ensures { AreCheckedLines (OnFile F.is_file F.File.remaining) path.now result (O.contents out.old) (O.contents out.new) }
 {
     match reader_of(alloc, files, path, err) {
-        Ok(mut input) => check_lines_over(alloc, true, &mut input, out, err),
+        Ok(mut input) => check_lines_over(alloc, false, true, &mut input, out, err),
         Err(status) => status,
     }
 }

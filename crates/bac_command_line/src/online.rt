@@ -11,10 +11,11 @@ use crate::asking::Asking;
 use crate::client_pair::ClientPair;
 use crate::environment::Environment;
 use crate::files::OpenFiles;
+use crate::reasons::print_no_link;
 use crate::rounds::{Asked, ask_by_client};
 use crate::serving::{Serving, Start, epoch_of, print_listening, print_not_bound, serve_from};
 use crate::station::Station;
-use bac_commands::{Style, bound_house, bound_server, clock_fault, link_fault, read_question};
+use bac_commands::{Style, bound_house, bound_server, clock_fault, read_question};
 use bac_driver::{Clock, Link, Question};
 use bac_keep_file::OpenFault;
 use bac_lists::{LOCAL_HOST, print_bad_words};
@@ -60,6 +61,9 @@ pub trait Machine {
 
     /// The IPv4 address of this machine from which the system sends to a link; None where it tells none.
     fn source_towards(&self, link: LinkAddress) -> Option<[u8; 4]>;
+
+    /// Why the system sends nothing to a link; None where it does, or tells no reason.
+    fn refusal_towards(&self, link: LinkAddress) -> Option<io::Error>;
 
     /// The database of the file at a path, which is made if it is missing, and whether it is new: it had no tables. While it is open, no other process can
     /// open it. The faults are those of `bac_keep_file::open`.
@@ -197,11 +201,13 @@ pub(crate) fn pair<M: Machine, O: Write, E: Write>(
     ensures { IsPair (OnPort M.is_bound M.Link.failures M.Link.calls) (OnClock M.is_made M.Timer.told) result
         (O.contents out.old) (O.contents out.new) }
 {
-    let Ok(bound) = machine.bind(LOCAL_HOST, 0) else {
-        return link_fault(err);
+    let bound = match machine.bind(LOCAL_HOST, 0) {
+        Ok(bound) => bound,
+        Err(error) => return print_no_link(LOCAL_HOST, 0, &error, err),
     };
-    let Ok(other_bound) = machine.bind(LOCAL_HOST, 0) else {
-        return link_fault(err);
+    let other_bound = match machine.bind(LOCAL_HOST, 0) {
+        Ok(other_bound) => other_bound,
+        Err(error) => return print_no_link(LOCAL_HOST, 0, &error, err),
     };
     let Some(mut timer) = machine.timer() else {
         return clock_fault(err);

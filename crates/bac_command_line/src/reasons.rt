@@ -5,6 +5,7 @@ ghost use Rattle.bac_text.specs.declared.status.Status.TheVariants as status;
 
 use crate::seconds::{bad_pace, print_bad_pace};
 use crate::serving_words::{read_memory, remembers_in_vain};
+use bac_commands::link_fault;
 use bac_forms::FORM_NAMES;
 use bac_lists::{EVERY_HOST, is_of_node, read_end, read_host, read_link, read_route};
 use bac_objects::{DocumentFault, Finding, document_findings};
@@ -34,6 +35,22 @@ pub(crate) fn print_unwritten<E: Write>(path: &str, error: &io::Error, err: &mut
     let status = complain(err, "cannot write", Status::Output);
     // if that fails too, only the status is left
     let _ = writeln!(err, "{path}: {error}");
+    status
+}
+
+/// Complains of a link that the system refuses, and tells its address and the system's reason.
+pub(crate) fn print_no_link<E: Write>(
+    host: [u8; 4],
+    port: u16,
+    error: &io::Error,
+    err: &mut E,
+) -> Status
+    ensures { result ≡ status.Output }
+{
+    let status = link_fault(err);
+    let [a, b, c, d] = host;
+    // if that fails too, only the status is left
+    let _ = writeln!(err, "{a}.{b}.{c}.{d}:{port}: {error}");
     status
 }
 

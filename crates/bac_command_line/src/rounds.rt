@@ -17,6 +17,7 @@ use crate::online::Machine;
 use crate::pace::{is_behind, print_late};
 use crate::recording::{Printer, print_ask, print_header, print_unasked_record};
 use crate::station::Station;
+use crate::unsent::tell_unsent_of;
 use crate::window::ask_ahead;
 use bac_commands::{CommandError, Style};
 use bac_driver::{Clock, Link, Question, RunLimit, WaitLimit};
@@ -145,7 +146,10 @@ fn rest<L: Link, C: Clock, E: Write>(
     };
     match station.bound_node.serve(&mut station.clock, &limit) {
         Ok(_) => Ok(()),
-        Err(fault) => Err(CommandError::from(fault).report(err)),
+        Err(fault) => {
+            let own = station.bound_node.node().link();
+            Err(CommandError::from(fault).report_at(own, err))
+        }
     }
 }
 
@@ -287,5 +291,7 @@ pub(crate) fn ask_by_client<M: Machine, O: Write, E: Write>(
         Ok(client) => client,
         Err(status) => return status,
     };
-    ask_and_report(asking, &mut client, asked, out, err)
+    let status = ask_and_report(asking, &mut client, asked, out, err);
+    tell_unsent_of(status, machine, asked, err);
+    status
 }

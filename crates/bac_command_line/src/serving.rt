@@ -10,10 +10,11 @@ ghost use Rattle.bac_commands.specs.Statuses.{ByStatus};
 ghost use Rattle.bac_command_line.specs.Keeping.{restarted_by};
 ghost use Rattle.bac_command_line.specs.Serving.{patience_of, restart_of, turns_of};
 
+use crate::reasons::print_no_link;
 use crate::station::Station;
 use bac_commands::{
-    KeptServer, LevelLog, LogFormat, LogLevel, LogSettings, OctetStyle, ServeCommand, link_fault,
-    print_event, serve_kept_logged,
+    KeptServer, LevelLog, LogFormat, LogLevel, LogSettings, OctetStyle, ServeCommand, print_event,
+    serve_kept_logged,
 };
 use bac_driver::{BoundNode, Clock, Link, NoObserver, RunLimit, WaitLimit};
 use bac_keep::Keeper;
@@ -163,12 +164,12 @@ impl Serving {
     }
 }
 
-/// Complains that the system refuses a server its link; where it was to run until it is ended, which link, and the system's reason.
+/// Complains that the system refuses a server its link: which, and the system's reason; in one line where it was to run until it is ended.
 pub(crate) fn print_not_bound<E: Write>(serving: &Serving, error: &io::Error, err: &mut E) -> Status
     ensures { result ≡ status.Output }
 {
     if serving.turns.is_some() {
-        return link_fault(err);
+        return print_no_link(serving.host, serving.port, error, err);
     }
     let [a, b, c, d] = serving.host;
     let port = serving.port;

@@ -56,6 +56,16 @@ impl System<'_, HostRuntime> {
         let now = SystemTime::now(self.runtime).ok()?;
         now.duration_since(UNIX_EPOCH).ok()
     }
+
+    /// A socket that is connected to a link, and has sent nothing.
+    fn connected(&self, link: LinkAddress) -> io::Result<UdpSocket> {
+        let [a, b, c, d, high, low] = link;
+        let port = u16::from_be_bytes([high, low]);
+        let any = SocketAddr::from((Ipv4Addr::UNSPECIFIED, 0));
+        let socket = UdpSocket::bind(self.runtime, any)?;
+        socket.connect(SocketAddr::from((Ipv4Addr::new(a, b, c, d), port)))?;
+        Ok(socket)
+    }
 }
 
 /// Whether the system says of standard input that a read does not wait: something is there, or it has ended. A file, which it has no such word of, never lets a
@@ -165,18 +175,18 @@ impl<'a> Machine for System<'a, HostRuntime> {
 
     /// That of a socket that is connected to the link, which sends nothing.
     fn source_towards(&self, link: LinkAddress) -> Option<[u8; 4]> {
-        let [a, b, c, d, high, low] = link;
-        let port = u16::from_be_bytes([high, low]);
-        let socket = UdpSocket::bind(
-            self.runtime,
-            SocketAddr::from((Ipv4Addr::UNSPECIFIED, 0)),
-        ).ok()?;
-        socket
-            .connect(SocketAddr::from((Ipv4Addr::new(a, b, c, d), port)))
-            .ok()?;
+        let socket = self.connected(link).ok()?;
         match socket.local_addr().ok()? {
             SocketAddr::V4(address) => Some(address.ip().octets()),
             SocketAddr::V6(_) => None,
+        }
+    }
+
+    /// That of a socket that is to be connected to the link, and sends nothing.
+    fn refusal_towards(&self, link: LinkAddress) -> Option<io::Error> {
+        match self.connected(link) {
+            Ok(_) => None,
+            Err(error) => Some(error),
         }
     }
 

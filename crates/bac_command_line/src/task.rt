@@ -34,9 +34,9 @@ pub(crate) enum Task<'m, 'a> {
     },
     /// The same as objects of JSON.
     DecodeJson(&'a str),
-    /// What is bad of this capture; other functions are counted by name or not.
+    /// What is bad of this capture, in words, with counts of other functions by name, or not.
     Check {
-        named: bool,
+        in_words: bool,
         capture: CaptureFile<'a>,
     },
     /// The bad lines of the capture in this file, which has notes.
@@ -198,8 +198,8 @@ pub(crate) fn task_of<'m, 'a>(
         ("check", given) if given.get_flag("json") => Some(Task::CheckJson(capture_of(given)?)),
         ("check", given) => {
             let capture = capture_of(given)?;
-            let named = given.get_flag("text");
-            Some(Task::Check { named, capture })
+            let in_words = given.get_flag("text");
+            Some(Task::Check { in_words, capture })
         }
         ("explain", given) => {
             let capture = capture_of(given)?;

@@ -162,7 +162,10 @@ fn go_on<M: Machine, E: Write>(
             flights.give_up_first();
             Ok(())
         }
-        Err(fault) => Err(CommandError::from(fault).report(err)),
+        Err(fault) => {
+            let own = client.station.bound_node.node().link();
+            Err(CommandError::from(fault).report_at(own, err))
+        }
     }
 }
 

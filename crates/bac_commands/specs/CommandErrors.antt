@@ -17,12 +17,12 @@ trouble_of fault.ClockBack = command_error.Clock
 abbrev pub trouble_of_round : RoundFault → CommandError
 trouble_of_round round_fault.Link = command_error.Link
 trouble_of_round round_fault.ClockBack = command_error.Clock
-trouble_of_round (round_fault.Keep why) = command_error.Keep
+trouble_of_round (round_fault.Keep why) = command_error.Keep why
 
 -- the status that says it; of a failed output it may also be that memory was refused
 abbrev pub IsPrintedBy : CommandError → Status → Type 0
 IsPrintedBy command_error.Link s = s ≡ status.Output
 IsPrintedBy command_error.Clock s = s ≡ status.Output
-IsPrintedBy command_error.Keep s = s ≡ status.Output
+IsPrintedBy (command_error.Keep why) s = s ≡ status.Output
 IsPrintedBy command_error.Memory s = s ≡ status.Memory
 IsPrintedBy (command_error.Output error) s = IsFailure s

@@ -29,7 +29,10 @@ pub fn serve_stretch<L: Link, C: Clock, E: Write>(
 {
     match bound_node.serve_observed(clock, limit, log, err) {
         Ok(effects) => Ok(effects),
-        Err(fault) => Err(CommandError::from(fault).report(err)),
+        Err(fault) => {
+            let own = bound_node.node().link();
+            Err(CommandError::from(fault).report_at(own, err))
+        }
     }
 }
 

@@ -61,7 +61,7 @@ impl<W: Write> FileReport<W> for Sketch {
 
     ghost Ends = { EndsFile };
 
-    ghost Others = { no_report };
+    ghost Others = { λ _. no_report };
 
     fn visit_frame(
         &mut self,
@@ -130,7 +130,7 @@ impl<W: Write> FileReport<W> for PairSketch {
 
     ghost Ends = { EndsPairs };
 
-    ghost Others = { no_report };
+    ghost Others = { λ _. no_report };
 
     fn visit_frame(
         &mut self,

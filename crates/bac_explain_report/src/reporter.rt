@@ -147,7 +147,7 @@ impl<W: Write, F: ReportForm + Drop> FileReport<W> for Reporter<F> {
 
     ghost Ends = { EndsFile F.IsOne F.AreLast };
 
-    ghost Others = { no_report };
+    ghost Others = { λ _. no_report };
 
     fn visit_frame(
         &mut self,

@@ -196,7 +196,7 @@ impl<W: Write> FileReport<W> for FileCheck {
 
     ghost Ends = { EndsFile };
 
-    ghost Others = { AreChecked false };
+    ghost Others = { λ _. AreChecked false };
 
     fn visit_frame(
         &mut self,

@@ -12,7 +12,7 @@ use crate::object::{file_of, is_reserved, kind_in, name_in};
 use crate::outline::Outline;
 use crate::problem::{Given, Problem, Wanted};
 use crate::property::own_property;
-use crate::refusals::{refusals, right_id};
+use crate::refusals::{Reasons, refusals, right_id};
 use crate::scalars::{array, table};
 use crate::type_names::nearest_type;
 use bac_store::{DescriptionFault, DescriptionFlaw, Property};
@@ -60,6 +60,8 @@ struct Collecting<'t> {
     has_device: bool,
     ids: Vec<ObjectIdentifier>,
     findings: Vec<Finding>,
+    /// That there are more reasons of refusal, where there are.
+    more: Option<Finding>,
 }
 
 impl Collecting<'_> {
@@ -352,53 +354,104 @@ impl Collecting<'_> {
 
     /// Notes why an object of a list, or all of them, are refused.
     fn note_refusal(&mut self, list: &Array, fault: DescriptionFault) -> Result<(), NoMemory> {
-        let DescriptionFault {
-            object,
-            property,
-            why,
-        } = fault;
-        let (number, table) = match object {
-            Some(place) => (place.saturating_add(1), table_at(list, place)),
-            None => (0, None),
-        };
-        let (line_key, value) = match (property, table) {
-            (Some(property), Some(table)) => {
-                let key = key_of(property, table);
-                (key, member(table, key))
-            }
-            _ => (key_of_flaw(why), None),
-        };
+        let RefusedPlace {
+            number,
+            table,
+            line_key,
+            value,
+        } = refused_in(list, fault);
         let line = self.outline.line(self.text, number, line_key);
         let id = table.and_then(right_id);
         let place = Place {
             object: number,
             id,
-            key: property_words(self.alloc, property)?,
+            key: property_words(self.alloc, fault.property)?,
         };
         let kind = match id {
             Some(id) => Some(id.kind),
             None => None,
         };
-        let wrong = refused(self.alloc, kind, fault, value)?;
+        let wrong = match same_name(list, fault) {
+            Some(wrong) => wrong,
+            None => refused(self.alloc, kind, fault, value)?,
+        };
         Ok(self.findings.push(Finding { line, place, wrong })?)
     }
 
-    /// Notes why described objects of a list are together no store, but what was noted of them already, or may be so because of that.
+    /// The same, but what was noted already, or may be so because of that.
+    fn note_untold(&mut self, list: &Array, fault: DescriptionFault) -> Result<(), NoMemory> {
+        let is_told = match fault.why {
+            DescriptionFlaw::SameIdentifier => true,
+            DescriptionFlaw::NoDevice => self.has_device || !self.is_whole,
+            _ => false,
+        };
+        if is_told {
+            return Ok(());
+        }
+        self.note_refusal(list, fault)
+    }
+
+    /// Notes that there are more reasons of refusal, from this one on; one of no single object is the last.
+    fn note_more(&mut self, list: &Array, fault: DescriptionFault) -> Result<(), NoMemory> {
+        if fault.object.is_none() {
+            return self.note_untold(list, fault);
+        }
+        let refused = refused_in(list, fault);
+        let line = self
+            .outline
+            .line(self.text, refused.number, refused.line_key);
+        self.more = Some(Finding::more(self.alloc, line));
+        Ok(())
+    }
+
+    /// Notes why described objects of a list are together no store.
     fn note_refusals(&mut self, list: &Array) -> Result<(), NoMemory> {
         if !self.is_described {
             return Ok(());
         }
-        for fault in refusals(self.alloc, list)?.iter() {
-            let is_told = match fault.why {
-                DescriptionFlaw::SameIdentifier => true,
-                DescriptionFlaw::NoDevice => self.has_device || !self.is_whole,
-                _ => false,
-            };
-            if !is_told {
-                self.note_refusal(list, *fault)?;
-            }
+        let Reasons { told, next } = refusals(self.alloc, list)?;
+        for fault in told.iter() {
+            self.note_untold(list, *fault)?;
         }
-        Ok(())
+        match next {
+            Some(fault) => self.note_more(list, fault),
+            None => Ok(()),
+        }
+    }
+}
+
+/// What is refused of a list: the number of the object and its table, and the key that it stands on the line of, with its value if a property is refused.
+#[derive(Clone, Copy)]
+struct RefusedPlace<'a> {
+    number: usize,
+    table: Option<&'a Table>,
+    line_key: &'a str,
+    value: Option<&'a Value>,
+}
+
+/// What a fault refuses of a list.
+fn refused_in(list: &Array, fault: DescriptionFault) -> RefusedPlace<'_> {
+    let DescriptionFault {
+        object,
+        property,
+        why,
+    } = fault;
+    let (number, table) = match object {
+        Some(place) => (place.saturating_add(1), table_at(list, place)),
+        None => (0, None),
+    };
+    let (line_key, value) = match (property, table) {
+        (Some(property), Some(table)) => {
+            let key = key_of(property, table);
+            (key, member(table, key))
+        }
+        _ => (key_of_flaw(why), None),
+    };
+    RefusedPlace {
+        number,
+        table,
+        line_key,
+        value,
     }
 }
 
@@ -408,6 +461,29 @@ fn table_at(list: &Array, place: usize) -> Option<&Table> {
         Some(Value::Table(table)) => Some(table),
         _ => None,
     }
+}
+
+/// The name of the object at a place of a list, where it has one.
+fn name_at(list: &Array, place: usize) -> Option<&str> {
+    member(table_at(list, place)?, "name")?.as_str()
+}
+
+/// Which earlier object has the name of the one that is refused for it. None where it is refused for another reason.
+fn same_name(list: &Array, fault: DescriptionFault) -> Option<Wrong> {
+    if fault.why != DescriptionFlaw::SameName {
+        return None;
+    }
+    let place = fault.object?;
+    let name = name_at(list, place)?;
+    for earlier in 0..place {
+        if name_at(list, earlier).is_some_and(|other| other == name) {
+            return Some(Wrong::SameName {
+                object: earlier.saturating_add(1),
+                id: table_at(list, earlier).and_then(right_id),
+            });
+        }
+    }
+    None
 }
 
 /// The key of a property, as an object writes it; that of its head where it has none.
@@ -446,8 +522,8 @@ fn is_no_property(problem: Problem) -> bool {
 }
 
 /// All faults of a document that [`read_objects`](crate::read_objects) refuses, in the order of their lines, those without one last: of lines that are no TOML (the first 16); of its keys outside
-/// of objects; of each object; and why the objects of a document that describes them are together no store (the first 32 reasons). Of a text that is not UTF-8 there is
-/// none here: the refusal of `read_objects` has its line.
+/// of objects; of each object; and why the objects of a document that describes them are together no store (the first 32 reasons). Where there are more of these, the
+/// last one says so. Of a text that is not UTF-8 there is none here: the refusal of `read_objects` has its line.
 ///
 /// An Err says that an allocation failed.
 pub fn document_findings(alloc: Global, text: &[u8]) -> Result<Vec<Finding>, NoMemory> {
@@ -470,10 +546,15 @@ pub fn document_findings(alloc: Global, text: &[u8]) -> Result<Vec<Finding>, NoM
         has_device: false,
         ids: Vec::new(alloc),
         findings,
+        more: None,
     };
     collecting.read_outside(&table)?;
     collecting.read_list(&table)?;
+    let more = collecting.more.take();
     let mut findings = collecting.findings;
     findings.sort_by_key(|finding| finding.line.unwrap_or(usize::MAX))?;
+    if let Some(more) = more {
+        findings.push(more)?;
+    }
     Ok(findings)
 }

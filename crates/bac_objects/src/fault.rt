@@ -91,7 +91,10 @@ impl fmt::Display for Place {
 }
 
 /// Prints an identifier in parentheses: the name of its type, or its number, and its instance.
-fn write_id<W: fmt::Write>(f: &mut fmt::Formatter<W>, id: ObjectIdentifier) -> fmt::Result {
+pub(crate) fn write_id<W: fmt::Write>(
+    f: &mut fmt::Formatter<W>,
+    id: ObjectIdentifier,
+) -> fmt::Result {
     let ObjectIdentifier { kind, instance } = id;
     match object_type_name(u32::from(kind)) {
         Some(name) => write!(f, " ({name} {instance})"),

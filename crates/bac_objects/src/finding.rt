@@ -1,7 +1,9 @@
 //! The faults of a document, each with its line.
-use crate::fault::Place;
+use crate::fault::{Place, write_id};
 use crate::problem::Wanted;
 use bac_store::DescriptionFlaw;
+use bac_value::ObjectIdentifier;
+use std::alloc::Global;
 use std::fmt;
 use toml::de::Error;
 
@@ -28,11 +30,18 @@ pub enum Wrong {
     },
     /// A value that is allowed, or an object of such values, that no store takes beside the objects before it.
     Refused(DescriptionFlaw),
+    /// The name of an earlier object: its number in the document, from 1 on, and its identifier, if its type and its instance are valid.
+    SameName {
+        object: usize,
+        id: Option<ObjectIdentifier>,
+    },
     /// What is no TOML: why, and what stands there up to the end of its line.
     NoToml {
         error: Error,
         there: String,
     },
+    /// More than is told: the first of it stands there.
+    More,
 }
 
 /// A fault of a document, and where it is.
@@ -42,6 +51,21 @@ pub struct Finding {
     pub line: Option<usize>,
     pub place: Place,
     pub wrong: Wrong,
+}
+
+impl Finding {
+    /// That more is wrong from a line on than is told.
+    pub(crate) fn more(alloc: Global, line: Option<usize>) -> Finding {
+        Finding {
+            line,
+            place: Place {
+                object: 0,
+                id: None,
+                key: String::new(alloc),
+            },
+            wrong: Wrong::More,
+        }
+    }
 }
 
 impl fmt::Display for Wrong {
@@ -71,12 +95,27 @@ impl fmt::Display for Wrong {
                 write!(f, "{flaw}: {limits} wanted, {found} given")
             }
             Wrong::Refused(flaw) => write!(f, "{flaw}"),
+            Wrong::SameName { object, id } => write_same_name(f, *object, *id),
             Wrong::NoToml { error, there } => {
                 let message = error.message();
                 write!(f, "{message}: {there}")
             }
+            Wrong::More => f.write_str("bad too, and perhaps more"),
         }
     }
+}
+
+/// Prints which earlier object has a name.
+fn write_same_name<W: fmt::Write>(
+    f: &mut fmt::Formatter<W>,
+    object: usize,
+    id: Option<ObjectIdentifier>,
+) -> fmt::Result {
+    write!(f, "a name that object {object}")?;
+    if let Some(id) = id {
+        write_id(f, id)?;
+    }
+    f.write_str(" has")
 }
 
 /// Prints what is wanted and what is there, and the name that is like it, where there is one.

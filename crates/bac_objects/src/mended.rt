@@ -124,7 +124,8 @@ fn without(
     Ok(Some(mended))
 }
 
-/// Reads a document as far as it is TOML, and adds what is wrong with the lines that are not. None where too much is not.
+/// Reads a document as far as it is TOML, and adds what is wrong with the lines that are not; behind the first ones, that there are more. None where too much is
+/// not.
 pub(crate) fn read_mended(
     alloc: Global,
     text: &str,
@@ -132,7 +133,7 @@ pub(crate) fn read_mended(
 ) -> Result<Option<Mended>, NoMemory> {
     let mut octets = Vec::from_slice(alloc, text.as_bytes())?;
     let mut last = None;
-    for _round in 0..MOST_UNREAD {
+    for round in 0..MOST_UNREAD + 1 {
         let Ok(text) = str::from_utf8(&octets) else {
             return Ok(None);
         };
@@ -143,6 +144,11 @@ pub(crate) fn read_mended(
         let Some(span) = error.span() else {
             return Err(NoMemory);
         };
+        if round == MOST_UNREAD {
+            let line = line_behind(text.as_bytes(), span.start);
+            findings.push(Finding::more(alloc, Some(line)))?;
+            return Ok(None);
+        }
         let finding = finding_of(alloc, text, span.start, error)?;
         if finding.line <= last {
             return Ok(None);

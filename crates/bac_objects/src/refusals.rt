@@ -110,31 +110,57 @@ fn objects_without(
     Ok(Placed { objects, places })
 }
 
+/// Why the objects of a list are no store.
+#[derive(Drop)]
+pub(crate) struct Reasons {
+    /// The first reasons.
+    pub(crate) told: Vec<DescriptionFault>,
+    /// The next one, where there are more.
+    pub(crate) next: Option<DescriptionFault>,
+}
+
+/// The first reason why the objects of a list are no store without what was refused, as far as they are right. None where they are one.
+fn refusal(
+    alloc: Global,
+    list: &Array,
+    refused: &[DescriptionFault],
+) -> Result<Option<DescriptionFault>, NoMemory> {
+    let Placed { objects, places } = objects_without(alloc, list, refused)?;
+    let Err(fault) = Store::describing(alloc, objects) else {
+        return Ok(None);
+    };
+    let DescriptionFault {
+        object,
+        property,
+        why,
+    } = fault;
+    if why == DescriptionFlaw::NoMemory {
+        return Err(NoMemory);
+    }
+    let object = match object {
+        Some(at) => places.get(at).copied(),
+        None => None,
+    };
+    Ok(Some(DescriptionFault {
+        object,
+        property,
+        why,
+    }))
+}
+
 /// Why the objects of a list are no store, as far as they are right: each object that is refused by its place in the list, and each property of one. The last is perhaps
 /// a reason of no single object.
-pub(crate) fn refusals(alloc: Global, list: &Array) -> Result<Vec<DescriptionFault>, NoMemory> {
-    let mut refused = Vec::new(alloc);
+pub(crate) fn refusals(alloc: Global, list: &Array) -> Result<Reasons, NoMemory> {
+    let mut told = Vec::new(alloc);
     for _round in 0..MOST_REFUSALS {
-        let Placed { objects, places } = objects_without(alloc, list, &refused)?;
-        let Err(fault) = Store::describing(alloc, objects) else {
-            return Ok(refused);
+        let Some(fault) = refusal(alloc, list, &told)? else {
+            return Ok(Reasons { told, next: None });
         };
-        if fault.why == DescriptionFlaw::NoMemory {
-            return Err(NoMemory);
-        }
-        let object = match fault.object {
-            Some(at) => places.get(at).copied(),
-            None => None,
-        };
-        let DescriptionFault { property, why, .. } = fault;
-        refused.push(DescriptionFault {
-            object,
-            property,
-            why,
-        })?;
-        if object.is_none() {
-            return Ok(refused);
+        told.push(fault)?;
+        if fault.object.is_none() {
+            return Ok(Reasons { told, next: None });
         }
     }
-    Ok(refused)
+    let next = refusal(alloc, list, &told)?;
+    Ok(Reasons { told, next })
 }

@@ -245,6 +245,14 @@ impl<'a> Machine for BenchMachine<'a> {
         self.scene.source
     }
 
+    /// Where nothing can be sent, no link can be reached.
+    fn refusal_towards(&self, _link: [u8; 6]) -> Option<io::Error> {
+        match self.scene.behind {
+            Behind::Unsent(_) => Some(io::Error::from(io::ErrorKind::NetworkUnreachable)),
+            _ => None,
+        }
+    }
+
     fn open_database(&self, path: &str) -> Result<(MemStore, bool), OpenFault> {
         database_at(self.alloc, self.setup, path)
     }

@@ -29,28 +29,28 @@ bad_more (Good ∷ fs) gs = bad_more fs gs
 bad_more (Note ∷ fs) gs = bad_more fs gs
 bad_more (Bad f ∷ fs) gs = omega (arith, bad_more fs gs)
 
-texts_more : (before : ℕ) (fs gs : List LineVerdict) → verdicts_text before (fs ++ gs) ≡ verdicts_text before fs ++ verdicts_text (before + length fs) gs
-texts_more before [] gs =
+texts_more : (in_words : Bool) (before : ℕ) (fs gs : List LineVerdict) → verdicts_text in_words before (fs ++ gs) ≡ verdicts_text in_words before fs ++ verdicts_text in_words (before + length fs) gs
+texts_more in_words before [] gs =
     let e : before ≡ before + 0 = omega arith in
-    ap (λ (n : ℕ). verdicts_text n gs) e
-texts_more before (f ∷ fs) gs =
+    ap (λ (n : ℕ). verdicts_text in_words n gs) e
+texts_more in_words before (f ∷ fs) gs =
     let e : before + 1 + length fs ≡ before + suc (length fs) = omega arith in
-    let head = verdict_text (before + 1) f in
-    ap (λ (l : List ℕ). head ++ l) (texts_more (before + 1) fs gs)
-    ∙ ap (λ (n : ℕ). head ++ (verdicts_text (before + 1) fs ++ verdicts_text n gs)) e
-    ∙ sym (append_assoc head (verdicts_text (before + 1) fs) (verdicts_text (before + suc (length fs)) gs))
+    let head = verdict_text in_words (before + 1) f in
+    ap (λ (l : List ℕ). head ++ l) (texts_more in_words (before + 1) fs gs)
+    ∙ ap (λ (n : ℕ). head ++ (verdicts_text in_words (before + 1) fs ++ verdicts_text in_words n gs)) e
+    ∙ sym (append_assoc head (verdicts_text in_words (before + 1) fs) (verdicts_text in_words (before + suc (length fs)) gs))
 
-last_text : (fs : List LineVerdict) (f : LineVerdict) (n : ℕ) → n ≡ length fs
-    → verdicts_text 0 (fs ++ (f ∷ [])) ≡ verdicts_text 0 fs ++ verdict_text (n + 1) f
-last_text fs f n e =
+last_text : (in_words : Bool) (fs : List LineVerdict) (f : LineVerdict) (n : ℕ) → n ≡ length fs
+    → verdicts_text in_words 0 (fs ++ (f ∷ [])) ≡ verdicts_text in_words 0 fs ++ verdict_text in_words (n + 1) f
+last_text in_words fs f n e =
     let same : 0 + length fs ≡ n = omega (arith, e) in
-    texts_more 0 fs (f ∷ []) ∙ ap (λ (m : ℕ). verdicts_text 0 fs ++ verdicts_text m (f ∷ [])) same
-    ∙ ap (λ (l : List ℕ). verdicts_text 0 fs ++ l) (append-nil (verdict_text (n + 1) f))
+    texts_more in_words 0 fs (f ∷ []) ∙ ap (λ (m : ℕ). verdicts_text in_words 0 fs ++ verdicts_text in_words m (f ∷ [])) same
+    ∙ ap (λ (l : List ℕ). verdicts_text in_words 0 fs ++ l) (append-nil (verdict_text in_words (n + 1) f))
 
-pub none_so_far : (notes : Bool) (octets : Option (List ℕ)) (out : Option (List ℕ)) (t : Count) → t.lines ≡ 0 → t.good ≡ 0 → t.bad ≡ 0 → t.latest ≡ 0
-    → AreSoFar notes octets octets out out t
-none_so_far notes None out t lines good bad latest = tt
-none_so_far notes (Some xs) out t lines good bad latest = record {
+pub none_so_far : (in_words notes : Bool) (octets : Option (List ℕ)) (out : Option (List ℕ)) (t : Count) → t.lines ≡ 0 → t.good ≡ 0 → t.bad ≡ 0 → t.latest ≡ 0
+    → AreSoFar in_words notes octets octets out out t
+none_so_far in_words notes None out t lines good bad latest = tt
+none_so_far in_words notes (Some xs) out t lines good bad latest = record {
   verdicts = [];
   rest = xs;
   is = refl;
@@ -61,14 +61,14 @@ none_so_far notes (Some xs) out t lines good bad latest = record {
   bad = bad;
 }
 
-step_at : (notes : Bool) (here : List ℕ) (left new old_out new_out : Option (List ℕ)) (t u : Count) → left ≡ Some here → IsStep notes left new old_out new_out t (Some u)
-    → IsNextCounted notes here new old_out new_out t u
-step_at notes here left new old_out new_out t u e s = subst (λ (o : Option (List ℕ)). IsStep notes o new old_out new_out t (Some u)) e s
+step_at : (in_words notes : Bool) (here : List ℕ) (left new old_out new_out : Option (List ℕ)) (t u : Count) → left ≡ Some here → IsStep in_words notes left new old_out new_out t (Some u)
+    → IsNextCounted in_words notes here new old_out new_out t u
+step_at in_words notes here left new old_out new_out t u e s = subst (λ (o : Option (List ℕ)). IsStep in_words notes o new old_out new_out t (Some u)) e s
 
-pub one_more : (notes : Bool) (octets left new a b c : Option (List ℕ)) (t u : Count) → AreSoFar notes octets left a b t → IsStep notes left new b c t (Some u) → AreSoFar notes octets new a c u
-one_more notes None left new a b c t u s step = tt
-one_more notes (Some xs) left new a b c t u s step =
-    let next = step_at notes s.rest left new b c t u s.is step in
+pub one_more : (in_words notes : Bool) (octets left new a b c : Option (List ℕ)) (t u : Count) → AreSoFar in_words notes octets left a b t → IsStep in_words notes left new b c t (Some u) → AreSoFar in_words notes octets new a c u
+one_more in_words notes None left new a b c t u s step = tt
+one_more in_words notes (Some xs) left new a b c t u s step =
+    let next = step_at in_words notes s.rest left new b c t u s.is step in
     let counted = next.counted in
     let one : List LineVerdict = counted.verdict ∷ [] in
     record {
@@ -79,20 +79,20 @@ one_more notes (Some xs) left new a b c t u s step =
           let here : AreJudged notes (lines_of s.rest) t.latest (counted.verdict ∷ more) =
           subst (λ (ls : List (List ℕ)). AreJudged notes ls t.latest (counted.verdict ∷ more)) (sym next.lines) (u.latest, (counted.judged, judged)) in
           subst (λ (fs : List LineVerdict). AreJudged notes (lines_of xs) 0 fs) (sym (append_assoc s.verdicts one more)) (s.judged (counted.verdict ∷ more) here);
-      printed = subst (Appends a c) (sym (last_text s.verdicts counted.verdict t.lines s.lines)) (Appends-trans a b c _ _ s.printed counted.printed);
+      printed = subst (Appends a c) (sym (last_text in_words s.verdicts counted.verdict t.lines s.lines)) (Appends-trans a b c _ _ s.printed counted.printed);
       lines = omega (arith, counted.lines, s.lines, length-append s.verdicts one);
       good = omega (arith, counted.good, s.good, good_more s.verdicts one);
       bad = omega (arith, counted.bad, s.bad, bad_more s.verdicts one);
     }
 
-end_at : (notes : Bool) (here : List ℕ) (left new old_out new_out : Option (List ℕ)) (t : Count) → left ≡ Some here → IsStep notes left new old_out new_out t None
+end_at : (in_words notes : Bool) (here : List ℕ) (left new old_out new_out : Option (List ℕ)) (t : Count) → left ≡ Some here → IsStep in_words notes left new old_out new_out t None
     → (here ≡ []) × Keeps old_out new_out
-end_at notes here left new old_out new_out t e s = subst (λ (o : Option (List ℕ)). IsStep notes o new old_out new_out t None) e s
+end_at in_words notes here left new old_out new_out t e s = subst (λ (o : Option (List ℕ)). IsStep in_words notes o new old_out new_out t None) e s
 
-pub all_counted : (notes : Bool) (octets left new a b c : Option (List ℕ)) (t : Count) → AreSoFar notes octets left a b t → IsStep notes left new b c t None → AreCounted notes octets a c t
-all_counted notes None left new a b c t s step = tt
-all_counted notes (Some xs) left new a b c t s step =
-    let end = end_at notes s.rest left new b c t s.is step in
+pub all_counted : (in_words notes : Bool) (octets left new a b c : Option (List ℕ)) (t : Count) → AreSoFar in_words notes octets left a b t → IsStep in_words notes left new b c t None → AreCounted in_words notes octets a c t
+all_counted in_words notes None left new a b c t s step = tt
+all_counted in_words notes (Some xs) left new a b c t s step =
+    let end = end_at in_words notes s.rest left new b c t s.is step in
     record {
       verdicts = s.verdicts;
       judged = subst (λ (fs : List LineVerdict). AreJudged notes (lines_of xs) 0 fs) (append-nil s.verdicts)
@@ -105,10 +105,10 @@ all_counted notes (Some xs) left new a b c t s step =
 
 -- ---- one line
 
-pub line_counted : (notes : Bool) (octets new a b : Option (List ℕ)) (line : List ℕ) (t u : Count)
-    → IsNextLine octets new line true → IsCounted notes line a b t u → IsStep notes octets new a b t (Some u)
-line_counted notes None new a b line t u next counted = tt
-line_counted notes (Some xs) new a b line t u next counted =
+pub line_counted : (in_words notes : Bool) (octets new a b : Option (List ℕ)) (line : List ℕ) (t u : Count)
+    → IsNextLine octets new line true → IsCounted in_words notes line a b t u → IsStep in_words notes octets new a b t (Some u)
+line_counted in_words notes None new a b line t u next counted = tt
+line_counted in_words notes (Some xs) new a b line t u next counted =
     let same : short_capture_at notes line ≡ short_capture_at notes (line_in xs) = ap (short_capture_at notes) next.1.1 ∙ kept_capture notes (line_in xs) in
     record {
       line = line_in xs;
@@ -125,50 +125,50 @@ line_counted notes (Some xs) new a b line t u next counted =
       };
     }
 
-pub input_ended : (notes : Bool) (octets new a : Option (List ℕ)) (line : List ℕ) (t : Count)
-    → IsNextLine octets new line false → (b : Option (List ℕ)) → Keeps a b → IsStep notes octets new a b t None
-input_ended notes None new a line t next b keeps = tt
-input_ended notes (Some xs) new a line t next b keeps = (next.0, keeps)
+pub input_ended : (in_words notes : Bool) (octets new a : Option (List ℕ)) (line : List ℕ) (t : Count)
+    → IsNextLine octets new line false → (b : Option (List ℕ)) → Keeps a b → IsStep in_words notes octets new a b t None
+input_ended in_words notes None new a line t next b keeps = tt
+input_ended in_words notes (Some xs) new a line t next b keeps = (next.0, keeps)
 
 -- ---- the whole capture
 
-whole : (notes : Bool) (xs : List ℕ) (a b c d : Option (List ℕ)) (t : Count) (s : Status) → IsCountOf notes xs a b t
-    → Appends b c (tally_text notes t.lines t.good t.bad) → Keeps c d → IsTallied t.bad s → IsChecked notes xs a d s
-whole notes xs a b c d t s counted printed keeps tallied =
+whole : (in_words notes : Bool) (xs : List ℕ) (a b c d : Option (List ℕ)) (t : Count) (s : Status) → IsCountOf in_words notes xs a b t
+    → Appends b c (tally_text notes t.lines t.good t.bad) → Keeps c d → IsTallied t.bad s → IsChecked in_words notes xs a d s
+whole in_words notes xs a b c d t s counted printed keeps tallied =
     let vs = counted.verdicts in
     let all = Appends-kept a c d _ (Appends-trans a b c _ _ counted.printed printed) keeps in
     record {
       verdicts = vs;
       judged = counted.judged;
-      printed = subst (λ (n : ℕ). Appends a d (verdicts_text 0 vs ++ tally_text notes n (good_among vs) (bad_among vs))) counted.lines
-          (subst (λ (n : ℕ). Appends a d (verdicts_text 0 vs ++ tally_text notes t.lines n (bad_among vs))) counted.good
-          (subst (λ (n : ℕ). Appends a d (verdicts_text 0 vs ++ tally_text notes t.lines t.good n)) counted.bad all));
+      printed = subst (λ (n : ℕ). Appends a d (verdicts_text in_words 0 vs ++ tally_text notes n (good_among vs) (bad_among vs))) counted.lines
+          (subst (λ (n : ℕ). Appends a d (verdicts_text in_words 0 vs ++ tally_text notes t.lines n (bad_among vs))) counted.good
+          (subst (λ (n : ℕ). Appends a d (verdicts_text in_words 0 vs ++ tally_text notes t.lines t.good n)) counted.bad all));
       tallied = subst (λ (n : ℕ). IsTallied n s) counted.bad tallied;
     }
 
-pub reported : (notes : Bool) (octets a b c d : Option (List ℕ)) (t : Count) (s : Status) → AreCounted notes octets a b t
-    → Appends b c (tally_text notes t.lines t.good t.bad) → Keeps c d → IsTallied t.bad s → IsReportAs notes octets a d s
-reported notes octets a b c d t status.CommandLine counted printed keeps tallied = tt
-reported notes octets a b c d t status.Output counted printed keeps tallied = tt
-reported notes octets a b c d t status.Memory counted printed keeps tallied = tt
-reported notes None a b c d t status.Done counted printed keeps tallied = tt
-reported notes None a b c d t status.Faulty counted printed keeps tallied = tt
-reported notes (Some xs) a b c d t status.Done counted printed keeps tallied = whole notes xs a b c d t status.Done counted printed keeps tallied
-reported notes (Some xs) a b c d t status.Faulty counted printed keeps tallied = whole notes xs a b c d t status.Faulty counted printed keeps tallied
+pub reported : (in_words notes : Bool) (octets a b c d : Option (List ℕ)) (t : Count) (s : Status) → AreCounted in_words notes octets a b t
+    → Appends b c (tally_text notes t.lines t.good t.bad) → Keeps c d → IsTallied t.bad s → IsReportAs in_words notes octets a d s
+reported in_words notes octets a b c d t status.CommandLine counted printed keeps tallied = tt
+reported in_words notes octets a b c d t status.Output counted printed keeps tallied = tt
+reported in_words notes octets a b c d t status.Memory counted printed keeps tallied = tt
+reported in_words notes None a b c d t status.Done counted printed keeps tallied = tt
+reported in_words notes None a b c d t status.Faulty counted printed keeps tallied = tt
+reported in_words notes (Some xs) a b c d t status.Done counted printed keeps tallied = whole in_words notes xs a b c d t status.Done counted printed keeps tallied
+reported in_words notes (Some xs) a b c d t status.Faulty counted printed keeps tallied = whole in_words notes xs a b c d t status.Faulty counted printed keeps tallied
 
 -- ---- the same for values of the code
 
-pub line_counted_at : (notes : Bool) (octets new a b : Option (List ℕ)) (line shown : List ℕ) (t u : Count) (found : Bool) → shown ≡ line → found ≡ true
-    → IsNextLine octets new line found → IsCounted notes shown a b t u → IsStep notes octets new a b t (Some u)
-line_counted_at notes octets new a b line shown t u found same is next counted =
-    line_counted notes octets new a b line t u (subst (λ (x : Bool). IsNextLine octets new line x) is next) (subst (λ (l : List ℕ). IsCounted notes l a b t u) same counted)
+pub line_counted_at : (in_words notes : Bool) (octets new a b : Option (List ℕ)) (line shown : List ℕ) (t u : Count) (found : Bool) → shown ≡ line → found ≡ true
+    → IsNextLine octets new line found → IsCounted in_words notes shown a b t u → IsStep in_words notes octets new a b t (Some u)
+line_counted_at in_words notes octets new a b line shown t u found same is next counted =
+    line_counted in_words notes octets new a b line t u (subst (λ (x : Bool). IsNextLine octets new line x) is next) (subst (λ (l : List ℕ). IsCounted in_words notes l a b t u) same counted)
 
-pub one_more_at : (notes : Bool) (octets left new a b c : Option (List ℕ)) (t : Count) (r : Option Tally) (u : Tally) → AreSoFar notes octets left a b t
-    → IsStep notes left new b c t (option_map count_of r) → r ≡ Some u → AreSoFar notes octets new a c (count_of u)
-one_more_at notes octets left new a b c t r u s step is =
-    one_more notes octets left new a b c t (count_of u) s (subst (λ (o : Option Tally). IsStep notes left new b c t (option_map count_of o)) is step)
+pub one_more_at : (in_words notes : Bool) (octets left new a b c : Option (List ℕ)) (t : Count) (r : Option Tally) (u : Tally) → AreSoFar in_words notes octets left a b t
+    → IsStep in_words notes left new b c t (option_map count_of r) → r ≡ Some u → AreSoFar in_words notes octets new a c (count_of u)
+one_more_at in_words notes octets left new a b c t r u s step is =
+    one_more in_words notes octets left new a b c t (count_of u) s (subst (λ (o : Option Tally). IsStep in_words notes left new b c t (option_map count_of o)) is step)
 
-pub all_counted_at : (notes : Bool) (octets left new a b c : Option (List ℕ)) (t : Count) (r : Option Tally) → AreSoFar notes octets left a b t
-    → IsStep notes left new b c t (option_map count_of r) → r ≡ None → AreCounted notes octets a c t
-all_counted_at notes octets left new a b c t r s step is =
-    all_counted notes octets left new a b c t s (subst (λ (o : Option Tally). IsStep notes left new b c t (option_map count_of o)) is step)
+pub all_counted_at : (in_words notes : Bool) (octets left new a b c : Option (List ℕ)) (t : Count) (r : Option Tally) → AreSoFar in_words notes octets left a b t
+    → IsStep in_words notes left new b c t (option_map count_of r) → r ≡ None → AreCounted in_words notes octets a c t
+all_counted_at in_words notes octets left new a b c t r s step is =
+    all_counted in_words notes octets left new a b c t s (subst (λ (o : Option Tally). IsStep in_words notes left new b c t (option_map count_of o)) is step)

@@ -17,52 +17,52 @@ abbrev pub count_of : Tally → Count
 count_of t = record { lines = t.lines; good = t.good; bad = t.bad; latest = t.latest }
 
 -- a line was judged and counted, and its verdict printed
-pub record IsCounted (notes : Bool) (line : List ℕ) (old new : Option (List ℕ)) (before after : Count) : Type 0 where
+pub record IsCounted (in_words notes : Bool) (line : List ℕ) (old new : Option (List ℕ)) (before after : Count) : Type 0 where
   pub verdict : LineVerdict
   pub judged : IsJudged (short_capture_at notes line) before.latest verdict after.latest
-  pub printed : Appends old new (verdict_text (before.lines + 1) verdict)
+  pub printed : Appends old new (verdict_text in_words (before.lines + 1) verdict)
   pub lines : after.lines ≡ before.lines + 1
   pub good : after.good ≡ before.good + good_among (verdict ∷ [])
   pub bad : after.bad ≡ before.bad + bad_among (verdict ∷ [])
 
 -- the first line was taken and counted
-pub record IsNextCounted (notes : Bool) (octets : List ℕ) (left old new : Option (List ℕ)) (before after : Count) : Type 0 where
+pub record IsNextCounted (in_words notes : Bool) (octets : List ℕ) (left old new : Option (List ℕ)) (before after : Count) : Type 0 where
   pub line : List ℕ
   pub rest : List ℕ
   pub lines : lines_of octets ≡ line ∷ lines_of rest
   pub is : left ≡ Some rest
-  pub counted : IsCounted notes line old new before after
+  pub counted : IsCounted in_words notes line old new before after
 
 -- the input goes from the first argument to the second, the output from the third to the fourth
-abbrev pub IsStep : (notes : Bool) → Option (List ℕ) → Option (List ℕ) → Option (List ℕ) → Option (List ℕ) → Count → Option Count → Type 0
-IsStep notes None left old new before after = ⊤
-IsStep notes (Some octets) left old new before None = (octets ≡ []) × Keeps old new
-IsStep notes (Some octets) left old new before (Some after) = IsNextCounted notes octets left old new before after
+abbrev pub IsStep : (in_words notes : Bool) → Option (List ℕ) → Option (List ℕ) → Option (List ℕ) → Option (List ℕ) → Count → Option Count → Type 0
+IsStep in_words notes None left old new before after = ⊤
+IsStep in_words notes (Some octets) left old new before None = (octets ≡ []) × Keeps old new
+IsStep in_words notes (Some octets) left old new before (Some after) = IsNextCounted in_words notes octets left old new before after
 
 -- some lines were counted, and the others stand before
-pub record IsSoFar (notes : Bool) (octets : List ℕ) (left old new : Option (List ℕ)) (tally : Count) : Type 0 where
+pub record IsSoFar (in_words notes : Bool) (octets : List ℕ) (left old new : Option (List ℕ)) (tally : Count) : Type 0 where
   pub verdicts : List LineVerdict
   pub rest : List ℕ
   pub is : left ≡ Some rest
   pub judged : (more : List LineVerdict) → AreJudged notes (lines_of rest) tally.latest more → AreJudged notes (lines_of octets) 0 (verdicts ++ more)
-  pub printed : Appends old new (verdicts_text 0 verdicts)
+  pub printed : Appends old new (verdicts_text in_words 0 verdicts)
   pub lines : tally.lines ≡ length verdicts
   pub good : tally.good ≡ good_among verdicts
   pub bad : tally.bad ≡ bad_among verdicts
 
-abbrev pub AreSoFar : (notes : Bool) → Option (List ℕ) → Option (List ℕ) → Option (List ℕ) → Option (List ℕ) → Count → Type 0
-AreSoFar notes None left old new tally = ⊤
-AreSoFar notes (Some octets) left old new tally = IsSoFar notes octets left old new tally
+abbrev pub AreSoFar : (in_words notes : Bool) → Option (List ℕ) → Option (List ℕ) → Option (List ℕ) → Option (List ℕ) → Count → Type 0
+AreSoFar in_words notes None left old new tally = ⊤
+AreSoFar in_words notes (Some octets) left old new tally = IsSoFar in_words notes octets left old new tally
 
 -- all lines were counted, and their verdicts printed
-pub record IsCountOf (notes : Bool) (octets : List ℕ) (old new : Option (List ℕ)) (tally : Count) : Type 0 where
+pub record IsCountOf (in_words notes : Bool) (octets : List ℕ) (old new : Option (List ℕ)) (tally : Count) : Type 0 where
   pub verdicts : List LineVerdict
   pub judged : AreJudged notes (lines_of octets) 0 verdicts
-  pub printed : Appends old new (verdicts_text 0 verdicts)
+  pub printed : Appends old new (verdicts_text in_words 0 verdicts)
   pub lines : tally.lines ≡ length verdicts
   pub good : tally.good ≡ good_among verdicts
   pub bad : tally.bad ≡ bad_among verdicts
 
-abbrev pub AreCounted : (notes : Bool) → Option (List ℕ) → Option (List ℕ) → Option (List ℕ) → Count → Type 0
-AreCounted notes None old new tally = ⊤
-AreCounted notes (Some octets) old new tally = IsCountOf notes octets old new tally
+abbrev pub AreCounted : (in_words notes : Bool) → Option (List ℕ) → Option (List ℕ) → Option (List ℕ) → Count → Type 0
+AreCounted in_words notes None old new tally = ⊤
+AreCounted in_words notes (Some octets) old new tally = IsCountOf in_words notes octets old new tally

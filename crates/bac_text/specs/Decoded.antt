@@ -13,7 +13,7 @@ use Rattle.bac_text.specs.declared.bvlc.OtherBvll.{OtherBvll}
 use Rattle.bac_text.specs.declared.bvlc.OtherBvll.TheVariants as other
 use Rattle.bac_text.specs.Bvlc.{other_bvll_of}
 use Rattle.bac_text.specs.Carried.{carried_at, function_line}
-use Rattle.bac_text.specs.Faults.{printed_fault}
+use Rattle.bac_text.specs.Faults.{function_in, printed_fault}
 use Rattle.bac_text.specs.Layers.{Service, request_data_in, complex_data_in}
 use Rattle.bac_text.specs.NameLines.{message_lines, service_lines}
 use Rattle.bac_text.specs.Texts.{Is, line_end, bvll_text, npdu_text, apdu_text, IsRequestText, IsComplexText}
@@ -73,7 +73,7 @@ abbrev pub AreLayerLines : (in_words : Bool) → List ℕ → List ℕ → Type 
 AreLayerLines in_words datagram = IsLayer SpellsBvll (AreBvllLines in_words (length datagram)) datagram
 
 abbrev pub fault_line : (in_words : Bool) → (datagram : List ℕ) → LayerFault → List ℕ
-fault_line in_words datagram fault = printed_fault in_words datagram fault ++ line_end
+fault_line in_words datagram fault = printed_fault in_words (function_in datagram) fault ++ line_end
 
 -- ---- in words, what a BVLL with another function is
 

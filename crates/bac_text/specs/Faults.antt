@@ -1,5 +1,5 @@
 -- The name and the number by which a fault is printed.
-use Rattle.std.specs.Prelude.{ℕ, Bool, true, false, List, [], ◌∷◌, codes, ◌++◌, decimal}
+use Rattle.std.specs.Prelude.{ℕ, Bool, true, false, List, [], ◌∷◌, codes, ◌++◌, decimal, Option, Some, None}
 use Rattle.hex.specs.Hex.{encode_upper}
 use Rattle.bac_apdu.specs.declared.fault.ApduFault.{ApduFault}
 use Rattle.bac_apdu.specs.declared.fault.ApduFault.TheVariants as apdu_fault
@@ -67,26 +67,30 @@ kind_reason kind.ReservedBits = codes "reserved bits"
 abbrev pub fault_because : LayerFault → List ℕ → List ℕ
 fault_because fault reason = fault_text fault ++ (codes " (" ++ (reason ++ codes ")"))
 
--- the function of a BVLL
-abbrev pub function_digits : (datagram : List ℕ) → List ℕ
-function_digits (version ∷ function ∷ octets) = encode_upper (function ∷ [])
-function_digits octets = []
+-- the function of a BVLL, if it is there
+abbrev pub function_in : (datagram : List ℕ) → Option ℕ
+function_in (version ∷ function ∷ octets) = Some function
+function_in octets = None
 
-abbrev pub function_reason : (datagram : List ℕ) → List ℕ
-function_reason datagram = codes "function " ++ (function_digits datagram ++ codes ": not Original-Unicast-NPDU")
+abbrev pub function_digits : (function : Option ℕ) → List ℕ
+function_digits (Some function) = encode_upper (function ∷ [])
+function_digits None = []
+
+abbrev pub function_reason : (function : Option ℕ) → List ℕ
+function_reason function = codes "function " ++ (function_digits function ++ codes ": not Original-Unicast-NPDU")
 
 -- of a BVLL of another function that function too, and of a request the reason of its Reject by name
-abbrev pub bvll_words : (datagram : List ℕ) → FrameFault → List ℕ
-bvll_words datagram frame_fault.NotUnicast = fault_because (Bvll frame_fault.NotUnicast) (function_reason datagram)
-bvll_words datagram fault = fault_because (Bvll fault) (frame_reason fault)
+abbrev pub bvll_words : (function : Option ℕ) → FrameFault → List ℕ
+bvll_words function frame_fault.NotUnicast = fault_because (Bvll frame_fault.NotUnicast) (function_reason function)
+bvll_words function fault = fault_because (Bvll fault) (frame_reason fault)
 
-abbrev pub fault_words : (datagram : List ℕ) → LayerFault → List ℕ
-fault_words datagram (Bvll fault) = bvll_words datagram fault
-fault_words datagram (Npdu fault) = fault_because (Npdu fault) (frame_reason fault)
-fault_words datagram (Apdu fault) = fault_because (Apdu fault) (apdu_reason fault)
-fault_words datagram (Request reason) = codes "fault reject " ++ reject_text (reason_number reason)
-fault_words datagram (ComplexAck kind) = fault_because (ComplexAck kind) (kind_reason kind)
+abbrev pub fault_words : (function : Option ℕ) → LayerFault → List ℕ
+fault_words function (Bvll fault) = bvll_words function fault
+fault_words function (Npdu fault) = fault_because (Npdu fault) (frame_reason fault)
+fault_words function (Apdu fault) = fault_because (Apdu fault) (apdu_reason fault)
+fault_words function (Request reason) = codes "fault reject " ++ reject_text (reason_number reason)
+fault_words function (ComplexAck kind) = fault_because (ComplexAck kind) (kind_reason kind)
 
-abbrev pub printed_fault : (in_words : Bool) → (datagram : List ℕ) → LayerFault → List ℕ
-printed_fault false datagram fault = fault_text fault
-printed_fault true datagram fault = fault_words datagram fault
+abbrev pub printed_fault : (in_words : Bool) → (function : Option ℕ) → LayerFault → List ℕ
+printed_fault false function fault = fault_text fault
+printed_fault true function fault = fault_words function fault

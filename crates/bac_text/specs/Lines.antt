@@ -7,6 +7,7 @@ use Rattle.std.specs.Option.{option_map}
 use Rattle.bac_text.specs.declared.lines.TheConstants as code
 use Rattle.bac_value_text.specs.Splits.{onto_first}
 use Rattle.bac_text.specs.Capture.{capture_at}
+use Rattle.bac_text.specs.Faults.{function_in}
 use Rattle.bac_text.specs.Notes.{read_of}
 use Rattle.bac_text.specs.Layers.{IsFine, IsAtFault}
 
@@ -54,7 +55,7 @@ IsVerdict datagram Good = IsFine datagram
 IsVerdict datagram Note = ⊥
 IsVerdict datagram (Bad NoCaptureLine) = ⊥
 IsVerdict datagram (Bad MomentGoesBack) = ⊥
-IsVerdict datagram (Bad (Datagram fault)) = IsAtFault datagram fault
+IsVerdict datagram (Bad (Datagram fault function)) = IsAtFault datagram fault × (function ≡ function_in datagram)
 
 -- a line whose moment goes back is judged by that alone, and the greatest moment stays
 abbrev pub IsJudgedIn : (goes_back : Bool) → ℕ → List ℕ → ℕ → LineVerdict → ℕ → Type 0

@@ -10,7 +10,7 @@ pub use Rattle.bac_service_text.specs.Dispatch.{IsComplexText, IsRequestText}
 pub use Rattle.bac_service_text.specs.Members.{AppendsLine, AppendsText, Is, bit_text, line_end, optional}
 use Rattle.bac_text.specs.declared.fault.LineFault.{LineFault}
 use Rattle.bac_text.specs.declared.fault.LineFault.TheVariants.{NoCaptureLine, MomentGoesBack, Datagram}
-use Rattle.bac_text.specs.Faults.{fault_text}
+use Rattle.bac_text.specs.Faults.{printed_fault}
 
 -- a network and an address on it, after a name
 abbrev pub place_text : List ℕ → ℕ → List ℕ → List ℕ
@@ -95,7 +95,7 @@ apdu_text in_words a = members_text in_words a ++ line_end
 
 -- ---- what is wrong with a line of a capture
 
-abbrev pub line_fault_text : LineFault → List ℕ
-line_fault_text NoCaptureLine = codes "not a capture line"
-line_fault_text MomentGoesBack = codes "moment goes back"
-line_fault_text (Datagram fault) = fault_text fault
+abbrev pub line_fault_text : (in_words : Bool) → LineFault → List ℕ
+line_fault_text in_words NoCaptureLine = codes "not a capture line"
+line_fault_text in_words MomentGoesBack = codes "moment goes back"
+line_fault_text in_words (Datagram fault function) = printed_fault in_words function fault

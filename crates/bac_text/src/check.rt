@@ -11,6 +11,7 @@ ghost use Rattle.bac_text.specs.Lines.{short_capture_at, IsJudged};
 use crate::capture::read_into;
 use crate::error::{CheckError, stopped};
 use crate::fault::{LineFault, LineVerdict};
+use crate::fault_words::{function_in, line_words};
 use crate::layers::check_datagram;
 use crate::lines::{LINE_LIMIT, next_line};
 use crate::notes::read_of;
@@ -19,6 +20,16 @@ use crate::tally::Tally;
 use std::alloc::{AllocError, Global};
 use std::io;
 use std::io::{BufRead, ErrorKind, Write};
+
+/// How a capture is checked.
+#[derive(Clone, Copy)]
+struct CheckStyle {
+    alloc: Global,
+    /// Whether faults are printed in words.
+    in_words: bool,
+    /// Whether notes are taken.
+    notes: bool,
+}
 
 /// What a line is whose octets are not too many, where the greatest moment so far is `latest`; and the greatest moment from here on.
 /// Its datagram stands in `datagram`, whose memory serves each line.
@@ -41,7 +52,11 @@ fn verdict_on(
     }
     match check_datagram(datagram) {
         Ok(()) => Ok((LineVerdict::Good, moment)),
-        Err(fault) => Ok((LineVerdict::Bad(LineFault::Datagram(fault)), moment)),
+        Err(fault) => {
+            let function = function_in(datagram);
+            let fault = LineFault::Datagram { fault, function };
+            Ok((LineVerdict::Bad(fault), moment))
+        }
     }
 }
 
@@ -61,33 +76,42 @@ fn verdict_in(
 }
 
 /// Prints what is wrong with the line of that number, if something is.
-fn print_verdict<W: Write>(number: u64, verdict: LineVerdict, out: &mut W) -> io::Result<()>
-    ensures { OnOk result (Appends (W.contents out.old) (W.contents out.new) (verdict_text number verdict)) }
+fn print_verdict<W: Write>(
+    style: CheckStyle,
+    number: u64,
+    verdict: LineVerdict,
+    out: &mut W,
+) -> io::Result<()>
+    ensures { OnOk result (Appends (W.contents out.old) (W.contents out.new) (verdict_text style.in_words number verdict)) }
 {
     let LineVerdict::Bad(fault) = verdict else {
         return Ok(());
     };
-    writeln!(out, "line {number}: {fault}")
+    if !style.in_words {
+        return writeln!(out, "line {number}: {fault}");
+    }
+    let words = line_words(style.alloc, fault)?;
+    writeln!(out, "line {number}: {words}")
 }
 
 /// Judges a line, counts it, and prints its fault where it has one.
 fn check_line<W: Write>(
-    notes: bool,
+    style: CheckStyle,
     line: &[u8],
     datagram: &mut Vec<u8>,
     tally: Tally,
     out: &mut W,
 ) -> Result<Tally, CheckError>
-    ensures is { IfOk result (λ t. IsCounted notes line.now (W.contents out.old) (W.contents out.new) (count_of tally) (count_of t)) }
+    ensures is { IfOk result (λ t. IsCounted style.in_words style.notes line.now (W.contents out.old) (W.contents out.new) (count_of tally) (count_of t)) }
     ensures fits { OnOk result (tally.lines < 2 ^ 64 - 1) }
 {
-    let Ok((verdict, latest)) = verdict_in(notes, line, tally.latest, datagram) else {
+    let Ok((verdict, latest)) = verdict_in(style.notes, line, tally.latest, datagram) else {
         return Err(CheckError::Memory);
     };
     let Some(counted) = tally.with(verdict, latest) else {
         return Err(CheckError::Input(io::Error::from(ErrorKind::FileTooLarge)));
     };
-    match print_verdict(counted.lines, verdict, out) {
+    match print_verdict(style, counted.lines, verdict, out) {
         Ok(()) => Ok(counted),
         Err(error) => Err(CheckError::Output(error)),
     }
@@ -95,19 +119,19 @@ fn check_line<W: Write>(
 
 /// Takes the next line and checks it; None at the end of the input.
 fn check_next<R: BufRead, W: Write>(
-    notes: bool,
+    style: CheckStyle,
     input: &mut R,
     line: &mut Vec<u8>,
     datagram: &mut Vec<u8>,
     tally: Tally,
     out: &mut W,
 ) -> Result<Option<Tally>, CheckError>
-    ensures step { IfOk result (λ r. IsStep notes (R.remaining input.old) (R.remaining input.new) (W.contents out.old) (W.contents out.new)
+    ensures step { IfOk result (λ r. IsStep style.in_words style.notes (R.remaining input.old) (R.remaining input.new) (W.contents out.old) (W.contents out.new)
         (count_of tally) (option_map count_of r)) }
     ensures more { IfOk result (λ r. IfSome r (λ t. (t.lines ≡ tally.lines + 1) × (tally.lines < 2 ^ 64 - 1))) }
 {
     match next_line(input, line) {
-        Ok(true) => match check_line(notes, line, datagram, tally, out) {
+        Ok(true) => match check_line(style, line, datagram, tally, out) {
             Ok(counted) => Ok(Some(counted)),
             Err(error) => Err(error),
         },
@@ -117,12 +141,11 @@ fn check_next<R: BufRead, W: Write>(
 }
 
 fn check_lines<R: BufRead, W: Write>(
-    alloc: Global,
-    notes: bool,
+    style: CheckStyle,
     input: &mut R,
     out: &mut W,
 ) -> Result<Tally, CheckError>
-    ensures { IfOk result (λ t. AreCounted notes (R.remaining input.old) (W.contents out.old) (W.contents out.new) (count_of t)) }
+    ensures { IfOk result (λ t. AreCounted style.in_words style.notes (R.remaining input.old) (W.contents out.old) (W.contents out.new) (count_of t)) }
 {
     let mut tally = Tally {
         lines: 0,
@@ -130,9 +153,9 @@ fn check_lines<R: BufRead, W: Write>(
         bad: 0,
         latest: 0,
     };
-    let mut line = Vec::new(alloc);
-    let mut datagram = Vec::new(alloc);
-    while let Some(next) = check_next(notes, input, &mut line, &mut datagram, tally, out)? {
+    let mut line = Vec::new(style.alloc);
+    let mut datagram = Vec::new(style.alloc);
+    while let Some(next) = check_next(style, input, &mut line, &mut datagram, tally, out)? {
         tally = next;
     }
     Ok(tally)
@@ -155,21 +178,20 @@ fn print_tally<W: Write>(notes: bool, tally: Tally, out: &mut W) -> io::Result<(
 }
 
 fn check_all<R: BufRead, W: Write>(
-    alloc: Global,
-    notes: bool,
+    style: CheckStyle,
     input: &mut R,
     out: &mut W,
 ) -> Result<Status, CheckError>
-    ensures { IfOk result (IsReportAs notes (R.remaining input.old) (W.contents out.old) (W.contents out.new)) }
+    ensures { IfOk result (IsReportAs style.in_words style.notes (R.remaining input.old) (W.contents out.old) (W.contents out.new)) }
 {
-    let tally = check_lines(alloc, notes, input, out)?;
-    match print_tally(notes, tally, out) {
+    let tally = check_lines(style, input, out)?;
+    match print_tally(style.notes, tally, out) {
         Ok(()) => Ok(tally.status()),
         Err(error) => Err(CheckError::Output(error)),
     }
 }
 
-/// Checks each line of a capture: prints each bad line's number and fault, and at the end how many lines are good and bad.
+/// Checks each line of a capture: prints each bad line's number and fault, in words or not, and at the end how many lines are good and bad.
 ///
 /// A line `moment from to hex` is good where its moment is not less than that of an earlier such line, and its datagram has no
 /// fault. Where notes are taken, lines may end in a carriage return and a line feed, and a blank line, or one that begins with `#`, is neither good nor
@@ -178,20 +200,26 @@ fn check_all<R: BufRead, W: Write>(
 /// with the input.
 pub fn check_lines_over<R: BufRead, O: Write, E: Write>(
     alloc: Global,
+    in_words: bool,
     notes: bool,
     input: &mut R,
     out: &mut O,
     err: &mut E,
 ) -> Status
-    ensures { IsReportAs notes (R.remaining input.old) (O.contents out.old) (O.contents out.new) result }
+    ensures { IsReportAs in_words notes (R.remaining input.old) (O.contents out.old) (O.contents out.new) result }
 {
-    match check_all(alloc, notes, input, out) {
+    let style = CheckStyle {
+        alloc,
+        in_words,
+        notes,
+    };
+    match check_all(style, input, out) {
         Ok(status) => status,
         Err(error) => stopped(error, out, err),
     }
 }
 
-/// The same without notes: each line is one of the capture.
+/// The same without notes: each line is one of the capture, and faults are printed by number.
 pub fn check_over<R: BufRead, O: Write, E: Write>(
     alloc: Global,
     input: &mut R,
@@ -200,5 +228,5 @@ pub fn check_over<R: BufRead, O: Write, E: Write>(
 ) -> Status
     ensures { IsReportOf (R.remaining input.old) (O.contents out.old) (O.contents out.new) result }
 {
-    check_lines_over(alloc, false, input, out, err)
+    check_lines_over(alloc, false, false, input, out, err)
 }

@@ -1,5 +1,5 @@
 //! What is wrong with a datagram, and with a line of a capture.
-ghost use Rattle.std.specs.Prelude.{◌≡◌, Some};
+ghost use Rattle.std.specs.Prelude.{◌≡◌, false, Some};
 ghost use Rattle.bac_text.specs.Faults.{layer_number, layer_name, fault_text};
 ghost use Rattle.bac_text.specs.Texts.{line_fault_text};
 
@@ -68,8 +68,11 @@ pub(crate) enum LineFault {
     NoCaptureLine,
     /// Its moment is less than that of an earlier line.
     MomentGoesBack,
-    /// Its datagram has that fault.
-    Datagram(LayerFault),
+    /// Its datagram has that fault; its BVLL has that function, if it is there.
+    Datagram {
+        fault: LayerFault,
+        function: Option<u8>,
+    },
 }
 
 /// What a line of a capture is.
@@ -84,13 +87,13 @@ pub(crate) enum LineVerdict {
 }
 
 impl fmt::Display for LineFault {
-    ghost output = { λ x. Some (line_fault_text x) };
+    ghost output = { λ x. Some (line_fault_text false x) };
 
     fn fmt<W: fmt::Write>(&self, f: &mut fmt::Formatter<W>) -> fmt::Result {
         match self {
             LineFault::NoCaptureLine => write!(f, "not a capture line"),
             LineFault::MomentGoesBack => write!(f, "moment goes back"),
-            LineFault::Datagram(fault) => write!(f, "{fault}"),
+            LineFault::Datagram { fault, .. } => write!(f, "{fault}"),
         }
     }
 }

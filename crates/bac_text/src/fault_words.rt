@@ -3,9 +3,11 @@ ghost use Rattle.std.specs.Prelude.{◌≡◌, ◌++◌, codes, IfOk, OnOk, stri
 ghost use Rattle.std.specs.Io.KnownBytes.{Appends};
 ghost use Rattle.bac_value_text.specs.Reasons.{reject_text};
 ghost use Rattle.bac_text.specs.Decoded.{fault_line};
-ghost use Rattle.bac_text.specs.Faults.{apdu_reason, bvll_words, fault_because, fault_words, frame_reason, function_digits, function_reason, kind_reason};
+ghost use Rattle.std.specs.Prelude.{true};
+ghost use Rattle.bac_text.specs.Faults.{apdu_reason, bvll_words, fault_because, fault_words, frame_reason, function_digits, function_in, function_reason, kind_reason};
+ghost use Rattle.bac_text.specs.Texts.{line_fault_text};
 
-use crate::fault::LayerFault;
+use crate::fault::{LayerFault, LineFault};
 use bac_apdu::ApduFault;
 use bac_npdu::FrameFault;
 use bac_value::FaultKind;
@@ -67,30 +69,40 @@ fn because(alloc: Global, fault: LayerFault, reason: &str) -> Result<String, All
     format!(in alloc; "{fault} ({reason})")
 }
 
-/// The function of a BVLL in hexadecimal.
-fn function_digits(alloc: Global, datagram: &[u8]) -> Result<String, AllocError>
-    ensures { IfOk result (λ t. string_bytes t ≡ function_digits datagram.now) }
+/// The function of a BVLL, if it is there.
+pub fn function_in(datagram: &[u8]) -> Option<u8>
+    ensures { result ≡ function_in datagram.now }
 {
     match datagram {
-        [_, function, ..] => hex::encode_upper(alloc, &[*function]),
-        _ => Ok(String::new(alloc)),
+        [_, function, ..] => Some(*function),
+        _ => None,
     }
 }
 
-fn function_reason(alloc: Global, datagram: &[u8]) -> Result<String, AllocError>
-    ensures { IfOk result (λ t. string_bytes t ≡ function_reason datagram.now) }
+/// A function in hexadecimal.
+fn function_digits(alloc: Global, function: Option<u8>) -> Result<String, AllocError>
+    ensures { IfOk result (λ t. string_bytes t ≡ function_digits function) }
 {
-    let digits = function_digits(alloc, datagram)?;
+    match function {
+        Some(function) => hex::encode_upper(alloc, &[function]),
+        None => Ok(String::new(alloc)),
+    }
+}
+
+fn function_reason(alloc: Global, function: Option<u8>) -> Result<String, AllocError>
+    ensures { IfOk result (λ t. string_bytes t ≡ function_reason function) }
+{
+    let digits = function_digits(alloc, function)?;
     format!(in alloc; "function {digits}: not Original-Unicast-NPDU")
 }
 
 /// Of a BVLL with another function that function too.
-fn bvll_words(alloc: Global, datagram: &[u8], fault: FrameFault) -> Result<String, AllocError>
-    ensures { IfOk result (λ t. string_bytes t ≡ bvll_words datagram.now fault) }
+fn bvll_words(alloc: Global, function: Option<u8>, fault: FrameFault) -> Result<String, AllocError>
+    ensures { IfOk result (λ t. string_bytes t ≡ bvll_words function fault) }
 {
     match fault {
         FrameFault::NotUnicast => {
-            let reason = function_reason(alloc, datagram)?;
+            let reason = function_reason(alloc, function)?;
             because(
                 alloc,
                 LayerFault::Bvll(FrameFault::NotUnicast),
@@ -108,12 +120,17 @@ fn request_words(alloc: Global, reason: u8) -> Result<String, AllocError>
     format!(in alloc; "fault reject {reason}")
 }
 
-/// The fault of a datagram in words, as `fault bvll 6 (function 0B: not Original-Unicast-NPDU)`; the reason of a Reject by its name in the standard.
-fn fault_words(alloc: Global, datagram: &[u8], fault: LayerFault) -> Result<String, AllocError>
-    ensures { IfOk result (λ t. string_bytes t ≡ fault_words datagram.now fault) }
+/// The fault of a datagram in words, as `fault bvll 6 (function 0B: not Original-Unicast-NPDU)`, where its BVLL has this function, if it is there; the reason of a
+/// Reject by its name in the standard.
+pub fn fault_in_words(
+    alloc: Global,
+    function: Option<u8>,
+    fault: LayerFault,
+) -> Result<String, AllocError>
+    ensures { IfOk result (λ t. string_bytes t ≡ fault_words function fault) }
 {
     match fault {
-        LayerFault::Bvll(why) => bvll_words(alloc, datagram, why),
+        LayerFault::Bvll(why) => bvll_words(alloc, function, why),
         LayerFault::Npdu(why) => because(alloc, fault, frame_reason(why)),
         LayerFault::Apdu(why) => because(alloc, fault, apdu_reason(why)),
         LayerFault::Request(reject) => request_words(alloc, reject.reason()),
@@ -134,6 +151,17 @@ pub(crate) fn print_fault<W: Write>(
     if !in_words {
         return writeln!(out, "{fault}");
     }
-    let words = fault_words(alloc, datagram, fault)?;
+    let words = fault_in_words(alloc, function_in(datagram), fault)?;
     writeln!(out, "{words}")
+}
+
+/// What is wrong with a line of a capture, in words.
+pub(crate) fn line_words(alloc: Global, fault: LineFault) -> Result<String, AllocError>
+    ensures { IfOk result (λ t. string_bytes t ≡ line_fault_text true fault) }
+{
+    match fault {
+        LineFault::NoCaptureLine => String::from_str(alloc, "not a capture line"),
+        LineFault::MomentGoesBack => String::from_str(alloc, "moment goes back"),
+        LineFault::Datagram { fault, function } => fault_in_words(alloc, function, fault),
+    }
 }

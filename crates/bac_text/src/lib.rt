@@ -31,7 +31,7 @@ pub use decode::{decode_over, decode_text_over, print_apdu_octets, show_datagram
 pub use decode_lines::decode_lines_over;
 pub use error::{CheckError, stopped};
 pub use fault::LayerFault;
-pub use fault_words::{apdu_reason, frame_reason, kind_reason};
+pub use fault_words::{apdu_reason, fault_in_words, frame_reason, function_in, kind_reason};
 pub use groups::octets_in;
 pub use laws::fine_or_at_fault;
 pub use layers::check_datagram;

@@ -157,7 +157,7 @@ const CHECK: &[Word] = &[
         form: WordForm::Flag,
         need: Need::Never,
         against: &["notes"],
-        help: "For pcap and pcapng: prints how many frames carry each other BVLC function, by name",
+        help: "Prints faults in words; for pcap and pcapng also how many frames carry each other BVLC function, by name",
     },
     Word {
         name: "json",

@@ -109,6 +109,6 @@ pub fn ask<L: Link, C: Clock, O: Write, E: Write>(
     match ask_and_print(alloc, bound_node, clock, command, out, err) {
         Ok(true) => Status::Done,
         Ok(false) => Status::Faulty,
-        Err(command_error) => command_error.report(err),
+        Err(command_error) => command_error.report_at(bound_node.node().link(), err),
     }
 }

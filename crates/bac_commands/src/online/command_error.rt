@@ -6,6 +6,8 @@ ghost use Rattle.bac_commands.specs.CommandErrors.{IsPrintedBy, trouble_of, trou
 ghost use Rattle.bac_commands.specs.declared.online.command_error.CommandError.TheVariants as command_error;
 
 use bac_driver::{RoundFault, TurnFault};
+use bac_keep::KeepFault;
+use bac_npdu::LinkAddress;
 use bac_text::{Status, complain, no_memory, output_failed};
 use bac_value::NoMemory;
 use std::io;
@@ -18,8 +20,8 @@ pub enum CommandError {
     Link,
     /// The clock can't be read, or goes back.
     Clock,
-    /// What was written could not be kept.
-    Keep,
+    /// What was written could not be kept, for that reason.
+    Keep(KeepFault),
     /// Memory was refused.
     Memory,
     /// What is printed could not be written.
@@ -48,6 +50,14 @@ pub fn keep_fault<E: Write>(err: &mut E) -> Status
 }
 
 impl CommandError {
+    /// Why what was written could not be kept, where that is so.
+    pub fn keep_fault(&self) -> Option<KeepFault> {
+        match self {
+            CommandError::Keep(why) => Some(*why),
+            _ => None,
+        }
+    }
+
     /// Complains of it.
     pub fn report<E: Write>(self, err: &mut E) -> Status
         ensures told { IsPrintedBy self result }
@@ -56,11 +66,34 @@ impl CommandError {
         match self {
             CommandError::Link => link_fault(err),
             CommandError::Clock => clock_fault(err),
-            CommandError::Keep => keep_fault(err),
+            CommandError::Keep(_) => keep_fault(err),
             CommandError::Memory => no_memory(err),
             CommandError::Output(error) => output_failed(err, &error),
         }
     }
+
+    /// The same; of a link that can't receive, with its address.
+    pub fn report_at<E: Write>(self, own: LinkAddress, err: &mut E) -> Status
+        ensures told { IsPrintedBy self result }
+        ensures failed { IsFailure result }
+    {
+        match self {
+            CommandError::Link => {
+                let status = link_fault(err);
+                print_deaf(own, err);
+                status
+            }
+            other => other.report(err),
+        }
+    }
+}
+
+/// Tells which link can't receive.
+fn print_deaf<E: Write>(own: LinkAddress, err: &mut E) {
+    let [a, b, c, d, high, low] = own;
+    let port = u16::from_be_bytes([high, low]);
+    // if that fails too, only the status is left
+    let _ = writeln!(err, "{a}.{b}.{c}.{d}:{port}: cannot receive");
 }
 
 impl From<TurnFault> for CommandError {
@@ -81,7 +114,7 @@ impl From<RoundFault> for CommandError {
         match fault {
             RoundFault::Link => CommandError::Link,
             RoundFault::ClockBack => CommandError::Clock,
-            RoundFault::Keep(_) => CommandError::Keep,
+            RoundFault::Keep(why) => CommandError::Keep(why),
         }
     }
 }

@@ -10,7 +10,7 @@ ghost use Rattle.bac_commands.specs.Kept.{AllIsKept, EndsKept, IsKeptByStatus, K
 
 use super::command_error::CommandError;
 use bac_driver::{BoundNode, Clock, Link, Observer, Round, RunLimit};
-use bac_keep::Keeper;
+use bac_keep::{KeepFault, Keeper};
 use bac_text::Status;
 use std::io::Write;
 
@@ -23,6 +23,8 @@ pub struct KeptServer<L: Link, C: Clock, K: Keeper> {
     pub clock: C,
     /// Who keeps the store of the node.
     pub round: Round<K>,
+    /// Why the store could not be kept, once it could not.
+    pub fault: Option<KeepFault>,
 }
 
 /// Prints how many requests a server performed.
@@ -80,6 +82,9 @@ pub fn serve_kept<L: Link, C: Clock, K: Keeper, V: Observer<E>, O: Write, E: Wri
 {
     match serve_rounds(server, limit, watch, out, err) {
         Ok(()) => Status::Done,
-        Err(command_error) => command_error.report(err),
+        Err(command_error) => {
+            server.fault = command_error.keep_fault();
+            command_error.report_at(server.bound_node.node().link(), err)
+        }
     }
 }

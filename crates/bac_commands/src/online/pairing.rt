@@ -10,6 +10,7 @@ use super::command_error::CommandError;
 use super::question::{peer_at, question_for};
 use super::success::is_answered;
 use bac_driver::{BoundNode, Clock, Link, Question};
+use bac_npdu::LinkAddress;
 use bac_service::{
     AnyRequest, OwnedRequest, PropertyReference, WriteAccess, WriteFile, WriteStream,
 };
@@ -98,6 +99,15 @@ fn ask_both<L: Link, C: Clock, O: Write>(
     Ok(are_both(appended, was_read))
 }
 
+/// The address of the one whose link failed; the second's where both did not.
+fn failed_of<L: Link>(first: &BoundNode<L>, second: &BoundNode<L>) -> LinkAddress {
+    if first.link().failures() > 0 {
+        first.node().link()
+    } else {
+        second.node().link()
+    }
+}
+
 /// Two nodes, each on its own link, take turns: the first asks the second to append AABBCC to file 1, and then to read the present-value of analog-input 5,
 /// each for at most 10,000 turns; how both asks ended is printed. Ends with `Faulty` where one was not answered.
 ///
@@ -116,6 +126,6 @@ pub fn pair<L: Link, C: Clock, O: Write, E: Write>(
     match ask_both(alloc, first, second, clock, out) {
         Ok(true) => Status::Done,
         Ok(false) => Status::Faulty,
-        Err(command_error) => command_error.report(err),
+        Err(command_error) => command_error.report_at(failed_of(first, second), err),
     }
 }

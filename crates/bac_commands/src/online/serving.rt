@@ -30,7 +30,7 @@ fn serve_and_print<L: Link, C: Clock, V: Observer<E>, O: Write, E: Write>(
 /// A node takes turns on its link until the limit is reached, and how many requests it performed is printed. The watcher sees each turn, and may print on
 /// `err`.
 ///
-/// `link fault` on `err` where the link can't receive, `clock fault` where the clock goes back, both with status `Output`.
+/// `link fault` on `err` where the link can't receive, with its address, `clock fault` where the clock goes back, both with status `Output`.
 pub fn serve<L: Link, C: Clock, V: Observer<E>, O: Write, E: Write>(
     bound_node: &mut BoundNode<L>,
     clock: &mut C,
@@ -46,6 +46,6 @@ pub fn serve<L: Link, C: Clock, V: Observer<E>, O: Write, E: Write>(
 {
     match serve_and_print(bound_node, clock, limit, watch, out, err) {
         Ok(()) => Status::Done,
-        Err(command_error) => command_error.report(err),
+        Err(command_error) => command_error.report_at(bound_node.node().link(), err),
     }
 }
