@@ -1,11 +1,12 @@
 -- Worlds to which nothing has happened.
-use Rattle.std.proofs.Common.{◌≡◌, ◌⊎◌, ℕ, zero, suc, ◌+◌, ◌<◌, ◌≤◌, Bool, true, false, List, [], ◌∷◌, length, max, drop, None, Some, slice_get}
+use Rattle.std.proofs.Common.{◌≡◌, ◌⊎◌, ℕ, zero, suc, ◌+◌, ◌<◌, ◌≤◌, ◌&&◌, Bool, true, false, List, [], ◌∷◌, length, max, drop, None, Some, slice_get}
 use Rattle.std.proofs.Common.{nat_lt, refl, sym, ap, subst, inl, inr, ◌∙◌, arith}
 use Rattle.std.proofs.lemmas.Bool.Decides.{nat_tests}
 use Rattle.std.proofs.lemmas.Option.{slice_get_within}
 use Rattle.bac_protocol.specs.Service.{Octets}
 use Rattle.bac_store.specs.Stores.{Store}
-use Rattle.bac_node.specs.Fresh.{fresh_node, has_slots, window_fits}
+use Rattle.bac_node.specs.Fresh.{fresh_node, has_large_slots, has_slots_within, slots_within, window_fits}
+use Rattle.bac_node.specs.declared.config.Config.{Config}
 use Rattle.bac_world.specs.Node.{Node}
 use Rattle.bac_world.specs.World.{World, IsFresh, IsFreshNode, IsBounded, link_at, stores_of}
 use Rattle.bac_world.proofs.Steps.{decide_number}
@@ -13,7 +14,7 @@ use Rattle.bac_journal.specs.Entering.{Every}
 use Rattle.bac_journal.specs.Journals.{JournalView}
 use Rattle.bac_journal.specs.Views.{AreLinks}
 use Rattle.bac_network.specs.Fresh.{Maker, fresh_at, greatest_window, links_of, nodes_of, opening_of}
-use Rattle.bac_network.specs.Fresh.{HasBadSlots, HasBadWindow, HaveSameLink, IsGood, IsRight, IsTaken}
+use Rattle.bac_network.specs.Fresh.{HasBadSlotsWithin, HasBadWindow, HaveSameLink, IsGood, IsRightWithin, IsTaken}
 use Rattle.bac_protocol.specs.Pace.{IsTimely, clock_at}
 use Rattle.bac_journal.specs.Clocks.{OwnClocks, clock_of, pace_of}
 use Rattle.bac_network.specs.Clocks.{Instant}
@@ -41,10 +42,27 @@ every_of : {A : Type 0} (P : A → Type 0) (xs : List A) → ((i : ℕ) (x : A) 
 every_of P [] h = tt
 every_of P (x ∷ xs) h = (h zero x refl, every_of P xs (λ i y at. h (suc i) y at))
 
-pub all_good : (overtake : ℕ) (makers : List Maker) → IsRight overtake makers → Every IsGood makers
-all_good overtake makers right = every_of IsGood makers good
+-- what is within one bound is within a greater one
+slots_larger : (most n : ℕ) → most ≤ 65536 → slots_within most n ≡ true → slots_within 65536 n ≡ true
+slots_larger most n le within = grind (arith, nat_tests, le, within)
+
+both_true : (a b : Bool) → a && b ≡ true → (a ≡ true) × (b ≡ true)
+both_true true b e = (refl, e)
+both_true false b e = absurd cc
+
+true_both : (a b : Bool) → a ≡ true → b ≡ true → a && b ≡ true
+true_both a b one other = ap (λ (x : Bool). x && b) one ∙ other
+
+large_enough : (most : ℕ) (c : Config) → most ≤ 65536 → has_slots_within most c ≡ true → has_large_slots c ≡ true
+large_enough most c le within =
+    let both = both_true (slots_within most c.client_slots) (slots_within most c.reply_slots) within in
+    true_both (slots_within 65536 c.client_slots) (slots_within 65536 c.reply_slots) (slots_larger most c.client_slots le both.0)
+    (slots_larger most c.reply_slots le both.1)
+
+pub all_good : (most overtake : ℕ) (makers : List Maker) → most ≤ 65536 → IsRightWithin most overtake makers → Every IsGood makers
+all_good most overtake makers le right = every_of IsGood makers good
   where
-    slots : (i : ℕ) (m : Maker) → slice_get makers i ≡ Some m → (b : Bool) → has_slots m.0 ≡ b → has_slots m.0 ≡ true
+    slots : (i : ℕ) (m : Maker) → slice_get makers i ≡ Some m → (b : Bool) → has_slots_within most m.0 ≡ b → has_slots_within most m.0 ≡ true
     slots i m at true e = e
     slots i m at false e = absurd (right.slots (record { place = i; maker = m; at = at; bad = e }))
 
@@ -53,7 +71,8 @@ all_good overtake makers right = every_of IsGood makers good
     windows i m at false e = absurd (right.windows (record { place = i; maker = m; at = at; bad = e }))
 
     good : (i : ℕ) (m : Maker) → slice_get makers i ≡ Some m → IsGood m
-    good i m at = record { slots = slots i m at (has_slots m.0) refl; window = windows i m at (window_fits (m.0).window) refl }
+    good i m at =
+        record { slots = large_enough most m.0 le (slots i m at (has_slots_within most m.0) refl); window = windows i m at (window_fits (m.0).window) refl }
 
 -- Look-ups.
 
@@ -89,7 +108,7 @@ less_or_more i j ne = go (nat_lt i j) refl
 
 module _ (t : Instant) (zero : t.moment ≡ 0) (timely : IsTimely (pace_of t.own))
     (shown : (i : ℕ) → clock_of t.moment t.own i ≡ clock_at (pace_of t.own) (clock_of t.moment t.own i).exact)
-    (overtake : ℕ) (makers : List Maker) (right : IsRight overtake makers) where
+    (most overtake : ℕ) (makers : List Maker) (right : IsRightWithin most overtake makers) where
   abbrev first : World
   first = as_world (fresh_at t overtake makers)
 
@@ -230,14 +249,14 @@ same_link_more makers i m at free none h lt = go (decide_number h.second i)
         })
     go (inr ne') = none h (omega (arith, ne', lt))
 
-pub slots_more : (makers : List Maker) (i : ℕ) (m : Maker) → slice_get makers i ≡ Some m → has_slots m.0 ≡ true
-    → ((h : HasBadSlots makers) → h.place < i → ⊥) → (h : HasBadSlots makers) → h.place < i + 1 → ⊥
-slots_more makers i m at good none h lt = go (decide_number h.place i)
+pub slots_more : (most : ℕ) (makers : List Maker) (i : ℕ) (m : Maker) → slice_get makers i ≡ Some m → has_slots_within most m.0 ≡ true
+    → ((h : HasBadSlotsWithin most makers) → h.place < i → ⊥) → (h : HasBadSlotsWithin most makers) → h.place < i + 1 → ⊥
+slots_more most makers i m at good none h lt = go (decide_number h.place i)
   where
     go : ((h.place ≡ i) ⊎ (h.place ≡ i → ⊥)) → ⊥
     go (inl is) =
         let same : h.maker ≡ m = let e : Some h.maker ≡ Some m = sym h.at ∙ ap (slice_get makers) is ∙ at in cc in
-        let clash : true ≡ false = sym good ∙ sym (ap (λ (x : Maker). has_slots x.0) same) ∙ h.bad in cc
+        let clash : true ≡ false = sym good ∙ sym (ap (λ (x : Maker). has_slots_within most x.0) same) ∙ h.bad in cc
     go (inr ne') = none h (omega (arith, ne', lt))
 
 pub windows_more : (makers : List Maker) (i : ℕ) (m : Maker) → slice_get makers i ≡ Some m → window_fits (m.0).window ≡ true

@@ -4,7 +4,7 @@ use Rattle.bac_protocol.specs.Pace.{IsTimely}
 use Rattle.bac_protocol.specs.Service.{Octets}
 use Rattle.bac_store.specs.Stores.{Store}
 use Rattle.bac_world.specs.Node.{Node}
-use Rattle.bac_node.specs.Fresh.{fresh_node, has_slots, window_fits}
+use Rattle.bac_node.specs.Fresh.{fresh_node, has_large_slots, has_slots_within, window_fits}
 use Rattle.bac_node.specs.declared.config.Config.{Config}
 use Rattle.bac_journal.specs.Clocks.{fresh_clocks, own_pace}
 use Rattle.bac_network.specs.Clocks.{Instant}
@@ -66,12 +66,16 @@ pub record HaveSameLink (makers : List Maker) : Type 0 where
   pub at_second : slice_get makers second ≡ Some other
   pub same : (one.0).link ≡ (other.0).link
 
--- a number of slots of one of them is not 1 to 1,024
-pub record HasBadSlots (makers : List Maker) : Type 0 where
+-- a number of slots of one of them is not 1 to that many
+pub record HasBadSlotsWithin (most : ℕ) (makers : List Maker) : Type 0 where
   pub place : ℕ
   pub maker : Maker
   pub at : slice_get makers place ≡ Some maker
-  pub bad : has_slots maker.0 ≡ false
+  pub bad : has_slots_within most maker.0 ≡ false
+
+-- it is not 1 to 1,024
+abbrev pub HasBadSlots : List Maker → Type 0
+HasBadSlots makers = HasBadSlotsWithin 1024 makers
 
 -- a window is not 1 to 64
 pub record HasBadWindow (makers : List Maker) : Type 0 where
@@ -80,9 +84,9 @@ pub record HasBadWindow (makers : List Maker) : Type 0 where
   pub at : slice_get makers place ≡ Some maker
   pub bad : window_fits (maker.0).window ≡ false
 
--- neither is so
+-- a node can be made of it
 pub record IsGood (m : Maker) : Type 0 where
-  pub slots : has_slots m.0 ≡ true
+  pub slots : has_large_slots m.0 ≡ true
   pub window : window_fits (m.0).window ≡ true
 
 -- the greatest of the windows, and 1 where there are no nodes
@@ -94,21 +98,29 @@ greatest_window (m ∷ makers) = max (m.0).window (greatest_window makers)
 abbrev pub PassesBound : (overtake : ℕ) → List Maker → Type 0
 PassesBound overtake makers = 255 < overtake + 2 * greatest_window makers
 
--- nothing speaks against a world of them
-pub record IsRight (overtake : ℕ) (makers : List Maker) : Type 0 where
+-- nothing speaks against a world of them, whose tables have so many slots at the most
+pub record IsRightWithin (most overtake : ℕ) (makers : List Maker) : Type 0 where
   pub apart : HaveSameLink makers → ⊥
-  pub slots : HasBadSlots makers → ⊥
+  pub slots : HasBadSlotsWithin most makers → ⊥
   pub windows : HasBadWindow makers → ⊥
   pub bound : PassesBound overtake makers → ⊥
 
+-- 1,024 slots
+abbrev pub IsRight : (overtake : ℕ) → List Maker → Type 0
+IsRight overtake makers = IsRightWithin 1024 overtake makers
+
 -- the first reason that holds, in this order; memory comes last
+abbrev pub IsRefusedWithin : (most : ℕ) → NewWorldFault → (overtake : ℕ) → List Maker → Type 0
+IsRefusedWithin most fault.SameLink overtake makers = HaveSameLink makers
+IsRefusedWithin most fault.BadSlots overtake makers = (HaveSameLink makers → ⊥) × HasBadSlotsWithin most makers
+IsRefusedWithin most fault.BadWindow overtake makers = (HaveSameLink makers → ⊥) × (HasBadSlotsWithin most makers → ⊥) × HasBadWindow makers
+IsRefusedWithin most fault.BadBound overtake makers =
+    (HaveSameLink makers → ⊥) × (HasBadSlotsWithin most makers → ⊥) × (HasBadWindow makers → ⊥) × PassesBound overtake makers
+IsRefusedWithin most fault.NoMemory overtake makers = IsRightWithin most overtake makers
+
+-- of tables with 1 to 1,024 slots
 abbrev pub IsRefusedFor : NewWorldFault → (overtake : ℕ) → List Maker → Type 0
-IsRefusedFor fault.SameLink overtake makers = HaveSameLink makers
-IsRefusedFor fault.BadSlots overtake makers = (HaveSameLink makers → ⊥) × HasBadSlots makers
-IsRefusedFor fault.BadWindow overtake makers = (HaveSameLink makers → ⊥) × (HasBadSlots makers → ⊥) × HasBadWindow makers
-IsRefusedFor fault.BadBound overtake makers =
-    (HaveSameLink makers → ⊥) × (HasBadSlots makers → ⊥) × (HasBadWindow makers → ⊥) × PassesBound overtake makers
-IsRefusedFor fault.NoMemory overtake makers = IsRight overtake makers
+IsRefusedFor why overtake makers = IsRefusedWithin 1024 why overtake makers
 
 -- with clocks of their own: the times of the protocol don't suffice for their pace; or there is not one start for each node
 abbrev pub IsRefusedWithClocks : NewClocksFault → (overtake : ℕ) → List Maker → (drift life : ℕ) → (starts : List ℕ) → Type 0

@@ -6,7 +6,7 @@ ghost use Rattle.bac_network.specs.Fresh.{clock_world, IsRefusedWithClocks, IsRi
 ghost use Rattle.bac_network.specs.Histories.{as_world};
 
 use crate::fault::{NewClocksFault, NewWorldFault, PaceFault};
-use crate::making::{checked, greatest_window, links_of, nodes_made, stores_of};
+use crate::making::{MOST_SLOTS, checked, greatest_window, links_of, nodes_made, stores_of};
 use crate::network::Network;
 use crate::world::World;
 use bac_journal::{Journal, Pace};
@@ -39,7 +39,7 @@ impl World {
         if starts.len() != nodes.len() {
             return Err(NewClocksFault::BadStarts);
         }
-        let limit = checked(&nodes, overtake)?;
+        let limit = checked(MOST_SLOTS, &nodes, overtake)?;
         match World::fresh_with_clocks(alloc, nodes, limit, pace, starts) {
             Ok(world) => Ok(world),
             Err(NoMemory) => Err(NewClocksFault::NotMade(NewWorldFault::NoMemory)),

@@ -1,9 +1,9 @@
 //! Worlds to which nothing has happened.
 ghost use Rattle.std.specs.Prelude.{◌≡◌, ◌↔◌, ◌<◌, ◌+◌, ◌*◌, ◌≤◌, IfErr, IfOk, IfSome, IsTrue, None, OnOk, length};
-ghost use Rattle.bac_node.specs.Fresh.{fresh_node, has_slots, window_fits};
+ghost use Rattle.bac_node.specs.Fresh.{fresh_node, has_slots_within, window_fits};
 ghost use Rattle.bac_journal.specs.Entering.{Every};
 ghost use Rattle.bac_network.specs.Fresh.{fresh_world, greatest_window, links_of, nodes_of, opening_of};
-ghost use Rattle.bac_network.specs.Fresh.{HasBadSlots, HasBadWindow, HaveSameLink, IsGood, IsRefusedFor, IsRight, IsTaken};
+ghost use Rattle.bac_network.specs.Fresh.{HasBadSlotsWithin, HasBadWindow, HaveSameLink, IsGood, IsRefusedFor, IsRefusedWithin, IsRight, IsRightWithin, IsTaken};
 
 use crate::fault::NewWorldFault;
 use crate::network::Network;
@@ -47,11 +47,17 @@ fn have_same_link(makers: &[(Config, Store)]) -> bool
     false
 }
 
-/// Whether both tables of a node may have so many slots.
-fn has_slots(config: &Config) -> bool
-    ensures { result ≡ has_slots config.now }
+/// How many slots each table of a node has at the most.
+pub(crate) const MOST_SLOTS: usize = 1_024;
+
+/// How many slots each table of a node with large tables has at the most.
+const MOST_LARGE_SLOTS: usize = 65_536;
+
+/// Whether both tables of a node have so many slots at the most, and at least one.
+fn has_slots(most: usize, config: &Config) -> bool
+    ensures { result ≡ has_slots_within most config.now }
 {
-    (1..=1_024).contains(&config.client_slots) && (1..=1_024).contains(&config.reply_slots)
+    (1..=most).contains(&config.client_slots) && (1..=most).contains(&config.reply_slots)
 }
 
 /// Whether a node's window may be that.
@@ -61,12 +67,12 @@ fn window_fits(config: &Config) -> bool
     config.window >= 1 && config.window <= 64
 }
 
-/// Whether a number of slots of one of the nodes is not 1 to 1,024.
-fn has_bad_slots(makers: &[(Config, Store)]) -> bool
-    ensures { IsTrue result ↔ HasBadSlots makers.now }
+/// Whether a number of slots of one of the nodes is not 1 to that many.
+fn has_bad_slots(most: usize, makers: &[(Config, Store)]) -> bool
+    ensures { IsTrue result ↔ HasBadSlotsWithin most makers.now }
 {
     for maker in makers {
-        if !has_slots(&maker.0) {
+        if !has_slots(most, &maker.0) {
             return true;
         }
     }
@@ -96,16 +102,20 @@ pub(crate) fn greatest_window(makers: &[(Config, Store)]) -> u8
     greatest
 }
 
-/// The overtaking limit, or the first reason why a world is not made of these nodes.
-pub(crate) fn checked(makers: &[(Config, Store)], overtake: u64) -> Result<u8, NewWorldFault>
+/// The overtaking limit, or the first reason why a world is not made of these nodes, whose tables have so many slots at the most.
+pub(crate) fn checked(
+    most: usize,
+    makers: &[(Config, Store)],
+    overtake: u64,
+) -> Result<u8, NewWorldFault>
     ensures same { IfOk result (λ limit. limit ≡ overtake) }
-    ensures right { OnOk result (IsRight overtake makers.now) }
-    ensures refused { IfErr result (λ e. IsRefusedFor e overtake makers.now) }
+    ensures right { OnOk result (IsRightWithin most overtake makers.now) }
+    ensures refused { IfErr result (λ e. IsRefusedWithin most e overtake makers.now) }
 {
     if have_same_link(makers) {
         return Err(NewWorldFault::SameLink);
     }
-    if has_bad_slots(makers) {
+    if has_bad_slots(most, makers) {
         return Err(NewWorldFault::BadSlots);
     }
     if has_bad_window(makers) {
@@ -134,7 +144,7 @@ fn node_made(alloc: Global, config: Config, store: Store) -> Result<Node, NoMemo
     requires { IsGood (config, store) }
     ensures { IfOk result (λ n. n ≡ fresh_node config store) }
 {
-    match Node::new(alloc, config, store) {
+    match Node::with_large_tables(alloc, config, store) {
         Ok(node) => Ok(node),
         Err(NewNodeFault::NoMemory) => Err(NoMemory),
         Err(NewNodeFault::BadSlots) => unreachable!(),
@@ -194,13 +204,35 @@ impl World {
         ensures right { OnOk result (IsRight overtake nodes.items) }
         ensures refused { IfErr result (λ e. IsRefusedFor e overtake nodes.items) }
     {
-        let limit = checked(&nodes, overtake)?;
-        Ok(World::fresh(alloc, nodes, limit)?)
+        let limit = checked(MOST_SLOTS, &nodes, overtake)?;
+        Ok(World::fresh(alloc, nodes, limit, MOST_SLOTS)?)
     }
 
-    /// A world of nodes that are right.
-    fn fresh(alloc: Global, makers: Vec<(Config, Store)>, overtake: u8) -> Result<World, NoMemory>
-        requires { IsRight overtake makers.items }
+    /// A world as one of `new`, whose nodes may have up to 65,536 slots in each table.
+    ///
+    /// It is refused as `new` refuses it, but `BadSlots` where a number of slots is not 1 to 65,536.
+    pub fn with_large_tables(
+        alloc: Global,
+        nodes: Vec<(Config, Store)>,
+        overtake: u64,
+    ) -> Result<World, NewWorldFault>
+        ensures made { IfOk result (λ w. w ≡ fresh_world overtake nodes.items) }
+        ensures right { OnOk result (IsRightWithin 65536 overtake nodes.items) }
+        ensures refused { IfErr result (λ e. IsRefusedWithin 65536 e overtake nodes.items) }
+    {
+        let limit = checked(MOST_LARGE_SLOTS, &nodes, overtake)?;
+        Ok(World::fresh(alloc, nodes, limit, MOST_LARGE_SLOTS)?)
+    }
+
+    /// A world of nodes that are right, whose tables have so many slots at the most.
+    fn fresh(
+        alloc: Global,
+        makers: Vec<(Config, Store)>,
+        overtake: u8,
+        most: usize,
+    ) -> Result<World, NoMemory>
+        requires right { IsRightWithin most overtake makers.items }
+        requires most { most ≤ 65536 }
         ensures { IfOk result (λ w. w ≡ fresh_world overtake makers.items) }
     {
         let window = greatest_window(&makers);

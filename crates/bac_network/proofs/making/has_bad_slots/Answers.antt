@@ -19,7 +19,7 @@ returns-then-not-has_slots c =
 pub loop-maker-preserved : goal.loop-maker-preserved
 loop-maker-preserved c =
     let lt : c.loop-maker.maker-index < length c.args.makers.now = omega arith in
-    slots_more c.args.makers.now c.loop-maker.maker-index c.maker-item.result
+    slots_more c.args.most c.args.makers.now c.loop-maker.maker-index c.maker-item.result
     (slice_get_read c.args.makers.now _ c.loop-maker.maker-index c.maker-item.result refl lt c.maker-item.is) (sym c.if-not-has_slots.ensures)
     c.loop-maker.invariant
 

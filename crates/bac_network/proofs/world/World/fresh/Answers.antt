@@ -7,13 +7,13 @@ use Rattle.bac_network.proofs.Makers.{all_good, kept_first, made_is, one_shown, 
 use Rattle.bac_network.proofs.world.World.fresh.Goals as goal
 
 pub nodes_made-requires : goal.nodes_made-requires
-nodes_made-requires c = all_good c.args.overtake c.args.makers.items c.requires
+nodes_made-requires c = all_good c.args.most c.args.overtake c.args.makers.items c.requires.most c.requires.right
 
 pub invariant_of-result : goal.invariant_of-result
 invariant_of-result c =
     let j = c.in_ok-journal.journal in
     let are : c.in_ok-links_of.field-0.items ≡ links_of c.args.makers.items = c.in_ok-links_of.ensures ∙ ap links_of c.deref-3.ensures.value in
-    kept_first (record { moment = 0; own = None }) refl today one_shown c.args.overtake c.args.makers.items c.requires _ _ _
+    kept_first (record { moment = 0; own = None }) refl today one_shown c.args.most c.args.overtake c.args.makers.items c.requires.right _ _ _
     (c.greatest_window-window.ensures ∙ ap greatest_window c.deref.ensures.value)
     (ap (λ (k : JournalView). k.links) c.in_ok-journal.ensures ∙ are)
     (made_is (record { moment = 0; own = None }) c.args.overtake c.args.makers.items c.in_ok-opening.opening.items
