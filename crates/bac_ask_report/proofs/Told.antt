@@ -2,7 +2,7 @@
 use Rattle.std.proofs.Common.{◌≡◌, ◌∙◌, ap, subst, ℕ, List, [], Option, unwrap_or}
 use Rattle.csv.specs.Writing.{default_writer, row_text}
 use Rattle.serde_json.specs.Data.{Data, Items, string}
-use Rattle.bac_json.specs.Forms.{object_form, optional_number, string_or_null}
+use Rattle.bac_json.specs.Forms.{object_form, optional_number}
 use Rattle.bac_json.specs.Values.{AreElementForms}
 use Rattle.bac_ask_report.specs.Answers.{Answer, answer_of}
 use Rattle.bac_text.specs.Peers.{peer_text}
@@ -10,7 +10,6 @@ use Rattle.bac_ask_report.specs.Objects.{AnswerMembers, AreMembers, AskedMembers
 use Rattle.bac_ask_report.specs.Questions.{object_asked, property_asked, verb}
 use Rattle.bac_ask_report.specs.Records.{AskRecord}
 use Rattle.bac_ask_report.specs.Rows.{AreCells, AreSoleCells, AreValueCells, Cells, IsRow, fields_of, sole_value}
-use Rattle.bac_ask_report.specs.TimeForms.{IsTimeForm}
 use Rattle.bac_moment.specs.Times.{IsTextOf}
 
 -- by the only value, or none
@@ -54,6 +53,3 @@ pub asked_told : (r : AskRecord) (index line named peer property request : Data)
     → asked_of index line named peer property request ≡ asked_members r
 asked_told r index line named peer property request a b c d e f =
     λ i. asked_of (a i) (b i) (c i) (d i) (e i) (f i)
-
-pub time_formed : (time : Option ℕ) (text : Option (List ℕ)) (d : Data) → IsTextOf time text → d ≡ string_or_null text → IsTimeForm time d
-time_formed time text d of is = record { text = text; text_of = of; is = is }

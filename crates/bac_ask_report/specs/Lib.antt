@@ -1,5 +1,4 @@
 pub mod Records
-pub mod TimeForms
 pub mod Questions
 pub mod Answers
 pub mod Rows

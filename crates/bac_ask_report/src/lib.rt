@@ -9,5 +9,5 @@ mod question;
 mod record;
 
 pub use csv_row::{print_csv_header, print_csv_row};
-pub use object::{print_ask_object, time_json};
+pub use object::print_ask_object;
 pub use record::{AskRecord, LineName, Outcome};

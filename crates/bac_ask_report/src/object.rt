@@ -4,8 +4,6 @@ ghost use Rattle.std.specs.Option.{option_map};
 ghost use Rattle.bac_ask_report.specs.Members.{answer_members_view, asked_members_view, end_members_view};
 ghost use Rattle.bac_ask_report.specs.Objects.{IsObject, ask_object, asked_members, end_members, index_or_null, property_or_null, with_answer, with_asked, with_end, with_name};
 ghost use Rattle.bac_ask_report.specs.Records.{name_view, record_view};
-ghost use Rattle.bac_ask_report.specs.TimeForms.{IsTimeForm};
-ghost use Rattle.bac_json.specs.Forms.{optional_number, string_or_null};
 ghost use Rattle.bac_json.specs.Members.{Extends};
 ghost use Rattle.bac_json_report.specs.Lines.{IsLineOf};
 ghost use Rattle.bac_npdu.specs.Views.{peer_view};
@@ -20,7 +18,7 @@ use crate::members::{AnswerMembers, members_of};
 use crate::question::{object_asked, property_asked, verb};
 use crate::record::{AskRecord, LineName};
 use bac_json::{Members, object_json, optional_json, property_json, text_json};
-use bac_json_report::print_json;
+use bac_json_report::{number_or_null, print_json, time_or_null};
 use bac_moment::{TimeText, time_text};
 use bac_npdu::Peer;
 use bac_service::PropertyReference;
@@ -51,42 +49,12 @@ fn index_or_null(reference: Option<PropertyReference>) -> Json
     }
 }
 
-/// A number; Null where there is none.
-fn number_or_null(number: Option<u64>) -> Json
-    ensures { view result ≡ optional_number number }
-{
-    match number {
-        Some(number) => Json::from(number),
-        None => Json::Null,
-    }
-}
-
 /// A peer, as `192.168.1.5:47808/5:2A`.
 fn peer_json(alloc: Global, peer: Peer) -> Result<Json, AllocError>
     ensures { IfOk result (λ v. view v ≡ string (peer_text (peer_view peer))) }
 {
     let text = peer_text(alloc, peer)?;
     Ok(Json::String(text))
-}
-
-/// A moment; Null where there is none.
-fn time_or_null(alloc: Global, time: &Option<TimeText>) -> Result<Json, AllocError>
-    ensures { IfOk result (λ v. view v ≡ string_or_null (option_map (λ t. t.bytes) time.now)) }
-{
-    match time {
-        Some(time) => Json::try_from_str(alloc, time.as_str()),
-        None => Ok(Json::Null),
-    }
-}
-
-/// A moment in milliseconds since 1970 began in UTC, as `2026-11-27T07:10:00.000Z`; Null where it is not known, or beyond the year 9999. An Err is out of
-/// memory.
-#[tactic(auto, using(crate::proofs::Told::time_formed))]
-pub fn time_json(alloc: Global, time: Option<u64>) -> Result<Json, AllocError>
-    ensures { IfOk result (λ v. IsTimeForm time (view v)) }
-{
-    let text = time_text(time);
-    time_or_null(alloc, &text)
 }
 
 // ---- what was asked

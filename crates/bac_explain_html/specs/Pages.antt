@@ -50,4 +50,4 @@ IsLastPart s t text = text ≡ last_part t
 -- ---- a file: the records, their order and the status are those of the plain lines
 
 abbrev pub IsReportOf : ReportOptions → (also : Option ℕ) → (input old new : Option (List ℕ)) → Status → Type 0
-IsReportOf o also input old new status = report.IsReportOf FRONT.now IsFramePart IsEntry IsLastPart o also input old new status
+IsReportOf o also input old new status = report.IsReportOf FRONT.now (report.Untimed IsFramePart) IsEntry IsLastPart o also input old new status

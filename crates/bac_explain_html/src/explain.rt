@@ -48,12 +48,13 @@ impl ReportForm for Page {
     ghost use Rattle.bac_explain_html.specs.Pages.{IsFramePart, IsLastPart};
     ghost use Rattle.bac_explain_html.specs.Rows.{IsEntry};
     ghost use Rattle.bac_explain_html.specs.declared.page.TheConstants.{FRONT};
+    ghost use Rattle.bac_explain_report.specs.Reported.{Untimed};
 
     ghost front = { FRONT.now };
 
     ghost IsOne = { IsEntry };
 
-    ghost IsTold = { IsFramePart };
+    ghost IsTold = { Untimed IsFramePart };
 
     ghost AreLast = { IsLastPart };
 
@@ -69,6 +70,7 @@ impl ReportForm for Page {
         &self,
         alloc: Global,
         number: u64,
+        _moment: Option<u64>,
         told: &FrameReport,
     ) -> Result<Vec<u8>, NoMemory> {
         match told {

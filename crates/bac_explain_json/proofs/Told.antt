@@ -1,13 +1,18 @@
--- What the object of a transaction says.
+-- What the object of a transaction says, and that of a frame.
 use Rattle.std.proofs.Common.{◌≡◌, ℕ, List, Option, Some}
 use Rattle.bac_apdu.specs.Reading.{apdu_at}
+use Rattle.bac_explain.specs.Keys.{Key}
 use Rattle.bac_explain.specs.Sent.{SentView}
 use Rattle.bac_explain.specs.Tables.{ClosedView}
+use Rattle.bac_explain.specs.declared.finding.Finding.{Finding}
 use Rattle.bac_explain_report.specs.AnswerWords as answer
 use Rattle.bac_explain_report.specs.RequestWords as request
+use Rattle.bac_explain_report.specs.declared.unread.Unread.{Unread}
+use Rattle.bac_json_report.specs.TimeForms.{IsTimeForm}
 use Rattle.bac_moment.specs.Times.{IsTextOf}
 use Rattle.serde_json.specs.Data.{Data}
 use Rattle.bac_explain_json.specs.Carried.{IsAnswerIn, IsAskedIn}
+use Rattle.bac_explain_json.specs.Lines.{IsFinding, IsUnread, finding_form, unread_form}
 use Rattle.bac_explain_json.specs.Objects.{AnsweredMembers, AreAnswered, AreAnsweredIn, AreAsked, AskedMembers, IsObject, answered_members, asked_members}
 use Rattle.bac_explain_json.specs.Objects.{end_members, peer_members, transaction_object}
 
@@ -25,3 +30,11 @@ pub object_told : (c : ClosedView) (asked : AskedMembers) (answered : AnsweredMe
     → d ≡ transaction_object (peer_members c.key) asked answered (end_members c.transaction) → IsObject c d
 object_told c asked answered d are_asked are_answered is =
     record { asked = asked; are_asked = are_asked; answered = answered; are_answered = are_answered; is = is }
+
+pub unread_told : (frame : ℕ) (moment : Option ℕ) (why : Unread) (time d : Data) → IsTimeForm moment time → d ≡ unread_form frame moment time why
+    → IsUnread frame moment why d
+unread_told frame moment why time d of is = record { time = time; time_of = of; is = is }
+
+pub finding_told : (frame : ℕ) (moment : Option ℕ) (k : Key) (finding : Finding) (time d : Data) → IsTimeForm moment time
+    → d ≡ finding_form frame moment time k finding → IsFinding frame moment k finding d
+finding_told frame moment k finding time d of is = record { time = time; time_of = of; is = is }

@@ -28,11 +28,16 @@ fn optional_line(alloc: Global, closed: &Option<Closed>) -> Result<Vec<u8>, NoMe
     }
 }
 
-fn hearing_lines(alloc: Global, frame: u64, hearing: &Hearing) -> Result<Vec<u8>, NoMemory>
-    ensures { IfOk result (λ t. IsHearing frame (hearing_view hearing.now) t.items) }
+fn hearing_lines(
+    alloc: Global,
+    frame: u64,
+    moment: Option<u64>,
+    hearing: &Hearing,
+) -> Result<Vec<u8>, NoMemory>
+    ensures { IfOk result (λ t. IsHearing frame moment (hearing_view hearing.now) t.items) }
 {
     let closed = optional_line(alloc, &hearing.closed)?;
-    let finding = finding_line(alloc, frame, hearing.key, hearing.finding)?;
+    let finding = finding_line(alloc, frame, moment, hearing.key, hearing.finding)?;
     let mut text = optional_line(alloc, &hearing.over)?;
     text.extend_from_slice(closed.as_slice())?;
     text.extend_from_slice(finding.as_slice())?;
@@ -67,12 +72,13 @@ impl ReportForm for JsonLines {
         &self,
         alloc: Global,
         number: u64,
+        moment: Option<u64>,
         told: &FrameReport,
     ) -> Result<Vec<u8>, NoMemory> {
         match told {
             FrameReport::Nothing => Ok(Vec::new(alloc)),
-            FrameReport::Unread(why) => Ok(unread_line(alloc, number, *why)?),
-            FrameReport::Heard(hearing) => hearing_lines(alloc, number, hearing),
+            FrameReport::Unread(why) => Ok(unread_line(alloc, number, moment, *why)?),
+            FrameReport::Heard(hearing) => hearing_lines(alloc, number, moment, hearing),
         }
     }
 

@@ -1,7 +1,7 @@
 //! Frames, and what is wrong with them.
 ghost use Rattle.std.specs.Prelude.{◌≡◌, IfOk};
 ghost use Rattle.bac_explain.specs.KeyViews.{key_view};
-ghost use Rattle.bac_explain_json.specs.Lines.{IsFindingLine, finding_form, unread_form};
+ghost use Rattle.bac_explain_json.specs.Lines.{IsFinding, IsFindingLine, IsUnread, finding_form, unread_form};
 ghost use Rattle.bac_explain_json.specs.Lists.{findings_form, frames_form};
 ghost use Rattle.bac_explain.specs.Texts.{finding_text};
 ghost use Rattle.bac_json_report.specs.Lines.{IsLineOf};
@@ -13,7 +13,7 @@ ghost use Rattle.serde_json.specs.View.{view};
 use bac_explain::{Finding, Step, TransactionKey};
 use bac_explain_report::Unread;
 use bac_json::Members;
-use bac_json_report::json_line;
+use bac_json_report::{json_line, number_or_null, time_json};
 use bac_npdu::Peer;
 use bac_text::peer_text;
 use serde_json::Value as Json;
@@ -58,32 +58,60 @@ pub(crate) fn findings_json(alloc: Global, steps: &[Step]) -> Result<Json, Alloc
     Ok(Json::Array(findings))
 }
 
-fn unread_json(alloc: Global, frame: u64, why: Unread) -> Result<Json, AllocError>
-    ensures { IfOk result (λ v. view v ≡ unread_form frame why) }
+fn unread_object(
+    alloc: Global,
+    frame: u64,
+    moment: Option<u64>,
+    time: Json,
+    why: Unread,
+) -> Result<Json, AllocError>
+    ensures { IfOk result (λ v. view v ≡ unread_form frame moment (view time) why) }
 {
     let text = format!(in alloc; "{why}")?;
     Members::new(alloc)
         .number("frame", frame)
         .text("kind", "unread")
+        .json("moment", number_or_null(moment))
         .text("text", text.as_str())
+        .json("time", time)
         .end()
 }
 
-/// A frame that cannot be read, as an object on a line.
-pub(crate) fn unread_line(alloc: Global, frame: u64, why: Unread) -> Result<Vec<u8>, AllocError>
-    ensures { IfOk result (λ t. IsLineOf (λ d. d ≡ unread_form frame why) t.items) }
+#[tactic(auto, using(crate::proofs::Told::unread_told))]
+fn unread_json(
+    alloc: Global,
+    frame: u64,
+    moment: Option<u64>,
+    why: Unread,
+) -> Result<Json, AllocError>
+    ensures { IfOk result (λ v. IsUnread frame moment why (view v)) }
 {
-    let json = unread_json(alloc, frame, why)?;
+    let time = time_json(alloc, moment)?;
+    unread_object(alloc, frame, moment, time, why)
+}
+
+/// A frame that cannot be read, as an object on a line.
+pub(crate) fn unread_line(
+    alloc: Global,
+    frame: u64,
+    moment: Option<u64>,
+    why: Unread,
+) -> Result<Vec<u8>, AllocError>
+    ensures { IfOk result (λ t. IsLineOf (IsUnread frame moment why) t.items) }
+{
+    let json = unread_json(alloc, frame, moment, why)?;
     json_line(alloc, &json)
 }
 
-fn finding_json(
+fn finding_object(
     alloc: Global,
     frame: u64,
+    moment: Option<u64>,
+    time: Json,
     key: TransactionKey,
     finding: Finding,
 ) -> Result<Json, AllocError>
-    ensures { IfOk result (λ v. view v ≡ finding_form frame (key_view key) finding) }
+    ensures { IfOk result (λ v. view v ≡ finding_form frame moment (view time) (key_view key) finding) }
 {
     let client = peer_json(alloc, key.client)?;
     let words = finding_words(alloc, finding)?;
@@ -94,22 +122,39 @@ fn finding_json(
         .number("frame", frame)
         .number("invoke_id", u64::from(key.invoke_id))
         .text("kind", "finding")
+        .json("moment", number_or_null(moment))
         .json("server", server)
+        .json("time", time)
         .end()
+}
+
+#[tactic(auto, using(crate::proofs::Told::finding_told))]
+fn finding_json(
+    alloc: Global,
+    frame: u64,
+    moment: Option<u64>,
+    key: TransactionKey,
+    finding: Finding,
+) -> Result<Json, AllocError>
+    ensures { IfOk result (λ v. IsFinding frame moment (key_view key) finding (view v)) }
+{
+    let time = time_json(alloc, moment)?;
+    finding_object(alloc, frame, moment, time, key, finding)
 }
 
 /// What is wrong with a frame, if that is printed, as an object on a line.
 pub(crate) fn finding_line(
     alloc: Global,
     frame: u64,
+    moment: Option<u64>,
     key: TransactionKey,
     finding: Option<Finding>,
 ) -> Result<Vec<u8>, AllocError>
-    ensures { IfOk result (λ t. IsFindingLine frame (key_view key) finding t.items) }
+    ensures { IfOk result (λ t. IsFindingLine frame moment (key_view key) finding t.items) }
 {
     let Some(finding) = finding else {
         return Ok(Vec::new(alloc));
     };
-    let json = finding_json(alloc, frame, key, finding)?;
+    let json = finding_json(alloc, frame, moment, key, finding)?;
     json_line(alloc, &json)
 }

@@ -1,25 +1,14 @@
 //! The counts at the end.
 ghost use Rattle.std.specs.Prelude.{◌≡◌, IfOk};
 ghost use Rattle.bac_explain_json.specs.Lines.{summary_form};
-ghost use Rattle.bac_json.specs.Forms.{optional_number};
 ghost use Rattle.bac_json_report.specs.Lines.{IsLineOf};
 ghost use Rattle.serde_json.specs.View.{view};
 
 use bac_explain_report::Tally;
 use bac_json::Members;
-use bac_json_report::json_line;
+use bac_json_report::{json_line, number_or_null};
 use serde_json::Value as Json;
 use std::alloc::{AllocError, Global};
-
-/// A number; Null where there is none.
-fn number_or_null(number: Option<u64>) -> Json
-    ensures { view result ≡ optional_number number }
-{
-    match number {
-        Some(number) => Json::from(number),
-        None => Json::Null,
-    }
-}
 
 fn summary_json(alloc: Global, tally: Tally) -> Result<Json, AllocError>
     ensures { IfOk result (λ v. view v ≡ summary_form tally) }

@@ -11,7 +11,6 @@ ghost use Rattle.bac_explain_json.specs.Lists.{findings_form, frames_form};
 ghost use Rattle.bac_explain_json.specs.Members.{answered_view, asked_view, end_view, peers_view};
 ghost use Rattle.bac_explain_json.specs.Objects.{AreAnswered, AreAnsweredIn, AreAsked, IsObject, end_members, has_error, is_error, no_answer, peer_members, status_word};
 ghost use Rattle.bac_explain_json.specs.Objects.{transaction_object};
-ghost use Rattle.bac_json.specs.Forms.{string_or_null};
 ghost use Rattle.serde_json.specs.Data.{string};
 ghost use Rattle.serde_json.specs.View.{view};
 
@@ -22,8 +21,8 @@ use bac_apdu::{Apdu, read};
 use bac_explain::{Closed, Sent, Transaction, TransactionKey};
 use bac_explain_report::{asked_words, ending_of, is_unanswered, told_words};
 use bac_json::{Members, text_json};
-use bac_json_report::json_line;
-use bac_moment::{TimeText, time_text};
+use bac_json_report::{json_line, time_or_null};
+use bac_moment::time_text;
 use bac_value::NoMemory;
 use serde_json::Value as Json;
 use std::alloc::{AllocError, Global};
@@ -38,16 +37,6 @@ fn peer_members(alloc: Global, key: TransactionKey) -> Result<PeerMembers, Alloc
         invoke_id: Json::from(key.invoke_id),
         server,
     })
-}
-
-/// A moment; Null where there is none.
-fn time_or_null(alloc: Global, time: &Option<TimeText>) -> Result<Json, AllocError>
-    ensures { IfOk result (λ v. view v ≡ string_or_null (option_map (λ t. t.bytes) time.now)) }
-{
-    match time {
-        Some(time) => Json::try_from_str(alloc, time.as_str()),
-        None => Ok(Json::Null),
-    }
 }
 
 #[tactic(auto, using(crate::proofs::Told::asked_told))]

@@ -40,7 +40,7 @@ AreLastLines s t text = text ≡ last_lines s t
 
 -- a file is explained frame by frame, with transactions in a form, and no other input
 abbrev pub IsReportWith : Printing → ReportOptions → Option ℕ → Option (List ℕ) → Option (List ℕ) → Option (List ℕ) → Status → Type 0
-IsReportWith IsOne o also input old new status = report.IsReportOf [] (IsFrameReport IsOne) IsOne AreLastLines o also input old new status
+IsReportWith IsOne o also input old new status = report.IsReportOf [] (report.Untimed (IsFrameReport IsOne)) IsOne AreLastLines o also input old new status
 
 -- a transaction with its frames or without
 abbrev pub block_form : (frames : Bool) → Printing

@@ -1,5 +1,5 @@
 -- What `bac explain` prints for a capture file in one of its forms, and its status.
-use Rattle.std.specs.Prelude.{◌≡◌, ℕ, ◌++◌, List, Option}
+use Rattle.std.specs.Prelude.{◌≡◌, ℕ, ◌++◌, List, Option, None}
 use Rattle.bac_capture.specs.declared.fault.FileFault.{FileFault}
 use Rattle.bac_capture.specs.Blocks.{FrameView}
 use Rattle.bac_capture.specs.FileReports.{no_report}
@@ -13,24 +13,29 @@ use Rattle.bac_explain_report.specs.declared.selection.ReportOptions.{ReportOpti
 use Rattle.bac_explain_report.specs.declared.selection.Selection.{Selection}
 use Rattle.bac_explain_report.specs.declared.tally.Tally.{Tally}
 
--- what is printed of the report on the frame with a number, and at the end
+-- what is printed of the report on the frame with a number and a moment, if it has one, and at the end
 abbrev pub Telling : Type 1
-Telling = (number : ℕ) → FrameReportView → (text : List ℕ) → Type 0
+Telling = (number : ℕ) → (moment : Option ℕ) → FrameReportView → (text : List ℕ) → Type 0
+
+-- without the moment
+abbrev pub Untimed : ((number : ℕ) → FrameReportView → (text : List ℕ) → Type 0) → Telling
+Untimed IsTold number moment told text = IsTold number told text
 
 abbrev pub Closing : Type 1
 Closing = Selection → Tally → (text : List ℕ) → Type 0
 
--- the report on the frame is printed with its number, and this is the next state
-pub record IsPrintedNext (IsTold : Telling) (what : FrameReportView × Account) (text : List ℕ) (next : Account) : Type 0 where
+-- the report on the frame is printed with its number and its moment, and this is the next state
+pub record IsPrintedNext (IsTold : Telling) (moment : Option ℕ) (what : FrameReportView × Account) (text : List ℕ) (next : Account) : Type 0 where
   pub is : next ≡ what.1
-  pub told : IsTold next.tally.frames what.0 text
+  pub told : IsTold next.tally.frames moment what.0 text
 
 -- a frame is handled; `also` is a port in addition to the sixteen
 abbrev pub SeesFrame : Telling → (also : Option ℕ) → Prints FrameView Account
-SeesFrame IsTold also frame a text next = IsPrintedNext IsTold (frame_heard also frame a) text next
+SeesFrame IsTold also frame a text next = IsPrintedNext IsTold frame.moment (frame_heard also frame a) text next
 
+-- what would follow has no moment
 abbrev pub BreaksFile : Telling → Prints FileFault Account
-BreaksFile IsTold fault a text next = IsPrintedNext IsTold (broken_off fault a) text next
+BreaksFile IsTold fault a text next = IsPrintedNext IsTold None (broken_off fault a) text next
 
 -- below the frames the transactions that are open are printed as far as they pass, and then the last lines
 pub record EndsFile (IsOne : Printing) (AreLast : Closing) (a : Account) (text : List ℕ) (status : Status) : Type 0 where

@@ -25,13 +25,14 @@ struct Lines<B> {
 impl<B: BlockForm> ReportForm for Lines<B> {
     ghost use Rattle.bac_explain_report.specs.Explained.{AreLastLines};
     ghost use Rattle.bac_explain_report.specs.FrameReports.{IsFrameReport};
+    ghost use Rattle.bac_explain_report.specs.Reported.{Untimed};
     ghost use Rattle.std.specs.Prelude.{[]};
 
     ghost front = { [] };
 
     ghost IsOne = { B.IsOne };
 
-    ghost IsTold = { IsFrameReport B.IsOne };
+    ghost IsTold = { Untimed (IsFrameReport B.IsOne) };
 
     ghost AreLast = { AreLastLines };
 
@@ -47,6 +48,7 @@ impl<B: BlockForm> ReportForm for Lines<B> {
         &self,
         alloc: Global,
         number: u64,
+        _moment: Option<u64>,
         told: &FrameReport,
     ) -> Result<Vec<u8>, NoMemory> {
         report_text(&self.block, alloc, number, told)

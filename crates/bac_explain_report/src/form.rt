@@ -1,5 +1,5 @@
 //! The forms in which a report on transactions is printed.
-ghost use Rattle.std.specs.Prelude.{◌≡◌, ℕ, List, IfOk};
+ghost use Rattle.std.specs.Prelude.{◌≡◌, ℕ, List, Option, IfOk};
 ghost use Rattle.bac_explain.specs.Closings.{closed_view};
 ghost use Rattle.bac_explain.specs.Tables.{ClosedView};
 ghost use Rattle.bac_explain_report.specs.AccountViews.{report_view};
@@ -22,8 +22,8 @@ pub trait ReportForm {
     // What is printed of a transaction.
     ghost IsOne: { ClosedView → (text : List ℕ) → Type 0 };
 
-    // What is printed of the report on the frame with a number.
-    ghost IsTold: { (number : ℕ) → FrameReportView → (text : List ℕ) → Type 0 };
+    // What is printed of the report on the frame with a number and a moment, if it has one.
+    ghost IsTold: { (number : ℕ) → (moment : Option ℕ) → FrameReportView → (text : List ℕ) → Type 0 };
 
     // What is printed at the end.
     ghost AreLast: { Picked → Counts → (text : List ℕ) → Type 0 };
@@ -36,14 +36,15 @@ pub trait ReportForm {
     fn transaction_text(&self, alloc: Global, closed: &Closed) -> Result<Vec<u8>, NoMemory>
         ensures { IfOk result (λ t. IsOne (closed_view closed.now) t.items) };
 
-    /// The text of the report on the frame with this number, from 1. An Err is out of memory.
+    /// The text of the report on the frame with this number, from 1, and this moment in milliseconds, where the file has one. An Err is out of memory.
     fn frame_text(
         &self,
         alloc: Global,
         number: u64,
+        moment: Option<u64>,
         told: &FrameReport,
     ) -> Result<Vec<u8>, NoMemory>
-        ensures { IfOk result (λ t. IsTold number (report_view told.now) t.items) };
+        ensures { IfOk result (λ t. IsTold number moment (report_view told.now) t.items) };
 
     /// The text at the end: how many of the transactions were printed, where a filter is given, and the counts. An Err is out of memory.
     fn last_text(

@@ -39,17 +39,18 @@ impl<F: ReportForm + Drop> Reporter<F> {
     }
 }
 
-/// Prints the report on the frame with this number.
+/// Prints the report on the frame with this number and this moment.
 fn print_report<F: ReportForm, W: Write>(
     form: &F,
     alloc: Global,
     number: u64,
+    moment: Option<u64>,
     told: &FrameReport,
     out: &mut W,
 ) -> Result<(), CheckError>
-    ensures { OnOk result (AppendsText (W.contents out.old) (W.contents out.new) (F.IsTold number (report_view told.now))) }
+    ensures { OnOk result (AppendsText (W.contents out.old) (W.contents out.new) (F.IsTold number moment (report_view told.now))) }
 {
-    match form.frame_text(alloc, number, told) {
+    match form.frame_text(alloc, number, moment, told) {
         Ok(text) => print_text(text.as_slice(), out),
         Err(_) => Err(CheckError::Memory),
     }
@@ -160,6 +161,7 @@ impl<W: Write, F: ReportForm + Drop> FileReport<W> for Reporter<F> {
                 &self.form,
                 self.account.alloc,
                 self.account.tally.frames,
+                frame.moment,
                 &told,
                 out,
             ),
@@ -173,6 +175,7 @@ impl<W: Write, F: ReportForm + Drop> FileReport<W> for Reporter<F> {
             &self.form,
             self.account.alloc,
             self.account.tally.frames,
+            None,
             &told,
             out,
         )

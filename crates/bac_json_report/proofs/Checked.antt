@@ -1,5 +1,5 @@
 -- Lines and frames that were checked.
-use Rattle.std.proofs.Common.{◌≡◌, ◌+◌, ◌∙◌, ℕ, Option, List, Result, Ok, Err, OnOk, ap, refl, subst, sym}
+use Rattle.std.proofs.Common.{◌≡◌, ◌+◌, ◌∙◌, ℕ, Option, None, List, Result, Ok, Err, OnOk, ap, refl, subst, sym}
 use Rattle.bac_capture.specs.declared.fault.FileFault.{FileFault}
 use Rattle.bac_capture.specs.Blocks.{FrameView}
 use Rattle.bac_capture.specs.Counts as counts
@@ -9,6 +9,7 @@ use Rattle.bac_json_report.specs.CheckedFiles as file
 use Rattle.bac_json_report.specs.CheckedLines as line
 use Rattle.bac_json_report.specs.LineReports.{IsEnded, IsVisited}
 use Rattle.bac_json_report.specs.Lines.{IsLineOf}
+use Rattle.bac_json_report.specs.TimeForms.{IsTimeForm}
 use Rattle.bac_text.specs.Lines.{short_capture_at}
 use Rattle.bac_text.specs.Statuses as statuses
 use Rattle.bac_text.specs.Texts.{AppendsText}
@@ -40,25 +41,29 @@ lines_ended c s a b p tallied = record { text = p.0; ends = record { text_of = p
 
 -- ---- frames
 
-pub frame_counted : (v : Verdict) (number : ℕ) (a b : Option (List ℕ)) (before next : file.Count) → next ≡ file.counted before v → number ≡ next.frames
-    → AppendsText a b (file.IsFaultText number (file.verdict_fault v)) → IsPrinted file.IsCounted v a b before next
-frame_counted v number a b before next is here p = record {
+pub bad_frame_told : (frame : ℕ) (moment : Option ℕ) (fault time d : Data) → IsTimeForm moment time → d ≡ file.bad_frame_form frame moment time fault
+    → file.IsBadFrame frame moment fault d
+bad_frame_told frame moment fault time d of is = record { time = time; time_of = of; is = is }
+
+pub frame_counted : (moment : Option ℕ) (v : Verdict) (number : ℕ) (a b : Option (List ℕ)) (before next : file.Count) → next ≡ file.counted before v
+    → number ≡ next.frames → AppendsText a b (file.IsFaultText number moment (file.verdict_fault v)) → IsPrinted (file.IsCounted moment) v a b before next
+frame_counted moment v number a b before next is here p = record {
   text = p.0;
   printed = p.1.1;
   says = record {
-    text_of = subst (λ (n : ℕ). file.IsFaultText n (file.verdict_fault v) p.0) (here ∙ ap (λ (c : file.Count). c.frames) is) p.1.0;
+    text_of = subst (λ (n : ℕ). file.IsFaultText n moment (file.verdict_fault v) p.0) (here ∙ ap (λ (c : file.Count). c.frames) is) p.1.0;
     is = is;
   };
 }
 
 pub frame_seen : {T E : Type 0} (r : Result T E) (also : Option ℕ) (frame : FrameView) (v : Verdict) (a b : Option (List ℕ)) (before next : file.Count)
-    → file.IsVerdict also frame v → OnOk r (IsPrinted file.IsCounted v a b before next) → OnOk r (IsPrinted (file.SeesFrame also) frame a b before next)
+    → file.IsVerdict also frame v → OnOk r (IsPrinted (file.IsCounted frame.moment) v a b before next) → OnOk r (IsPrinted (file.SeesFrame also) frame a b before next)
 frame_seen (Err e) also frame v a b before next judged p = tt
 frame_seen (Ok t) also frame v a b before next judged p =
     record { text = p.text; printed = p.printed; says = record { verdict = v; judged = judged; counted = p.says } }
 
 pub file_broken : {T E : Type 0} (r : Result T E) (fault : FileFault) (a b : Option (List ℕ)) (before next : file.Count)
-    → OnOk r (IsPrinted file.IsCounted (File fault) a b before next) → OnOk r (IsPrinted file.BreaksFile fault a b before next)
+    → OnOk r (IsPrinted (file.IsCounted None) (File fault) a b before next) → OnOk r (IsPrinted file.BreaksFile fault a b before next)
 file_broken (Err e) fault a b before next p = tt
 file_broken (Ok t) fault a b before next p = record { text = p.text; printed = p.printed; says = p.says }
 

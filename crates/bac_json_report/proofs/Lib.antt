@@ -1,3 +1,4 @@
 pub mod LinesSeen
+pub mod Times
 pub mod Printed
 pub mod Checked

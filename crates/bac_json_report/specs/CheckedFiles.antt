@@ -14,9 +14,11 @@ use Rattle.bac_capture.specs.Links.{link_kind_of}
 use Rattle.bac_capture.specs.Packets.{DatagramView}
 use Rattle.bac_capture.specs.Texts.{file_fault_text, packet_fault_text}
 use Rattle.bac_capture.specs.Walks.{Prints}
+use Rattle.bac_json.specs.Forms.{optional_number}
 use Rattle.bac_json_report.specs.CheckedLines.{AreChecked}
 use Rattle.bac_json_report.specs.Faults.{fault_form, outer_fault_form}
 use Rattle.bac_json_report.specs.Lines.{IsLineOf}
+use Rattle.bac_json_report.specs.TimeForms.{IsTimeForm}
 use Rattle.bac_json_report.specs.declared.file_check.FileCheck.{FileCheck}
 use Rattle.bac_json_report.specs.declared.file_check.Verdict.{Verdict}
 use Rattle.bac_json_report.specs.declared.file_check.Verdict.TheVariants.{Nothing, Good, Other, Link, Packet, Faulty, File}
@@ -86,9 +88,16 @@ other_in (File fault) = 0
 
 -- ---- a bad frame
 
-abbrev pub bad_frame_form : (frame : ℕ) → (fault : Data) → Data
-bad_frame_form frame fault =
-    object (member (codes "fault") fault (member (codes "frame") (number (unsigned frame)) (member (codes "type") (string (codes "fault")) no_members)))
+abbrev pub bad_frame_form : (frame : ℕ) → (moment : Option ℕ) → (time fault : Data) → Data
+bad_frame_form frame moment time fault =
+    object (member (codes "fault") fault (member (codes "frame") (number (unsigned frame)) (member (codes "moment") (optional_number moment)
+    (member (codes "time") time (member (codes "type") (string (codes "fault")) no_members)))))
+
+-- its moment in milliseconds and as text, where the file has one
+pub record IsBadFrame (frame : ℕ) (moment : Option ℕ) (fault d : Data) : Type 0 where
+  pub time : Data
+  pub time_of : IsTimeForm moment time
+  pub is : d ≡ bad_frame_form frame moment time fault
 
 abbrev pub verdict_fault : Verdict → Option Data
 verdict_fault Nothing = None
@@ -100,9 +109,9 @@ verdict_fault (Faulty fault) = Some (fault_form fault)
 verdict_fault (File fault) = Some (outer_fault_form (codes "file") (file_fault_text fault))
 
 -- for the frame with this number, from 1: nothing unless it is bad
-abbrev pub IsFaultText : (place : ℕ) → Option Data → (text : List ℕ) → Type 0
-IsFaultText place None text = text ≡ []
-IsFaultText place (Some fault) text = IsLineOf (λ d. d ≡ bad_frame_form place fault) text
+abbrev pub IsFaultText : (place : ℕ) → (moment : Option ℕ) → Option Data → (text : List ℕ) → Type 0
+IsFaultText place moment None text = text ≡ []
+IsFaultText place moment (Some fault) text = IsLineOf (IsBadFrame place moment fault) text
 
 -- ---- a file
 
@@ -122,20 +131,20 @@ no_frames = record { frames = 0; good = 0; bad = 0; other = 0 }
 abbrev pub counted : Count → Verdict → Count
 counted c v = record { frames = c.frames + 1; good = c.good + good_in v; bad = c.bad + bad_in v; other = c.other + other_in v }
 
--- a frame with this verdict is printed if it is bad, and counted
-pub record IsCounted (verdict : Verdict) (before : Count) (text : List ℕ) (next : Count) : Type 0 where
-  pub text_of : IsFaultText (before.frames + 1) (verdict_fault verdict) text
+-- a frame of this moment with this verdict is printed if it is bad, and counted
+pub record IsCounted (moment : Option ℕ) (verdict : Verdict) (before : Count) (text : List ℕ) (next : Count) : Type 0 where
+  pub text_of : IsFaultText (before.frames + 1) moment (verdict_fault verdict) text
   pub is : next ≡ counted before verdict
 
 -- a frame is checked; `also` is a port in addition to the sixteen
 pub record SeesFrame (also : Option ℕ) (frame : FrameView) (before : Count) (text : List ℕ) (next : Count) : Type 0 where
   pub verdict : Verdict
   pub judged : IsVerdict also frame verdict
-  pub counted : IsCounted verdict before text next
+  pub counted : IsCounted frame.moment verdict before text next
 
--- the file cannot be read further: this is printed for the frame that would follow
+-- the file cannot be read further: this is printed for the frame that would follow, which has no moment
 abbrev pub BreaksFile : Prints FileFault Count
-BreaksFile fault before text next = IsCounted (File fault) before text next
+BreaksFile fault before text next = IsCounted None (File fault) before text next
 
 abbrev pub summary_form : Count → Data
 summary_form c =

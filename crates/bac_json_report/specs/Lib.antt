@@ -1,5 +1,6 @@
 pub mod Lines
 pub mod Faults
+pub mod TimeForms
 pub mod Datagrams
 pub mod LineReports
 pub mod Decoded

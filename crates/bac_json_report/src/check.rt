@@ -5,8 +5,8 @@ ghost use Rattle.bac_capture.specs.Counts.{IsTallied};
 ghost use Rattle.bac_capture.specs.Reports.{IsPrinted};
 ghost use Rattle.bac_capture.specs.Texts.{file_fault_text, packet_fault_text};
 ghost use Rattle.std.specs.Option.{option_map};
-ghost use Rattle.bac_json_report.specs.CheckedFiles.{IsCounted, IsDatagramVerdict, IsFaultText, IsReportOf, IsVerdict, bad_frame_form, count_of, counted, summary_form};
-ghost use Rattle.bac_json_report.specs.CheckedFiles.{verdict_fault};
+ghost use Rattle.bac_json_report.specs.CheckedFiles.{IsCounted, IsDatagramVerdict, IsFaultText, IsReportOf, IsVerdict, count_of, counted, summary_form};
+ghost use Rattle.bac_json_report.specs.CheckedFiles.{IsBadFrame, bad_frame_form, verdict_fault};
 ghost use Rattle.bac_json_report.specs.Faults.{outer_fault_form};
 ghost use Rattle.bac_json_report.specs.Lines.{IsLineOf};
 ghost use Rattle.bac_text.specs.Texts.{AppendsText};
@@ -16,6 +16,7 @@ use crate::check_lines::check_json_lines_over;
 use crate::fault::{fault_json, outer_fault_json};
 use crate::file_check::{FileCheck, Verdict};
 use crate::line::print_json;
+use crate::moment::{number_or_null, time_json};
 use bac_capture::{
     FileFault, FileReport, Frame, LinkKind, OtherBvll, PacketFault, Ports, read_frame, report_over,
 };
@@ -52,20 +53,48 @@ fn judge(frame: Frame<'_>, ports: Ports) -> Verdict
     }
 }
 
-fn bad_frame_json(alloc: Global, frame: u64, fault: Json) -> Result<Json, AllocError>
-    ensures { IfOk result (λ v. view v ≡ bad_frame_form frame (view fault)) }
+fn bad_frame_object(
+    alloc: Global,
+    frame: u64,
+    moment: Option<u64>,
+    time: Json,
+    fault: Json,
+) -> Result<Json, AllocError>
+    ensures { IfOk result (λ v. view v ≡ bad_frame_form frame moment (view time) (view fault)) }
 {
     Members::new(alloc)
         .json("fault", fault)
         .number("frame", frame)
+        .json("moment", number_or_null(moment))
+        .json("time", time)
         .text("type", "fault")
         .end()
 }
 
-fn print_bad<W: Write>(alloc: Global, frame: u64, fault: Json, out: &mut W) -> io::Result<()>
-    ensures { OnOk result (AppendsText (W.contents out.old) (W.contents out.new) (IsLineOf (λ d. d ≡ bad_frame_form frame (view fault)))) }
+/// A bad frame with its number and its moment.
+#[tactic(auto, using(crate::proofs::Checked::bad_frame_told))]
+fn bad_frame_json(
+    alloc: Global,
+    frame: u64,
+    moment: Option<u64>,
+    fault: Json,
+) -> Result<Json, AllocError>
+    ensures { IfOk result (λ v. IsBadFrame frame moment (view fault) (view v)) }
 {
-    let json = bad_frame_json(alloc, frame, fault)?;
+    let time = time_json(alloc, moment)?;
+    bad_frame_object(alloc, frame, moment, time, fault)
+}
+
+fn print_bad<W: Write>(
+    alloc: Global,
+    frame: u64,
+    moment: Option<u64>,
+    fault: Json,
+    out: &mut W,
+) -> io::Result<()>
+    ensures { OnOk result (AppendsText (W.contents out.old) (W.contents out.new) (IsLineOf (IsBadFrame frame moment (view fault)))) }
+{
+    let json = bad_frame_json(alloc, frame, moment, fault)?;
     print_json(alloc, &json, out)
 }
 
@@ -96,17 +125,18 @@ fn fault_of(alloc: Global, verdict: Verdict) -> Result<Option<Json>, AllocError>
     }
 }
 
-/// Prints what is wrong with the frame of that number, if something is.
+/// Prints what is wrong with the frame of that number and that moment, if something is.
 fn print_verdict<W: Write>(
     alloc: Global,
     number: u64,
+    moment: Option<u64>,
     verdict: Verdict,
     out: &mut W,
 ) -> io::Result<()>
-    ensures { OnOk result (AppendsText (W.contents out.old) (W.contents out.new) (IsFaultText number (verdict_fault verdict))) }
+    ensures { OnOk result (AppendsText (W.contents out.old) (W.contents out.new) (IsFaultText number moment (verdict_fault verdict))) }
 {
     match fault_of(alloc, verdict)? {
-        Some(fault) => print_bad(alloc, number, fault, out),
+        Some(fault) => print_bad(alloc, number, moment, fault, out),
         None => Ok(()),
     }
 }
@@ -135,12 +165,17 @@ impl FileCheck {
         Ok(())
     }
 
-    /// Counts a frame, and prints what is wrong with it.
-    fn see<W: Write>(&mut self, verdict: Verdict, out: &mut W) -> Result<(), CheckError>
-        ensures { OnOk result (IsPrinted IsCounted verdict (W.contents out.old) (W.contents out.new) (count_of self.old) (count_of self.new)) }
+    /// Counts a frame of that moment, and prints what is wrong with it.
+    fn see<W: Write>(
+        &mut self,
+        moment: Option<u64>,
+        verdict: Verdict,
+        out: &mut W,
+    ) -> Result<(), CheckError>
+        ensures { OnOk result (IsPrinted (IsCounted moment) verdict (W.contents out.old) (W.contents out.new) (count_of self.old) (count_of self.new)) }
     {
         self.count(verdict)?;
-        match print_verdict(self.alloc, self.frames, verdict, out) {
+        match print_verdict(self.alloc, self.frames, moment, verdict, out) {
             Ok(()) => Ok(()),
             Err(error) => Err(CheckError::Output(error)),
         }
@@ -204,11 +239,11 @@ impl<W: Write> FileReport<W> for FileCheck {
         ports: Ports,
         out: &mut W,
     ) -> Result<(), CheckError> {
-        self.see(judge(frame, ports), out)
+        self.see(frame.moment, judge(frame, ports), out)
     }
 
     fn break_off(&mut self, fault: FileFault, out: &mut W) -> Result<(), CheckError> {
-        self.see(Verdict::File(fault), out)
+        self.see(None, Verdict::File(fault), out)
     }
 
     fn heading_text(&self) -> &'static str {

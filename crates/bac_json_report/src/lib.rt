@@ -10,6 +10,7 @@ mod file_check;
 mod line;
 mod line_check;
 mod line_report;
+mod moment;
 
 pub use check::check_json_over;
 pub use check_lines::check_json_lines_over;
@@ -17,3 +18,4 @@ pub use datagram::datagram_json;
 pub use decode::{decode_json_lines_over, decode_json_over};
 pub use fault::fault_json;
 pub use line::{json_line, print_json};
+pub use moment::{number_or_null, time_json, time_or_null};

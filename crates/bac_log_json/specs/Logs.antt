@@ -1,7 +1,7 @@
 -- Lines of the log of a server, as objects of JSON.
 use Rattle.std.specs.Prelude.{◌≡◌, ℕ, List, codes, Option, Some, None}
 use Rattle.std.specs.Option.{option_map}
-use Rattle.bac_ask_report.specs.TimeForms.{IsTimeForm}
+use Rattle.bac_json_report.specs.TimeForms.{IsTimeForm}
 use Rattle.bac_json.specs.Forms.{optional_number, text_form}
 use Rattle.bac_json.specs.Replies.{IsReplyForm}
 use Rattle.bac_json.specs.Requests.{IsRequestForm}

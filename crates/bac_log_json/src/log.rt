@@ -13,9 +13,8 @@ ghost use Rattle.bac_text.specs.Texts.{AppendsText};
 ghost use Rattle.serde_json.specs.Data.{null, number, string, unsigned};
 ghost use Rattle.serde_json.specs.View.{view};
 
-use bac_ask_report::time_json;
 use bac_json::{Members, optional_json, reply_json, request_json, text_json};
-use bac_json_report::print_json;
+use bac_json_report::{print_json, time_json};
 use bac_keep_json::{KeptPart, cell_json};
 use bac_npdu::{LinkAddress, Peer};
 use bac_service::{Reply, Request};

@@ -5,11 +5,11 @@ use Rattle.bac_explain_html.specs.Pages.{IsFramePart, IsLastPart}
 use Rattle.bac_explain_html.specs.Rows.{IsEntry}
 use Rattle.bac_explain_html.specs.declared.page.TheConstants.{FRONT}
 use Rattle.bac_explain_report.specs.Accounts.{Account}
-use Rattle.bac_explain_report.specs.Reported.{BreaksFile, EndsFile, SeesFrame}
+use Rattle.bac_explain_report.specs.Reported.{BreaksFile, EndsFile, SeesFrame, Untimed}
 use Rattle.bac_explain_html.proofs.explain.explain_html_over.Goals as goal
 
 pub returns-in-Ok : goal.returns-in-Ok
 returns-in-Ok g c =
-    subst (λ (a : Account). IsReportOf Account (SeesFrame IsFramePart c.args.ports.also) (BreaksFile IsFramePart) (λ _. FRONT.now)
+    subst (λ (a : Account). IsReportOf Account (SeesFrame (Untimed IsFramePart) c.args.ports.also) (BreaksFile (Untimed IsFramePart)) (λ _. FRONT.now)
     (EndsFile IsEntry IsLastPart) no_report a (g.R.Read.remaining c.args.input.now) (g.O.Write.contents c.args.out.now)
     (g.O.Write.contents c.report_over.new.out) c.report_over.result) c.in-Ok.ensures c.report_over.ensures
