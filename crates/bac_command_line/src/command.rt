@@ -2,6 +2,7 @@
 ghost use Rattle.bac_command_line.specs.Files.{OnFile};
 ghost use Rattle.bac_command_line.specs.Forgetting.{ForgetsAsAsked, OnForgotten};
 ghost use Rattle.bac_command_line.specs.Keeping.{OnDatabase};
+ghost use Rattle.bac_command_line.specs.Listing.{ListsAsAsked, OnListed};
 ghost use Rattle.bac_command_line.specs.Online.{OnClock, OnPort};
 ghost use Rattle.bac_command_line.specs.Tasks.{IsPerformed};
 
@@ -39,6 +40,7 @@ fn perform<F: OpenFiles, M: Machine, O: Write, E: Write>(
     ensures performed { IsPerformed (OnFile F.is_file F.File.remaining) (OnPort M.is_bound M.Link.failures M.Link.calls) (OnClock M.is_made M.Timer.told)
         (OnDatabase M.is_database M.Database.view M.Database.recovers) task.entry result (O.contents out.old) (O.contents out.new) }
     ensures forgotten { ForgetsAsAsked (OnForgotten M.is_database M.Database.view M.Database.recovers) task.entry result (O.contents out.old) (O.contents out.new) }
+    ensures listed { ListsAsAsked (OnListed M.is_database M.Database.view) task.entry result (O.contents out.old) (O.contents out.new) }
 {
     let alloc = environment.alloc;
     let files = environment.files;
