@@ -39,10 +39,10 @@ cells_listed (Err e) IsLine cells i a b d h keeps so_far = tt
 cells_listed (Ok t) IsLine cells i a b d h keeps so_far = so_far d (no_cell_more IsLine cells i h b d keeps)
 
 pub listed_so : {D : Type 0} (IsDatabase : (path : List ℕ) → (is_new : Bool) → D → Type 0) (view : D → View) (f : ListForm) (path : List ℕ) (is_new : Bool)
-    → (opened ended : D) (cells : List Cell) (a b : Option (List ℕ)) → IsDatabase path is_new opened → doubt (view opened).is_clean ≤ doubt (view ended).is_clean
-    → (IsClean (view ended) → AreCells ((view opened).committed 0) cells) → AppendsText a b (AreListed (line_in f) cells)
+    → (opened ended : D) (cells run : List Cell) (a b : Option (List ℕ)) → IsDatabase path is_new opened → doubt (view opened).is_clean ≤ doubt (view ended).is_clean
+    → (IsClean (view ended) → AreCells ((view opened).committed 0) cells) → run ≡ cells → AppendsText a b (AreListed (line_in f) run)
     → AppendsText a b (OnListed IsDatabase view f path)
-listed_so IsDatabase view f path is_new opened ended cells a b made less are p = (
+listed_so IsDatabase view f path is_new opened ended cells run a b made less are same p = (
   p.0,
   (
     record {
@@ -53,7 +53,7 @@ listed_so IsDatabase view f path is_new opened ended cells a b made less are p =
       honest = λ clean. clean_before _ _ less clean;
       cells = cells;
       are = are;
-      listed = p.1.0;
+      listed = subst (λ (cs : List Cell). AreListed (line_in f) cs p.0) same p.1.0;
     },
     p.1.1,
   ),
