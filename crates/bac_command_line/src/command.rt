@@ -25,7 +25,7 @@ use crate::task::{Task, task_of};
 use crate::telling::tell;
 use crate::{file_words, online};
 use bac_text::{Status, no_memory};
-use bac_words::matches;
+use bac_words::{Telling, matches};
 use clap::error::ErrorKind;
 use std::alloc::Global;
 use std::io::Write;
@@ -95,7 +95,15 @@ fn perform<F: OpenFiles, M: Machine, O: Write, E: Write>(
     }
 }
 
-/// Does what the words of a command line ask for; the first word is the program's name.
+/// Whether the words of a command line are `--version` alone, behind the program's name.
+fn asks_version(words: &[String]) -> bool {
+    match words {
+        [_, word] => word.as_str() == "--version",
+        _ => false,
+    }
+}
+
+/// Does what the words of a command line ask for; the first word is the program's name. `--version` alone does what the command `version` does.
 ///
 /// Words of no form: clap's text on `err`, and `CommandLine`. Out of memory: `no memory` on `err`.
 pub fn run<F: OpenFiles, M: Machine, O: Write, E: Write>(
@@ -106,6 +114,9 @@ pub fn run<F: OpenFiles, M: Machine, O: Write, E: Write>(
     out: &mut O,
     err: &mut E,
 ) -> Status {
+    if asks_version(words) {
+        return tell(Telling::Version, out, err);
+    }
     let matches = match matches(alloc, words) {
         Ok(matches) => matches,
         Err(error) if error.kind() == ErrorKind::OutOfMemory => return no_memory(err),
