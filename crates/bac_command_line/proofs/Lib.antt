@@ -6,6 +6,7 @@ pub mod StoresOfFiles
 pub mod Served
 pub mod Stretches
 pub mod Forgot
+pub mod Listed
 pub mod KeptServed
 pub mod Opened
 pub mod InRounds

@@ -103,7 +103,7 @@ abbrev pub IsServedKept : (IsFile : (path : List ℕ) → (content : Option (Lis
 IsServedKept IsFile objects IsOnDatabase IsOn IsClock s serving path old new =
     ByStatus s (OfDocument IsFile objects (ServesKept IsOnDatabase IsOn IsClock serving path old new)) ⊥ (Keeps old new)
 
--- ---- listing
+-- ---- listing: what is printed stands in Listing
 
 abbrev pub IsListed : Status → (old new : Option (List ℕ)) → Type 0
 IsListed s old new = ByStatus s (Unit {0}) ⊥ (Keeps old new)

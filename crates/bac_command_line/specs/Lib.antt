@@ -22,5 +22,6 @@ pub mod Stores
 pub mod Tasks
 pub mod Forgetting
 pub mod Keeping
+pub mod Listing
 pub mod Copied
 pub mod WholeFiles

@@ -2,6 +2,7 @@
 ghost use Rattle.bac_command_line.specs.Files.{OnFile};
 ghost use Rattle.bac_command_line.specs.Forgetting.{ForgetsAsAsked, OnForgotten};
 ghost use Rattle.bac_command_line.specs.Keeping.{OnDatabase};
+ghost use Rattle.bac_command_line.specs.Listing.{ListsAsAsked, OnListed};
 ghost use Rattle.bac_command_line.specs.Online.{OnClock, OnPort};
 ghost use Rattle.bac_command_line.specs.Tasks.{IsPerformed};
 
@@ -24,7 +25,7 @@ use crate::task::{Task, task_of};
 use crate::telling::tell;
 use crate::{file_words, online};
 use bac_text::{Status, no_memory};
-use bac_words::matches;
+use bac_words::{Telling, matches};
 use clap::error::ErrorKind;
 use std::alloc::Global;
 use std::io::Write;
@@ -39,6 +40,7 @@ fn perform<F: OpenFiles, M: Machine, O: Write, E: Write>(
     ensures performed { IsPerformed (OnFile F.is_file F.File.remaining) (OnPort M.is_bound M.Link.failures M.Link.calls) (OnClock M.is_made M.Timer.told)
         (OnDatabase M.is_database M.Database.view M.Database.recovers) task.entry result (O.contents out.old) (O.contents out.new) }
     ensures forgotten { ForgetsAsAsked (OnForgotten M.is_database M.Database.view M.Database.recovers) task.entry result (O.contents out.old) (O.contents out.new) }
+    ensures listed { ListsAsAsked (OnListed M.is_database M.Database.view) task.entry result (O.contents out.old) (O.contents out.new) }
 {
     let alloc = environment.alloc;
     let files = environment.files;
@@ -93,7 +95,15 @@ fn perform<F: OpenFiles, M: Machine, O: Write, E: Write>(
     }
 }
 
-/// Does what the words of a command line ask for; the first word is the program's name.
+/// Whether the words of a command line are `--version` alone, behind the program's name.
+fn asks_version(words: &[String]) -> bool {
+    match words {
+        [_, word] => word.as_str() == "--version",
+        _ => false,
+    }
+}
+
+/// Does what the words of a command line ask for; the first word is the program's name. `--version` alone does what the command `version` does.
 ///
 /// Words of no form: clap's text on `err`, and `CommandLine`. Out of memory: `no memory` on `err`.
 pub fn run<F: OpenFiles, M: Machine, O: Write, E: Write>(
@@ -104,6 +114,9 @@ pub fn run<F: OpenFiles, M: Machine, O: Write, E: Write>(
     out: &mut O,
     err: &mut E,
 ) -> Status {
+    if asks_version(words) {
+        return tell(Telling::Version, out, err);
+    }
     let matches = match matches(alloc, words) {
         Ok(matches) => matches,
         Err(error) if error.kind() == ErrorKind::OutOfMemory => return no_memory(err),

@@ -1,5 +1,12 @@
 //! `keep`: what the file of a server keeps.
+ghost use Rattle.std.specs.Prelude.{◌≡◌, ◌++◌, codes, decimal, None, Some, IfOk, OnOk};
+ghost use Rattle.std.specs.Option.{option_map};
+ghost use Rattle.bac_value.specs.Views.{object_identifier_view};
+ghost use Rattle.bac_keep_json.specs.Cells.{part_view};
+ghost use Rattle.bac_text.specs.Texts.{AppendsText};
 ghost use Rattle.bac_command_line.specs.Keeping.{IsListed};
+ghost use Rattle.bac_command_line.specs.Listing.{AreListed, AreValues, IsCellText, IsKeptWords, IsPartOf, IsValuesWords, IsWordsLine, Lists, OnListed};
+ghost use Rattle.bac_command_line.specs.Listing.{line_in, part_words as words_of};
 
 use crate::environment::Environment;
 use crate::files::{OpenFiles, opened};
@@ -29,30 +36,36 @@ fn octets_in(cells: &[Cell], object: ObjectIdentifier, count: u8) -> u64 {
     octets
 }
 
-/// The values of a property in words: the object, the property, and the values by their kinds; in hexadecimal where they are no values.
+/// Values by their kinds; in hexadecimal where they are no values.
+fn values_text(alloc: Global, octets: &[u8]) -> Result<Vec<u8>, NoMemory>
+    ensures { IfOk result (λ t. AreValues octets.now t.items) }
+{
+    match read_data(octets) {
+        Ok((values, _)) => data_text(alloc, values),
+        Err(_) => Ok(hex::encode_upper(alloc, octets)?.into_bytes()),
+    }
+}
+
+/// The values of a property in words: the object, the property, and the values.
 fn values_words(
     alloc: Global,
     object: ObjectIdentifier,
     property: u32,
     octets: &[u8],
-) -> Result<Vec<u8>, NoMemory> {
+) -> Result<Vec<u8>, NoMemory>
+    ensures { IfOk result (λ t. IsValuesWords (object_identifier_view object) property octets.now t.items) }
+{
+    let values = values_text(alloc, octets)?;
     let mut words = part_words(alloc, object, Some(property))?;
     words.push(b' ')?;
-    match read_data(octets) {
-        Ok((values, _)) => {
-            let text = data_text(alloc, values)?;
-            words.extend_from_slice(text.as_slice())?;
-        }
-        Err(_) => {
-            let text = hex::encode_upper(alloc, octets)?;
-            words.extend_from_slice(text.as_bytes())?;
-        }
-    }
+    words.extend_from_slice(values.as_slice())?;
     Ok(words)
 }
 
 /// A file in words: its number of octets.
-fn file_words(alloc: Global, object: ObjectIdentifier, octets: u64) -> Result<Vec<u8>, NoMemory> {
+fn file_words(alloc: Global, object: ObjectIdentifier, octets: u64) -> Result<Vec<u8>, NoMemory>
+    ensures { IfOk result (λ t. t.items ≡ words_of (object_identifier_view object) None ++ (codes " " ++ (decimal octets ++ codes " octets"))) }
+{
     let mut words = part_words(alloc, object, None)?;
     let tail = format!(in alloc; " {octets} octets")?;
     words.extend_from_slice(tail.as_bytes())?;
@@ -60,7 +73,9 @@ fn file_words(alloc: Global, object: ObjectIdentifier, octets: u64) -> Result<Ve
 }
 
 /// A property with its values, or a file with its number of octets, in words.
-pub(crate) fn kept_words(alloc: Global, part: KeptPart<'_>) -> Result<Vec<u8>, NoMemory> {
+pub(crate) fn kept_words(alloc: Global, part: KeptPart<'_>) -> Result<Vec<u8>, NoMemory>
+    ensures { IfOk result (λ t. IsKeptWords (part_view part.entry) t.items) }
+{
     match part {
         KeptPart::Values {
             object,
@@ -71,9 +86,10 @@ pub(crate) fn kept_words(alloc: Global, part: KeptPart<'_>) -> Result<Vec<u8>, N
     }
 }
 
-/// What the cell at this place in the list begins: the values of a property, or a file; None of a chunk.
-fn part_at(cells: &[Cell], at: usize) -> Option<KeptPart<'_>> {
-    let (cell, more) = cells.get(at..)?.split_first()?;
+/// What a cell begins: the values of a property, or a file, whose chunks come first of the cells behind it; None of a chunk.
+fn part_at<'a>(cell: &'a Cell, more: &[Cell]) -> Option<KeptPart<'a>>
+    ensures { IsPartOf cell.now (option_map part_view result) }
+{
     match cell.part()? {
         Part::Values { object, property } => Some(KeptPart::Values {
             object,
@@ -93,10 +109,22 @@ fn part_at(cells: &[Cell], at: usize) -> Option<KeptPart<'_>> {
 }
 
 /// The line of what is kept of a property, or of a file.
-fn line_of(alloc: Global, part: KeptPart<'_>) -> Result<Vec<u8>, NoMemory> {
+fn line_of(alloc: Global, part: KeptPart<'_>) -> Result<Vec<u8>, NoMemory>
+    ensures { IfOk result (λ t. IsWordsLine (part_view part.entry) t.items) }
+{
     let mut line = kept_words(alloc, part)?;
     line.push(b'\n')?;
     Ok(line)
+}
+
+/// Prints the line of what is kept of a property, or of a file.
+fn print_line<O: Write>(alloc: Global, part: KeptPart<'_>, out: &mut O) -> io::Result<()>
+    ensures { OnOk result (AppendsText (O.contents out.old) (O.contents out.new) (IsWordsLine (part_view part.entry))) }
+{
+    match line_of(alloc, part) {
+        Ok(line) => out.write_all(line.as_slice()),
+        Err(_) => Err(io::Error::from(ErrorKind::OutOfMemory)),
+    }
 }
 
 /// The form of a list of what is kept.
@@ -112,13 +140,28 @@ fn print_part<O: Write>(
     form: ListForm,
     part: KeptPart<'_>,
     out: &mut O,
-) -> io::Result<()> {
+) -> io::Result<()>
+    ensures { OnOk result (AppendsText (O.contents out.old) (O.contents out.new) (line_in form (part_view part.entry))) }
+{
     match form {
-        ListForm::Lines => match line_of(alloc, part) {
-            Ok(line) => out.write_all(line.as_slice()),
-            Err(_) => Err(io::Error::from(ErrorKind::OutOfMemory)),
-        },
+        ListForm::Lines => print_line(alloc, part, out),
         ListForm::Objects => print_cell_object(alloc, part, out),
+    }
+}
+
+/// Prints a line, or an object, for what a cell begins.
+fn print_cell<O: Write>(
+    alloc: Global,
+    form: ListForm,
+    cell: &Cell,
+    more: &[Cell],
+    out: &mut O,
+) -> io::Result<()>
+    ensures { OnOk result (AppendsText (O.contents out.old) (O.contents out.new) (IsCellText (line_in form) cell.now)) }
+{
+    match part_at(cell, more) {
+        Some(part) => print_part(alloc, form, part, out),
+        None => Ok(()),
     }
 }
 
@@ -128,11 +171,11 @@ pub(crate) fn print_cells<O: Write>(
     form: ListForm,
     cells: &[Cell],
     out: &mut O,
-) -> io::Result<()> {
+) -> io::Result<()>
+    ensures { OnOk result (AppendsText (O.contents out.old) (O.contents out.new) (AreListed (line_in form) cells.now)) }
+{
     for at in 0..cells.len() {
-        if let Some(part) = part_at(cells, at) {
-            print_part(alloc, form, part, out)?;
-        }
+        print_cell(alloc, form, &cells[at], &cells[at + 1..], out)?;
     }
     out.flush()
 }
@@ -146,7 +189,8 @@ pub(crate) fn list_kept<F: OpenFiles, M: Machine, O: Write, E: Write>(
     out: &mut O,
     err: &mut E,
 ) -> Status
-    ensures { IsListed result (O.contents out.old) (O.contents out.new) }
+    ensures listed { IsListed result (O.contents out.old) (O.contents out.new) }
+    ensures printed { Lists (OnListed M.is_database M.Database.view) result form path.now (O.contents out.old) (O.contents out.new) }
 {
     let alloc = environment.alloc;
     if let Err(status) = opened(environment.files, path, err) {

@@ -1,4 +1,8 @@
 //! Words for the parts of a store that are kept.
+ghost use Rattle.std.specs.Prelude.{◌≡◌, IfOk};
+ghost use Rattle.bac_value.specs.Views.{object_identifier_view};
+ghost use Rattle.bac_command_line.specs.Listing.{part_words};
+
 use bac_value::ObjectIdentifier;
 use bac_value_text::{object_text, property_text};
 use std::alloc::{AllocError, Global};
@@ -10,7 +14,9 @@ pub(crate) fn part_words(
     alloc: Global,
     object: ObjectIdentifier,
     property: Option<u32>,
-) -> Result<Vec<u8>, AllocError> {
+) -> Result<Vec<u8>, AllocError>
+    ensures { IfOk result (λ t. t.items ≡ part_words (object_identifier_view object) property) }
+{
     let mut words = object_text(alloc, object)?;
     if let Some(number) = property {
         let name = property_text(alloc, number)?;

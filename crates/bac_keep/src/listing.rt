@@ -1,6 +1,7 @@
 //! What a database keeps, for people, and forgetting some of it.
-ghost use Rattle.std.specs.Prelude.{◌≡◌, ◌≤◌, IsTrue, IfOk, OnOk};
+ghost use Rattle.std.specs.Prelude.{◌≡◌, ◌≤◌, IsTrue, None, IfOk, IfSome, OnOk};
 ghost use Rattle.sqlite_trees.specs.View.{IsClean, doubt};
+ghost use Rattle.bac_keep.specs.Parts.{IsForNothing, place_for};
 ghost use Rattle.bac_keep.specs.Rows.{AreCells};
 ghost use Rattle.bac_keep.specs.Steps.{IsReady, NoMore};
 
@@ -15,7 +16,10 @@ use std::alloc::Global;
 
 impl Cell {
     /// What it is for; None if no write makes such a cell.
-    pub fn part(&self) -> Option<Part> {
+    pub fn part(&self) -> Option<Part>
+        ensures is { IfSome result (λ p. self.now.place ≡ place_for p) }
+        ensures none { result ≡ None → IsForNothing self.now.place }
+    {
         part_of(self.place)
     }
 }

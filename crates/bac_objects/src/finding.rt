@@ -28,6 +28,11 @@ pub enum Wrong {
         limits: String,
         found: String,
     },
+    /// Limits from a least value to a greatest one that is below it, each as TOML writes it.
+    Turned {
+        least: String,
+        greatest: String,
+    },
     /// A value that is allowed, or an object of such values, that no store takes beside the objects before it.
     Refused(DescriptionFlaw),
     /// The name of an earlier object: its number in the document, from 1 on, and its identifier, if its type and its instance are valid.
@@ -93,6 +98,9 @@ impl fmt::Display for Wrong {
             Wrong::Limits { limits, found } => {
                 let flaw = DescriptionFlaw::Limits;
                 write!(f, "{flaw}: {limits} wanted, {found} given")
+            }
+            Wrong::Turned { least, greatest } => {
+                write!(f, "min = {least} above max = {greatest}")
             }
             Wrong::Refused(flaw) => write!(f, "{flaw}"),
             Wrong::SameName { object, id } => write_same_name(f, *object, *id),

@@ -178,8 +178,33 @@ fn limits_words(alloc: Global, table: &Table) -> Result<Option<String>, NoMemory
     Ok(Some(format!(in alloc; "{least} to {greatest}")?))
 }
 
+/// Whether a number is above another one that TOML writes in the same form.
+fn is_above(least: &Value, greatest: &Value) -> bool {
+    match (least, greatest) {
+        (Value::Integer(least), Value::Integer(greatest)) => *least > *greatest,
+        (Value::Float(least), Value::Float(greatest)) => *least > *greatest,
+        _ => false,
+    }
+}
+
+/// The limits in the table of a value whose least is above their greatest, if they are such.
+fn turned_limits(alloc: Global, table: &Table) -> Result<Option<Wrong>, NoMemory> {
+    let (Some(least), Some(greatest)) = (member(table, "min"), member(table, "max")) else {
+        return Ok(None);
+    };
+    if !is_above(least, greatest) {
+        return Ok(None);
+    }
+    let least = shown(alloc, least)?;
+    let greatest = shown(alloc, greatest)?;
+    Ok(Some(Wrong::Turned { least, greatest }))
+}
+
 /// What is wrong with the values of a table that have limits; None where it has no values or no limits.
 fn wrong_limits(alloc: Global, table: &Table) -> Result<Option<Wrong>, NoMemory> {
+    if let Some(turned) = turned_limits(alloc, table)? {
+        return Ok(Some(turned));
+    }
     let Ok((_, value)) = found(forms(), table) else {
         return Ok(None);
     };
