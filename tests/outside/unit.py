@@ -5,9 +5,9 @@ As root it lays an overlay over the files of this machine, installs into it with
 machine changes, and no network of it is reached. A second network namespace, with a link to the first, is the other host. Then it does what the job says: the
 commands and the words of `systemctl edit` are those of the document. It edits the document that is served, breaks it, kills the server, stops it, and boots again.
 
-Where that cannot be (it says why), or with `by-hand`, it installs below a folder, lets `systemd-analyze verify` read the unit, and does itself what the unit says: starts
-ExecStart, as another user where it may, and starts it again as Restart, RestartSec and RestartPreventExitStatus say. PROGRAM may be crates/bac/out/bac-unproved.
-The last line says what was done, and how much of it was wrong."""
+Where that cannot be (it says why), or with `by-hand`, it installs below a folder, lets `systemd-analyze verify` read the unit, and does itself what the unit says:
+starts ExecStart, as another user where it may, and starts it again as Restart, RestartSec and RestartPreventExitStatus say. PROGRAM may be
+crates/bac/out/bac-unproved. The last line says what was done, and how much of it was wrong."""
 
 import os
 import re
@@ -163,9 +163,9 @@ class Machine:
     def __init__(self, root, at, group):
         self.root = root
         group.mkdir()
-        self.process = subprocess.Popen(
-            ['unshare', '--mount', '--pid', '--net', '--ipc', '--uts', '--cgroup', '--fork', '--kill-child', 'sh', '-ec', BOOT, 'boot', root, at, LOST, SYSTEMD],
-            stdin=subprocess.DEVNULL, stdout=subprocess.DEVNULL, stderr=open(f'{root}/../said', 'w'), preexec_fn=lambda: (group / 'cgroup.procs').write_text(str(os.getpid())))
+        words = ['unshare', '--mount', '--pid', '--net', '--ipc', '--uts', '--cgroup', '--fork', '--kill-child', 'sh', '-ec', BOOT, 'boot', root, at, LOST, SYSTEMD]
+        streams = {'stdin': subprocess.DEVNULL, 'stdout': subprocess.DEVNULL, 'stderr': open(f'{root}/../said', 'w')}
+        self.process = subprocess.Popen(words, preexec_fn=lambda: (group / 'cgroup.procs').write_text(str(os.getpid())), **streams)
         waited(lambda: net_of(self.process.pid) != net_of('self'))
         for words in (['add', 'host', 'type', 'veth', 'peer', 'name', 'plant', 'netns', str(self.process.pid)], ['set', 'host', 'up']):
             # the link to an earlier machine goes some time after that
