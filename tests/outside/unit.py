@@ -6,8 +6,8 @@ machine changes, and no network of it is reached. A second network namespace, wi
 commands and the words of `systemctl edit` are those of the document. It edits the document that is served, breaks it, kills the server, stops it, and boots again.
 
 Where that cannot be (it says why), or with `by-hand`, it installs below a folder, lets `systemd-analyze verify` read the unit, and does itself what the unit says:
-starts ExecStart, as another user where it may, and starts it again as Restart, RestartSec and RestartPreventExitStatus say. PROGRAM may be
-crates/bac/out/bac-unproved. The last line says what was done, and how much of it was wrong."""
+starts ExecStart, as another user where it may, and starts it again as Restart, RestartSec and RestartPreventExitStatus say. Where there is no PROGRAM, it takes
+bac-unproved beside it. The last line says what was done, and how much of it was wrong."""
 
 import os
 import re
@@ -480,6 +480,8 @@ def by_hand(program, why):
 
 def main(words):
     program = Path(words[0]).resolve()
+    if not program.exists():
+        program = program.with_name('bac-unproved')
     if program.name == 'bac-unproved':
         program = program.parent / 'unproved/bac'  # what that script runs
     if words[1:] == ['by-hand']:
