@@ -1,5 +1,5 @@
 -- Asks of lines, several at once.
-use Rattle.std.proofs.Common.{◌≡◌, ◌⊎◌, ℕ, zero, suc, ◌+◌, ◌<◌, ◌&&◌, Bool, true, List, [], ◌∷◌, ◌++◌, length, map, max, Option, Some, None, Result, Ok, Err}
+use Rattle.std.proofs.Common.{◌≡◌, ◌⊎◌, ℕ, zero, suc, ◌+◌, ◌<◌, ◌≤◌, ◌&&◌, Bool, true, List, [], ◌∷◌, ◌++◌, length, map, max, Option, Some, None, Result, Ok, Err}
 use Rattle.std.proofs.Common.{refl, ap, sym, subst, ◌∙◌, arith, append_assoc, append-nil, add-zero, inl, inr, slice_get, slice_set}
 use Rattle.std.proofs.lemmas.List.Quantifiers.{position-Some}
 use Rattle.std.proofs.lemmas.Option.{get_or_from_slice_get}
@@ -99,6 +99,20 @@ pub none_to_go : (IsOn : Links) (old : Aloft) → NodesGo IsOn old old
 none_to_go IsOn old plan = none_goes IsOn plan old old refl
 
 -- ---- a turn of a node
+
+pub if_ok : {A E : Type 0} (r : Result A E) (P Q : Type 0) → (P → Q) → IfOk r (λ a. P) → IfOk r (λ a. Q)
+if_ok (Ok a) P Q so held = so held
+if_ok (Err e) P Q so held = tt
+
+pub always_ok : {A E : Type 0} (r : Result A E) (Q : Type 0) → Q → IfOk r (λ a. Q)
+always_ok (Ok a) Q held = held
+always_ok (Err e) Q held = tt
+
+-- those before a place stay where that one is taken out
+pub still_before : {A : Type 0} (xs : List A) (i : ℕ) → i < length xs → i ≤ length (remove xs i)
+still_before [] i within = absurd (omega (arith, within))
+still_before (x ∷ xs) zero within = omega arith
+still_before (x ∷ xs) (suc i) within = let more = still_before xs i (omega (arith, within)) in omega (arith, more)
 
 -- it was taken, or it was too late for one, and so it was noted
 pub turned : (node : ℕ) (p : WaitLimit) (turn : Option Turn) (before after : Timed) (old new : Sky) → IsTurnOr p turn before after
@@ -214,13 +228,13 @@ holds_so IsOn plan place node line idle told s before after f g line_is idle_is 
     })
 
 -- the first that may begin began
-pub begins_so : (IsOn : Links) (plan : Plan) (at node : ℕ) (waiting : Waiting) (line : LineQuestion) (idle : Bool) (told : Option Begun) (b : Begun)
+pub begins_so : (IsOn : Links) (plan : Plan) (at node asked : ℕ) (waiting : Waiting) (line : LineQuestion) (idle : Bool) (told : Option Begun) (b : Begun)
     (old new : Sky) (before after : Timed) (f g : Fleet) → length old.flights < max plan.window 1
     → position (may_begin plan.share old.flights) old.waiting ≡ Some at → slice_get old.waiting at ≡ Some waiting
     → slice_get plan.lines waiting.place ≡ Some line → idle ≡ is_idle node old.flights → node ≡ f.number → told ≡ Some b
-    → BeginsOn IsOn plan.asking (question_view line.question) idle told before after f g → IsTakenUp at g.number b old new
+    → BeginsOn IsOn plan.asking (question_view line.question) idle told before after f g → asked ≡ g.number → IsTakenUp at asked b old new
     → Goes IsOn plan (aloft before f old) (aloft after g new)
-begins_so IsOn plan at node waiting line idle told b old new before after f g room first is line_is idle_is number some begins taken =
+begins_so IsOn plan at node asked waiting line idle told b old new before after f g room first is line_is idle_is number some begins now taken =
     one_goes IsOn plan (Began waiting.place) (aloft before f old) (aloft after g new)
     (record {
       room = room;
@@ -236,7 +250,7 @@ begins_so IsOn plan at node waiting line idle told b old new before after f g ro
           subst (λ (i : Bool). BeginsOn IsOn plan.asking (question_view line.question) i (Some b) before after f g)
           (idle_is ∙ ap (λ (n : ℕ). is_idle n old.flights) number)
           (subst (λ (o : Option Begun). BeginsOn IsOn plan.asking (question_view line.question) idle o before after f g) some begins);
-      taken = taken;
+      taken = subst (λ (n : ℕ). IsTakenUp at n b old new) now taken;
     })
 
 -- and then what is under way went on, where the asks were still those
@@ -333,8 +347,9 @@ one_more_printed IsOn plan start here next old text between count place so_far s
           })));
     }
 
-pub all_printed : (IsOn : Links) (plan : Plan) (start here : Aloft) (old text : Option (List ℕ)) (count place : ℕ) (so_far : Bool) → place ≡ count
-    → (before : IsPrintedSoFar IsOn plan start old count place so_far here text) → PrintsFrom IsOn plan 0 count before.events so_far start here.at old text
-all_printed IsOn plan start here old text count place so_far end before =
-    subst (λ (b : Bool). PrintsFrom IsOn plan 0 count before.events b start here.at old text) (and_true so_far)
-    (before.whole 0 (omega (arith, end)) [] true here.at text (refl, (refl, (refl, refl))))
+pub all_printed : (IsOn : Links) (plan : Plan) (start here : Aloft) (after : Timed) (old text : Option (List ℕ)) (count place : ℕ) (so_far : Bool)
+    → place ≡ count → after ≡ here.at → (before : IsPrintedSoFar IsOn plan start old count place so_far here text)
+    → PrintsFrom IsOn plan 0 count before.events so_far start after old text
+all_printed IsOn plan start here after old text count place so_far end same before =
+    subst (λ (b : Bool). PrintsFrom IsOn plan 0 count before.events b start after old text) (and_true so_far)
+    (before.whole 0 (omega (arith, end)) [] true after text (refl, (refl, (same, refl))))

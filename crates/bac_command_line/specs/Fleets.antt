@@ -1,5 +1,5 @@
 -- The nodes of a client that asks lines several at once: the one that asks, and those that leave.
-use Rattle.std.specs.Prelude.{◌≡◌, ℕ, ◌+◌, ◌++◌, Bool, List, [], ◌∷◌, if◌then◌else◌, slice_get, slice_set, Option, Some, None}
+use Rattle.std.specs.Prelude.{◌≡◌, ℕ, ◌+◌, ◌++◌, Bool, List, [], ◌∷◌, if◌then◌else◌, slice_get, slice_set, MatchOption, Option, Some}
 use Rattle.bac_driver.specs.BoundNodes.{BoundNode}
 use Rattle.bac_driver.specs.Moments.{Told}
 use Rattle.bac_driver.specs.Runs.{Timed, timed}
@@ -38,8 +38,7 @@ number_of l = l.number
 
 -- a turn was taken, or it was too late for one
 abbrev pub IsTurnOr : WaitLimit → Option Turn → (before after : Timed) → Type 0
-IsTurnOr p None before after = IsOver p before after
-IsTurnOr p (Some turn) before after = TakesEarlyTurn p before (turn_view turn) after
+IsTurnOr p turn before after = MatchOption turn (IsOver p before after) (λ t. TakesEarlyTurn p before (turn_view t) after)
 
 -- so it was with the node at that place among those that leave, beside a clock
 pub record IsTurnAt (at : ℕ) (p : WaitLimit) (turn : Option Turn) (before after : Told) (old new : Fleet) : Type 0 where

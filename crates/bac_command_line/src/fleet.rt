@@ -1,5 +1,5 @@
 //! The nodes of a client that asks lines several at once: the one that asks, by its number, and those that leave.
-ghost use Rattle.std.specs.Prelude.{◌≡◌, ◌<◌, ◌↔◌, length, slice_get, Some, IfErr, IfOk, IsTrue};
+ghost use Rattle.std.specs.Prelude.{◌≡◌, ◌<◌, ◌≤◌, false, length, slice_get, Some, IfErr, IfOk, IsTrue};
 ghost use Rattle.std.specs.List.{remove};
 ghost use Rattle.std.specs.Option.{option_map};
 ghost use Rattle.bac_text.specs.Statuses.{IsFailure};
@@ -95,11 +95,13 @@ impl<L: Link> Fleet<L> {
         self.leaving.len()
     }
 
-    /// Whether one more may leave.
-    pub(crate) fn has_room(&self) -> bool
-        ensures { IsTrue result ↔ (length self.now.leaving < MOST_LEAVING) }
+    /// Whether the node that asks may not leave: asks of it are under way, and as many leave as may.
+    pub(crate) fn is_full(&self, is_idle: bool) -> bool
+        ensures busy { IsTrue result → is_idle ≡ false }
+        ensures full { IsTrue result → MOST_LEAVING ≤ length self.now.leaving }
+        ensures room { result ≡ false → is_idle ≡ false → length self.now.leaving < MOST_LEAVING }
     {
-        self.leaving.len() < MOST_LEAVING
+        !is_idle && self.leaving.len() >= MOST_LEAVING
     }
 
     /// Makes room for one more that leaves. Where memory is refused, `err` and the status say so.

@@ -107,7 +107,7 @@ fn begin_on<M: Machine, E: Write>(
     if !begun.is_spent() {
         return Ok(Some(begun));
     }
-    if !is_idle && !fleet.has_room() {
+    if fleet.is_full(is_idle) {
         return Ok(None);
     }
     renew(asking, client, fleet, is_idle, err)?;
