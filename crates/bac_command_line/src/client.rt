@@ -17,9 +17,8 @@ use bac_driver::BoundNode;
 use bac_npdu::LinkAddress;
 use bac_text::{Status, no_memory};
 use std::alloc::Global;
-use std::io;
 use std::io::{ErrorKind, Write};
-use std::mem;
+use std::{io, mem};
 
 /// A link of a new node, its own address, and the pair with which the node begins.
 #[derive(Drop)]

@@ -297,7 +297,9 @@ impl Flights {
         ensures place { result ≡ position (has_ticket node ticket) self.now.under_way.items }
         ensures within { IfSome result (λ at. at < length self.now.under_way.items) }
     {
-        self.under_way.iter().position(|ask| ask.has_ticket(node, ticket))
+        self.under_way
+            .iter()
+            .position(|ask| ask.has_ticket(node, ticket))
     }
 
     /// Notes how a ticket of that node ended.

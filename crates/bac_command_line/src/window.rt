@@ -150,7 +150,9 @@ fn begin_next<M: Machine, E: Write>(
         None => Ok(false),
         Some(begun) => {
             traffic.flights.come_at(client.time_of_day());
-            traffic.flights.take_up(at, traffic.fleet.number(), begun, err)?;
+            traffic
+                .flights
+                .take_up(at, traffic.fleet.number(), begun, err)?;
             Ok(true)
         }
     }
