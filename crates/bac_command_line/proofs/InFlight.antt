@@ -1,17 +1,23 @@
 -- Asks of lines, several at once.
-use Rattle.std.proofs.Common.{◌≡◌, ◌⊎◌, ℕ, zero, suc, ◌+◌, ◌<◌, ◌&&◌, Bool, true, List, [], ◌∷◌, ◌++◌, length, map, max, Option, Some, None, Result, Ok, Err}
-use Rattle.std.proofs.Common.{refl, ap, sym, subst, ◌∙◌, arith, append_assoc, append-nil, add-zero, slice_get, slice_set}
+use Rattle.std.proofs.Common.{◌≡◌, ◌⊎◌, ℕ, zero, suc, ◌+◌, ◌<◌, ◌≤◌, ◌&&◌, Bool, true, List, [], ◌∷◌, ◌++◌, length, map, max, Option, Some, None, Result, Ok, Err}
+use Rattle.std.proofs.Common.{refl, ap, sym, subst, ◌∙◌, arith, append_assoc, append-nil, add-zero, inl, inr, slice_get, slice_set}
 use Rattle.std.proofs.lemmas.List.Quantifiers.{position-Some}
 use Rattle.std.proofs.lemmas.Option.{get_or_from_slice_get}
-use Rattle.std.specs.List.{position}
-use Rattle.std.specs.Prelude.{IfOk, MatchOption}
+use Rattle.std.specs.List.{position, remove}
+use Rattle.std.specs.Option.{is_none, option_map}
+use Rattle.std.specs.Prelude.{IfOk}
 use Rattle.bac_text.specs.declared.status.Status.{Status}
-use Rattle.bac_driver.specs.Runs.{Run, Timed}
+use Rattle.bac_driver.specs.BoundNodes.{BoundNode}
+use Rattle.bac_driver.specs.Moments.{Told}
+use Rattle.bac_driver.specs.Runs.{Run, Timed, timed}
 use Rattle.bac_driver.specs.Views.{question_view}
 use Rattle.bac_driver.specs.declared.question.AskEnd.{AskEnd}
+use Rattle.bac_driver.specs.declared.fault.TurnFault.{TurnFault}
+use Rattle.bac_driver.specs.declared.turn.Turn.{Turn}
 use Rattle.bac_driver.specs.declared.wait_limit.WaitLimit.{WaitLimit}
-use Rattle.bac_command_line.specs.InFlight.{Aloft, BeginsOn, EndsLine, Event, GivesUp, Goes, GoesOn, Happens, IsTaken, IsTakenUp, MayGoOn, Plan, PrintsFrom, PrintsLine, Sky, TakesEnd, TakesTurn, TellsLine, aloft, first_patience, is_idle, may_begin, new_sky, no_end, waiting_from}
-use Rattle.bac_command_line.specs.InFlight.Event.{Began, Held, WentOn}
+use Rattle.bac_command_line.specs.Fleets.{Fleet, IsTurnAt, IsTurnOr, Leaving, NEW_FLEET, number_of}
+use Rattle.bac_command_line.specs.InFlight.{Aloft, BeginsOn, EndsLine, Event, GivesUp, Goes, Happens, IsNoted, IsTaken, IsTakenUp, IsWithin, NodeGoesOn, NodesGo, Plan, PrintsFrom, PrintsLine, Sky, TakesEnd, TakesTurn, TellsLine, aloft, first_patience, is_idle, may_begin, new_sky, no_end, turn_noted, waiting_from}
+use Rattle.bac_command_line.specs.InFlight.Event.{Began, Held, LeavingWentOn, Left, WentOn}
 use Rattle.bac_command_line.specs.Online.{Links}
 use Rattle.bac_command_line.specs.declared.flights.Begun.{Begun}
 use Rattle.bac_command_line.specs.declared.flights.Flight.{Flight}
@@ -63,13 +69,6 @@ pub next_within : (share : ℕ) (flights : List Flight) (waiting : List Waiting)
 next_within share flights [] at first = absurd cc
 next_within share flights (w ∷ waiting) at first = (position-Some (may_begin share flights) (w ∷ waiting) at w first).0
 
-some_first : (flights : List Flight) (p : WaitLimit) → first_patience flights ≡ Some p → 0 < length flights
-some_first [] p is = absurd cc
-some_first (f ∷ flights) p is = omega arith
-
-pub one_flies : (flights : List Flight) (told : Option WaitLimit) (p : WaitLimit) → told ≡ first_patience flights → told ≡ Some p → 0 < length flights
-one_flies flights told p same is = some_first flights p (sym same ∙ is)
-
 -- ---- what happens
 
 pub none_goes : (IsOn : Links) (plan : Plan) (old new : Aloft) → new ≡ old → Goes IsOn plan old new
@@ -91,53 +90,152 @@ both_go IsOn plan old middle new first later =
       run = both_run (Happens IsOn plan) first.events later.events old middle new first.run later.run;
     }
 
-is_none : {A : Type 0} (told is : Option A) → told ≡ is → ((a : A) → told ≡ Some a → ⊥) → is ≡ None
-is_none None is same never = sym same
-is_none (Some a) is same never = absurd (never a refl)
+never_some : {A : Type 0} (told : Option A) → ((a : A) → told ≡ Some a → ⊥) → told ≡ None
+never_some None never = refl
+never_some (Some a) never = absurd (never a refl)
 
--- where none is under way, nothing happens
-pub none_to_go : (old : Aloft) (told : Option WaitLimit) → told ≡ first_patience old.sky.flights → ((p : WaitLimit) → told ≡ Some p → ⊥) → MayGoOn old old
-none_to_go old told same never =
-    subst (λ (p : Option WaitLimit). MatchOption p (old ≡ old) (λ q. GoesOn q old old)) (sym (is_none told (first_patience old.sky.flights) same never)) refl
+-- where none is under way, the node that asks does nothing
+pub none_to_go : (IsOn : Links) (old : Aloft) → NodesGo IsOn old old
+none_to_go IsOn old plan = none_goes IsOn plan old old refl
 
-pub goes_so : (old new : Aloft) (told : Option WaitLimit) (p : WaitLimit) → told ≡ first_patience old.sky.flights → told ≡ Some p
-    → TakesTurn p old new ⊎ GivesUp p old new → MayGoOn old new
-goes_so old new told p same is goes =
-    let first : first_patience old.sky.flights ≡ Some p = sym same ∙ is in
-    subst (λ (o : Option WaitLimit). MatchOption o (new ≡ old) (λ q. GoesOn q old new)) (sym first) (first, goes)
+-- ---- a turn of a node
 
--- what is under way goes on, where anything is
-went_on : (IsOn : Links) (plan : Plan) (old new : Aloft) (p : Option WaitLimit) → p ≡ first_patience old.sky.flights
-    → MatchOption p (new ≡ old) (λ q. GoesOn q old new) → Goes IsOn plan old new
-went_on IsOn plan old new None is same = none_goes IsOn plan old new same
-went_on IsOn plan old new (Some p) is goes = one_goes IsOn plan (WentOn p) old new goes
+pub if_ok : {A E : Type 0} (r : Result A E) (P Q : Type 0) → (P → Q) → IfOk r (λ a. P) → IfOk r (λ a. Q)
+if_ok (Ok a) P Q so held = so held
+if_ok (Err e) P Q so held = tt
 
-pub may_go : (IsOn : Links) (plan : Plan) (old new : Aloft) → MayGoOn old new → Goes IsOn plan old new
-may_go IsOn plan old new goes = went_on IsOn plan old new (first_patience old.sky.flights) refl goes
+pub always_ok : {A E : Type 0} (r : Result A E) (Q : Type 0) → Q → IfOk r (λ a. Q)
+always_ok (Ok a) Q held = held
+always_ok (Err e) Q held = tt
+
+-- those before a place stay where that one is taken out
+pub still_before : {A : Type 0} (xs : List A) (i : ℕ) → i < length xs → i ≤ length (remove xs i)
+still_before [] i within = absurd (omega (arith, within))
+still_before (x ∷ xs) zero within = omega arith
+still_before (x ∷ xs) (suc i) within = let more = still_before xs i (omega (arith, within)) in omega (arith, more)
+
+-- it was taken, or it was too late for one, and so it was noted
+pub turned : (node : ℕ) (p : WaitLimit) (turn : Option Turn) (before after : Timed) (old new : Sky) → IsTurnOr p turn before after
+    → new ≡ turn_noted node turn old → TakesTurn node p before after old new ⊎ GivesUp node p before after old new
+turned node p None before after old new over noted = inr (record { over = over; closed = noted })
+turned node p (Some turn) before after old new takes noted = inl (record { turn = turn; takes = takes; noted = noted })
+
+-- a node went on
+pub node_went : (node : ℕ) (p first : WaitLimit) (turn : Option Turn) (before after : Timed) (old new : Sky)
+    → first_patience node old.flights ≡ Some first → IsWithin p first → IsTurnOr p turn before after → new ≡ turn_noted node turn old
+    → NodeGoesOn node p before after old new
+node_went node p first turn before after old new is within turn_is noted =
+    record { first = first; is = is; within = within; went = turned node p turn before after old new turn_is noted }
+
+no_leaving : {A : Type 0} (leaving : List A) (count : ℕ) → leaving ≡ [] → count ≡ length leaving → count ≡ 0
+no_leaving leaving count none is = is ∙ ap length none
+
+-- the node that asks went on
+pub here_went : (IsOn : Links) (node count : ℕ) (p first : WaitLimit) (r : Result (Option Turn) TurnFault) (f : Fleet) (before after : Timed) (old new : Sky)
+    → node ≡ f.number → count ≡ length f.leaving → first_patience node old.flights ≡ Some first → IsWithin p first → (count ≡ 0 → p ≡ first)
+    → IfOk r (λ turn. IsTurnOr p turn before after) → IsNoted node r old new → NodesGo IsOn (aloft before f old) (aloft after f new)
+here_went IsOn node count p first (Err fault) f before after old new number all is within alone turn_is noted plan = absurd noted
+here_went IsOn node count p first (Ok turn) f before after old new number all is within alone turn_is noted plan =
+    let goes = node_went node p first turn before after old new is within turn_is noted in
+    one_goes IsOn plan (WentOn p) (aloft before f old) (aloft after f new)
+    (record {
+      goes = subst (λ (n : ℕ). NodeGoesOn n p before after old new) number goes;
+      alone =
+          λ none.
+          subst (λ (n : ℕ). first_patience n old.flights ≡ Some p) number
+          (is ∙ ap (λ (w : WaitLimit). Some w) (sym (alone (no_leaving f.leaving count none all))));
+      same = refl;
+    })
+
+number_is : (leaving : Option Leaving) (node : ℕ) (l : Leaving) → option_map number_of leaving ≡ Some node → leaving ≡ Some l → l.number ≡ node
+number_is leaving node l is same =
+    let both : Some l.number ≡ Some node = ap (λ (o : Option Leaving). option_map number_of o) (sym same) ∙ is in cc
+
+-- a node that leaves went on
+pub leaving_went : (IsOn : Links) (at node : ℕ) (p first : WaitLimit) (r : Result (Option Turn) TurnFault) (f g : Fleet) (own : BoundNode) (before after : Told)
+    (old new : Sky) → option_map number_of (slice_get f.leaving at) ≡ Some node → first_patience node old.flights ≡ Some first → IsWithin p first
+    → IfOk r (λ turn. IsTurnAt at p turn before after f g) → IsNoted node r old new → NodesGo IsOn (aloft (timed own before) f old) (aloft (timed own after) g new)
+leaving_went IsOn at node p first (Err fault) f g own before after old new number is within turn_is noted plan = absurd noted
+leaving_went IsOn at node p first (Ok turn) f g own before after old new number is within turn_is noted plan =
+    let same = number_is (slice_get f.leaving at) node turn_is.leaving number turn_is.is in
+    one_goes IsOn plan (LeavingWentOn node p) (aloft (timed own before) f old) (aloft (timed own after) g new)
+    (record {
+      at = at;
+      leaving = turn_is.leaving;
+      is = turn_is.is;
+      same = same;
+      bound_node = turn_is.bound_node;
+      goes =
+          node_went node p first turn (timed turn_is.leaving.bound_node before) (timed turn_is.bound_node after) old new is within turn_is.turned noted;
+      fleet =
+          turn_is.fleet
+          ∙ ap (λ (n : ℕ). record f { leaving = slice_set f.leaving at (record { number = n; bound_node = turn_is.bound_node }) }) same;
+      stays = refl;
+    })
+
+set_length : {A : Type 0} (xs : List A) (i : ℕ) (x : A) → length (slice_set xs i x) ≡ length xs
+set_length [] i x = refl
+set_length (y ∷ ys) zero x = refl
+set_length (y ∷ ys) (suc i) x = ap suc (set_length ys i x)
+
+-- as many leave as before
+pub as_many_leave : (at : ℕ) (p : WaitLimit) (node : ℕ) (r : Result (Option Turn) TurnFault) (f g : Fleet) (before after : Told) (old new : Sky)
+    → IfOk r (λ turn. IsTurnAt at p turn before after f g) → IsNoted node r old new → length g.leaving ≡ length f.leaving
+as_many_leave at p node (Err fault) f g before after old new turn_is noted = absurd noted
+as_many_leave at p node (Ok turn) f g before after old new turn_is noted =
+    ap (λ (h : Fleet). length h.leaving) turn_is.fleet ∙ set_length f.leaving at _
+
+-- one that leaves was given up
+pub left_so : (IsOn : Links) (at node : ℕ) (told : Option WaitLimit) (f g : Fleet) (before after : Timed) (s : Sky)
+    → option_map number_of (slice_get f.leaving at) ≡ Some node → told ≡ first_patience node s.flights → ((p : WaitLimit) → told ≡ Some p → ⊥)
+    → g ≡ record f { leaving = remove f.leaving at } → after ≡ before → NodesGo IsOn (aloft before f s) (aloft after g s)
+left_so IsOn at node told f g before after s number same never fleet_is at_is plan = left_at (slice_get f.leaving at) refl
+  where
+    left_at : (l : Option Leaving) → slice_get f.leaving at ≡ l → Goes IsOn plan (aloft before f s) (aloft after g s)
+    left_at None is = absurd (let none : None ≡ Some node = ap (λ (o : Option Leaving). option_map number_of o) (sym is) ∙ number in cc)
+    left_at (Some l) is =
+        one_goes IsOn plan (Left node) (aloft before f s) (aloft after g s)
+        (record {
+          at = at;
+          leaving = l;
+          is = is;
+          same = number_is (slice_get f.leaving at) node l number is;
+          idle = ap (λ (o : Option WaitLimit). is_none o) (sym same ∙ never_some told never);
+          fleet = fleet_is;
+          others = (at_is, refl);
+        })
+
+-- first these nodes went on, and then those
+pub both_nodes : (IsOn : Links) (old middle new : Aloft) → NodesGo IsOn old middle → NodesGo IsOn middle new → NodesGo IsOn old new
+both_nodes IsOn old middle new first later plan = both_go IsOn plan old middle new (first plan) (later plan)
+
+-- ---- an ask begins
 
 -- the node had nothing left for a line
-pub holds_so : (IsOn : Links) (plan : Plan) (place : ℕ) (line : LineQuestion) (idle : Bool) (told : Option Begun) (s : Sky) (before after : Timed)
-    → slice_get plan.lines place ≡ Some line → idle ≡ is_idle s.flights → told ≡ None
-    → BeginsOn IsOn plan.asking (question_view line.question) idle told before after → Goes IsOn plan (aloft before s) (aloft after s)
-holds_so IsOn plan place line idle told s before after line_is idle_is none begins =
-    one_goes IsOn plan (Held place) (aloft before s) (aloft after s)
+pub holds_so : (IsOn : Links) (plan : Plan) (place node : ℕ) (line : LineQuestion) (idle : Bool) (told : Option Begun) (s : Sky) (before after : Timed)
+    (f g : Fleet) → slice_get plan.lines place ≡ Some line → idle ≡ is_idle node s.flights → node ≡ f.number → told ≡ None
+    → BeginsOn IsOn plan.asking (question_view line.question) idle told before after f g → Goes IsOn plan (aloft before f s) (aloft after g s)
+holds_so IsOn plan place node line idle told s before after f g line_is idle_is number none begins =
+    one_goes IsOn plan (Held place) (aloft before f s) (aloft after g s)
     (record {
       line = line;
       line_is = line_is;
       holds =
-          subst (λ (b : Bool). BeginsOn IsOn plan.asking (question_view line.question) b None before after) idle_is
-          (subst (λ (o : Option Begun). BeginsOn IsOn plan.asking (question_view line.question) idle o before after) none begins);
+          subst (λ (b : Bool). BeginsOn IsOn plan.asking (question_view line.question) b None before after f g)
+          (idle_is ∙ ap (λ (n : ℕ). is_idle n s.flights) number)
+          (subst (λ (o : Option Begun). BeginsOn IsOn plan.asking (question_view line.question) idle o before after f g) none begins);
       same = refl;
     })
 
 -- the first that may begin began
-pub begins_so : (IsOn : Links) (plan : Plan) (at : ℕ) (waiting : Waiting) (line : LineQuestion) (idle : Bool) (told : Option Begun) (b : Begun) (old new : Sky)
-    (before after : Timed) → length old.flights < max plan.window 1 → position (may_begin plan.share old.flights) old.waiting ≡ Some at
-    → slice_get old.waiting at ≡ Some waiting → slice_get plan.lines waiting.place ≡ Some line → idle ≡ is_idle old.flights → told ≡ Some b
-    → BeginsOn IsOn plan.asking (question_view line.question) idle told before after → IsTakenUp at b old new
-    → Goes IsOn plan (aloft before old) (aloft after new)
-begins_so IsOn plan at waiting line idle told b old new before after room first is line_is idle_is some begins taken =
-    one_goes IsOn plan (Began waiting.place) (aloft before old) (aloft after new)
+pub begins_so : (IsOn : Links) (plan : Plan) (at node asked : ℕ) (waiting : Waiting) (line : LineQuestion) (idle : Bool) (told : Option Begun) (b : Begun)
+    (old new : Sky) (before after : Timed) (f g : Fleet) → length old.flights < max plan.window 1
+    → position (may_begin plan.share old.flights) old.waiting ≡ Some at → slice_get old.waiting at ≡ Some waiting
+    → slice_get plan.lines waiting.place ≡ Some line → idle ≡ is_idle node old.flights → node ≡ f.number → told ≡ Some b
+    → BeginsOn IsOn plan.asking (question_view line.question) idle told before after f g → asked ≡ g.number → IsTakenUp at asked b old new
+    → Goes IsOn plan (aloft before f old) (aloft after g new)
+begins_so IsOn plan at node asked waiting line idle told b old new before after f g room first is line_is idle_is number some begins now taken =
+    one_goes IsOn plan (Began waiting.place) (aloft before f old) (aloft after g new)
     (record {
       room = room;
       at = at;
@@ -149,17 +247,17 @@ begins_so IsOn plan at waiting line idle told b old new before after room first 
       line_is = line_is;
       begun = b;
       begins =
-          subst (λ (i : Bool). BeginsOn IsOn plan.asking (question_view line.question) i (Some b) before after) idle_is
-          (subst (λ (o : Option Begun). BeginsOn IsOn plan.asking (question_view line.question) idle o before after) some begins);
-      taken = taken;
+          subst (λ (i : Bool). BeginsOn IsOn plan.asking (question_view line.question) i (Some b) before after f g)
+          (idle_is ∙ ap (λ (n : ℕ). is_idle n old.flights) number)
+          (subst (λ (o : Option Begun). BeginsOn IsOn plan.asking (question_view line.question) idle o before after f g) some begins);
+      taken = subst (λ (n : ℕ). IsTakenUp at n b old new) now taken;
     })
 
 -- and then what is under way went on, where the asks were still those
-pub goes_on : (IsOn : Links) (plan : Plan) (old new : Aloft) (middle : Timed) (begun still : Sky) → Goes IsOn plan old (aloft middle begun) → still ≡ begun
-    → MayGoOn (aloft middle still) new → Goes IsOn plan old new
-goes_on IsOn plan old new middle begun still before same goes =
-    both_go IsOn plan old (aloft middle begun) new before
-    (may_go IsOn plan (aloft middle begun) new (subst (λ (s : Sky). MayGoOn (aloft middle s) new) same goes))
+pub goes_on : (IsOn : Links) (plan : Plan) (old new : Aloft) (middle : Timed) (f : Fleet) (begun still : Sky) → Goes IsOn plan old (aloft middle f begun)
+    → still ≡ begun → NodesGo IsOn (aloft middle f still) new → Goes IsOn plan old new
+goes_on IsOn plan old new middle f begun still before same goes =
+    both_go IsOn plan old (aloft middle f begun) new before (subst (λ (s : Sky). NodesGo IsOn (aloft middle f s) new) same goes plan)
 
 -- ---- the ask of a line
 
@@ -217,11 +315,12 @@ none_printed IsOn plan start old count =
     }
 
 -- where that is how it begins
-pub none_printed_of : (IsOn : Links) (plan : Plan) (at : Timed) (lines : List LineQuestion) (s : Sky) (old : Option (List ℕ)) (count : ℕ) → s ≡ new_sky lines
-    → IsPrintedSoFar IsOn plan (aloft at (new_sky lines)) old count 0 true (aloft at s) old
-none_printed_of IsOn plan at lines s old count is =
-    subst (λ (x : Sky). IsPrintedSoFar IsOn plan (aloft at (new_sky lines)) old count 0 true (aloft at x) old) (sym is)
-    (none_printed IsOn plan (aloft at (new_sky lines)) old count)
+pub none_printed_of : (IsOn : Links) (plan : Plan) (at : Timed) (lines : List LineQuestion) (f : Fleet) (s : Sky) (old : Option (List ℕ)) (count : ℕ)
+    → f ≡ NEW_FLEET → s ≡ new_sky lines → IsPrintedSoFar IsOn plan (aloft at NEW_FLEET (new_sky lines)) old count 0 true (aloft at f s) old
+none_printed_of IsOn plan at lines f s old count fresh is =
+    subst (λ (x : Sky). IsPrintedSoFar IsOn plan (aloft at NEW_FLEET (new_sky lines)) old count 0 true (aloft at f x) old) (sym is)
+    (subst (λ (x : Fleet). IsPrintedSoFar IsOn plan (aloft at NEW_FLEET (new_sky lines)) old count 0 true (aloft at x (new_sky lines)) old) (sym fresh)
+    (none_printed IsOn plan (aloft at NEW_FLEET (new_sky lines)) old count))
 
 pub one_more_printed : (IsOn : Links) (plan : Plan) (start here next : Aloft) (old text between : Option (List ℕ)) (count place : ℕ)
     (so_far succeeded now : Bool) → IsPrintedSoFar IsOn plan start old count place so_far here text → now ≡ so_far && succeeded
@@ -248,8 +347,9 @@ one_more_printed IsOn plan start here next old text between count place so_far s
           })));
     }
 
-pub all_printed : (IsOn : Links) (plan : Plan) (start here : Aloft) (old text : Option (List ℕ)) (count place : ℕ) (so_far : Bool) → place ≡ count
-    → (before : IsPrintedSoFar IsOn plan start old count place so_far here text) → PrintsFrom IsOn plan 0 count before.events so_far start here.at old text
-all_printed IsOn plan start here old text count place so_far end before =
-    subst (λ (b : Bool). PrintsFrom IsOn plan 0 count before.events b start here.at old text) (and_true so_far)
-    (before.whole 0 (omega (arith, end)) [] true here.at text (refl, (refl, (refl, refl))))
+pub all_printed : (IsOn : Links) (plan : Plan) (start here : Aloft) (after : Timed) (old text : Option (List ℕ)) (count place : ℕ) (so_far : Bool)
+    → place ≡ count → after ≡ here.at → (before : IsPrintedSoFar IsOn plan start old count place so_far here text)
+    → PrintsFrom IsOn plan 0 count before.events so_far start after old text
+all_printed IsOn plan start here after old text count place so_far end same before =
+    subst (λ (b : Bool). PrintsFrom IsOn plan 0 count before.events b start after old text) (and_true so_far)
+    (before.whole 0 (omega (arith, end)) [] true after text (refl, (refl, (same, refl))))

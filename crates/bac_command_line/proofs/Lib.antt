@@ -16,6 +16,7 @@ pub mod LastWords
 pub mod AskedOf
 pub mod Clients
 pub mod AskedLines
+pub mod Fleets
 pub mod InFlight
 pub mod Once
 pub mod Numbers

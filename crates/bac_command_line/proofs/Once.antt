@@ -7,8 +7,9 @@ use Rattle.bac_requester.specs.declared.reaction.Ended.{Ended}
 use Rattle.bac_driver.specs.Runs.{Run, Timed}
 use Rattle.bac_driver.specs.declared.question.AskEnd.{AskEnd}
 use Rattle.bac_driver.specs.declared.wait_limit.WaitLimit.{WaitLimit}
-use Rattle.bac_command_line.specs.InFlight.{Aloft, BeginsLine, Event, GivesUp, Happens, IsTakenUp, Plan, PrintsFrom, Sky, TakesTurn, all_noted, aloft, asks_in, closed_flight, ended_in, has_ticket, here, new_sky, no_end, noted, noted_at, waiting_from}
-use Rattle.bac_command_line.specs.InFlight.Event.{Began, Held, WentOn}
+use Rattle.bac_command_line.specs.Fleets.{NEW_FLEET}
+use Rattle.bac_command_line.specs.InFlight.{Aloft, BeginsLine, Event, GivesUp, Happens, IsTakenUp, Plan, PrintsFrom, Sky, TakesTurn, all_noted, aloft, asks_in, closed_at, closed_flight, ended_in, has_ticket, here, is_on, new_sky, no_end, noted, waiting_from}
+use Rattle.bac_command_line.specs.InFlight.Event.{Began, Held, LeavingWentOn, Left, WentOn}
 use Rattle.bac_command_line.specs.Online.{Links}
 use Rattle.bac_command_line.specs.declared.flights.Begun.{Begun}
 use Rattle.bac_command_line.specs.declared.flights.Begun.TheVariants as begun
@@ -56,25 +57,27 @@ closed_keeps : (f : Option Flight) (at : ℕ) (how : AskEnd) (s : Sky) → (clos
 closed_keeps None at how s = refl
 closed_keeps (Some f) at how s = refl
 
-noted_keeps : (at : Option ℕ) (f : Ended) (s : Sky) → (noted_at at f s).waiting ≡ s.waiting
-noted_keeps None f s = refl
-noted_keeps (Some at) f s = closed_keeps (slice_get s.flights at) at _ s
+closed_at_keeps : (at : Option ℕ) (how : AskEnd) (s : Sky) → (closed_at at how s).waiting ≡ s.waiting
+closed_at_keeps None how s = refl
+closed_at_keeps (Some at) how s = closed_keeps (slice_get s.flights at) at how s
 
-all_keeps : (fs : List Ended) (s : Sky) → (all_noted fs s).waiting ≡ s.waiting
-all_keeps [] s = refl
-all_keeps (f ∷ fs) s = all_keeps fs (noted f s) ∙ noted_keeps (position (has_ticket f.ticket) s.flights) f s
+all_keeps : (node : ℕ) (fs : List Ended) (s : Sky) → (all_noted node fs s).waiting ≡ s.waiting
+all_keeps node [] s = refl
+all_keeps node (f ∷ fs) s = all_keeps node fs (noted node f s) ∙ closed_at_keeps (position (has_ticket node f.ticket) s.flights) _ s
 
-turn_keeps : (p : WaitLimit) (old new : Aloft) → TakesTurn p old new ⊎ GivesUp p old new → new.sky.waiting ≡ old.sky.waiting
-turn_keeps p old new (inl takes) =
+turn_keeps : (node : ℕ) (p : WaitLimit) (before after : Timed) (old new : Sky)
+    → TakesTurn node p before after old new ⊎ GivesUp node p before after old new → new.waiting ≡ old.waiting
+turn_keeps node p before after old new (inl takes) =
     ap (λ (s : Sky). s.waiting) takes.noted
-    ∙ (all_keeps (ended_in takes.turn.ticked) (all_noted (ended_in takes.turn.heard) old.sky) ∙ all_keeps (ended_in takes.turn.heard) old.sky)
-turn_keeps p old new (inr gives) = ap (λ (s : Sky). s.waiting) gives.closed ∙ closed_keeps (slice_get old.sky.flights 0) 0 _ old.sky
+    ∙ (all_keeps node (ended_in takes.turn.ticked) (all_noted node (ended_in takes.turn.heard) old) ∙ all_keeps node (ended_in takes.turn.heard) old)
+turn_keeps node p before after old new (inr gives) =
+    ap (λ (s : Sky). s.waiting) gives.closed ∙ closed_at_keeps (position (is_on node) old.flights) _ old
 
 -- ---- what happens
 
-taken_from : (at : ℕ) (b : Begun) (old new : Sky) → IsTakenUp at b old new → new.waiting ≡ remove old.waiting at
-taken_from at (begun.Accepted ticket wait_limit) old new taken = taken.waiting
-taken_from at (begun.Refused why) old new taken = taken.waiting
+taken_from : (at node : ℕ) (b : Begun) (old new : Sky) → IsTakenUp at node b old new → new.waiting ≡ remove old.waiting at
+taken_from at node (begun.Accepted ticket wait_limit) old new taken = taken.waiting
+taken_from at node (begun.Refused why) old new taken = taken.waiting
 
 begun_once : (IsOn : Links) (plan : Plan) (place at : ℕ) (old new : Aloft) → BeginsLine IsOn plan at old new
     → here place at + waits place new.sky.waiting ≡ waits place old.sky.waiting
@@ -82,7 +85,7 @@ begun_once IsOn plan place at old new begins =
     let went = waits_removed place old.sky.waiting begins.at begins.waiting begins.is in
     let same : here place begins.waiting.place ≡ here place at = ap (here place) begins.same in
     let left : waits place new.sky.waiting ≡ waits place (remove old.sky.waiting begins.at) =
-    ap (waits place) (taken_from begins.at begins.begun old.sky new.sky begins.taken) in
+    ap (waits place) (taken_from begins.at new.fleet.number begins.begun old.sky new.sky begins.taken) in
     omega (arith, went, same, left)
 
 -- as often as the ask of a line begins, the line waits no longer
@@ -100,7 +103,17 @@ run_once IsOn plan place (Held at ∷ events) old new ran =
     omega (arith, before, same)
 run_once IsOn plan place (WentOn p ∷ events) old new ran =
     let before = run_once IsOn plan place events old ran.middle ran.so_far in
-    let same : waits place new.sky.waiting ≡ waits place ran.middle.sky.waiting = ap (waits place) (turn_keeps p ran.middle new ran.last.1) in
+    let same : waits place new.sky.waiting ≡ waits place ran.middle.sky.waiting =
+    ap (waits place) (turn_keeps ran.middle.fleet.number p ran.middle.at new.at ran.middle.sky new.sky ran.last.goes.went) in
+    omega (arith, before, same)
+run_once IsOn plan place (LeavingWentOn node p ∷ events) old new ran =
+    let before = run_once IsOn plan place events old ran.middle ran.so_far in
+    let same : waits place new.sky.waiting ≡ waits place ran.middle.sky.waiting =
+    ap (waits place) (turn_keeps node p _ _ ran.middle.sky new.sky ran.last.goes.went) in
+    omega (arith, before, same)
+run_once IsOn plan place (Left node ∷ events) old new ran =
+    let before = run_once IsOn plan place events old ran.middle ran.so_far in
+    let same : waits place new.sky.waiting ≡ waits place ran.middle.sky.waiting = ap (λ (s : Sky). waits place s.waiting) ran.last.others.1 in
     omega (arith, before, same)
 
 asks_append : (place : ℕ) (later first : List Event) → asks_in place (later ++ first) ≡ asks_in place later + asks_in place first
@@ -108,6 +121,8 @@ asks_append place [] first = omega arith
 asks_append place (Began at ∷ later) first = let more = asks_append place later first in omega (arith, more)
 asks_append place (Held at ∷ later) first = asks_append place later first
 asks_append place (WentOn p ∷ later) first = asks_append place later first
+asks_append place (LeavingWentOn node p ∷ later) first = asks_append place later first
+asks_append place (Left node ∷ later) first = asks_append place later first
 
 printed_once : (IsOn : Links) (plan : Plan) (place from count : ℕ) (events : List Event) (all : Bool) (before : Aloft) (after : Timed)
     (old new : Option (List ℕ)) → PrintsFrom IsOn plan from count events all before after old new → asks_in place events ≤ waits place before.sky.waiting
@@ -190,28 +205,28 @@ closed_apart place (Some f) at how s is unasked =
     ends_apart place f.line.place (Some how) (record s { flights = remove s.flights at }) (here_other place f.line.place other)
     (record { none = rest; no_end = unasked.no_end })
 
-noted_apart : (place : ℕ) (at : Option ℕ) (f : Ended) (s : Sky) → IsUnasked place s → IsUnasked place (noted_at at f s)
-noted_apart place None f s unasked = unasked
-noted_apart place (Some at) f s unasked = closed_apart place (slice_get s.flights at) at _ s refl unasked
+closed_at_apart : (place : ℕ) (at : Option ℕ) (how : AskEnd) (s : Sky) → IsUnasked place s → IsUnasked place (closed_at at how s)
+closed_at_apart place None how s unasked = unasked
+closed_at_apart place (Some at) how s unasked = closed_apart place (slice_get s.flights at) at how s refl unasked
 
-all_apart : (place : ℕ) (fs : List Ended) (s : Sky) → IsUnasked place s → IsUnasked place (all_noted fs s)
-all_apart place [] s unasked = unasked
-all_apart place (f ∷ fs) s unasked =
-    all_apart place fs (noted f s) (noted_apart place (position (has_ticket f.ticket) s.flights) f s unasked)
+all_apart : (place node : ℕ) (fs : List Ended) (s : Sky) → IsUnasked place s → IsUnasked place (all_noted node fs s)
+all_apart place node [] s unasked = unasked
+all_apart place node (f ∷ fs) s unasked =
+    all_apart place node fs (noted node f s) (closed_at_apart place (position (has_ticket node f.ticket) s.flights) _ s unasked)
 
-turn_apart : (place : ℕ) (p : WaitLimit) (old new : Aloft) → TakesTurn p old new ⊎ GivesUp p old new → IsUnasked place old.sky
-    → IsUnasked place new.sky
-turn_apart place p old new (inl takes) unasked =
+turn_apart : (place node : ℕ) (p : WaitLimit) (before after : Timed) (old new : Sky)
+    → TakesTurn node p before after old new ⊎ GivesUp node p before after old new → IsUnasked place old → IsUnasked place new
+turn_apart place node p before after old new (inl takes) unasked =
     subst (IsUnasked place) (sym takes.noted)
-    (all_apart place (ended_in takes.turn.ticked) _ (all_apart place (ended_in takes.turn.heard) old.sky unasked))
-turn_apart place p old new (inr gives) unasked =
-    subst (IsUnasked place) (sym gives.closed) (closed_apart place (slice_get old.sky.flights 0) 0 _ old.sky refl unasked)
+    (all_apart place node (ended_in takes.turn.ticked) _ (all_apart place node (ended_in takes.turn.heard) old unasked))
+turn_apart place node p before after old new (inr gives) unasked =
+    subst (IsUnasked place) (sym gives.closed) (closed_at_apart place (position (is_on node) old.flights) _ old unasked)
 
 -- the ask of another line began, or ended before it began
-begun_apart : (place at : ℕ) (line : Waiting) (b : Begun) (old new : Sky) → here place line.place ≡ 0 → slice_get old.waiting at ≡ Some line
-    → IsTakenUp at b old new → IsUnasked place old → IsUnasked place new
-begun_apart place at line (begun.Accepted ticket wait_limit) old new other is taken unasked =
-    let added : Flight = record { line = taken.line; ticket = ticket; wait_limit = wait_limit } in
+begun_apart : (place at node : ℕ) (line : Waiting) (b : Begun) (old new : Sky) → here place line.place ≡ 0 → slice_get old.waiting at ≡ Some line
+    → IsTakenUp at node b old new → IsUnasked place old → IsUnasked place new
+begun_apart place at node line (begun.Accepted ticket wait_limit) old new other is taken unasked =
+    let added : Flight = record { line = taken.line; node = node; ticket = ticket; wait_limit = wait_limit } in
     let same : taken.line ≡ line = let both : Some taken.line ≡ Some line = sym taken.is ∙ is in cc in
     let more = flies_more place old.flights added in
     let here_is : here place taken.line.place ≡ 0 = ap (λ (w : Waiting). here place w.place) same ∙ other in
@@ -221,7 +236,7 @@ begun_apart place at line (begun.Accepted ticket wait_limit) old new other is ta
       none = omega (arith, more, here_is, none, new_is);
       no_end = λ how ended. unasked.no_end how (ap (λ (e : List (Option AskEnd)). slice_get e place) (sym taken.ends) ∙ ended);
     }
-begun_apart place at line (begun.Refused why) old new other is taken unasked =
+begun_apart place at node line (begun.Refused why) old new other is taken unasked =
     let same : taken.line ≡ line = let both : Some taken.line ≡ Some line = sym taken.is ∙ is in cc in
     let here_is : here place taken.line.place ≡ 0 = ap (λ (w : Waiting). here place w.place) same ∙ other in
     let ne : taken.line.place ≢ place = here_other place taken.line.place here_is in
@@ -236,7 +251,7 @@ begun_apart place at line (begun.Refused why) old new other is taken unasked =
 line_apart : (IsOn : Links) (plan : Plan) (place at : ℕ) (old new : Aloft) → here place at ≡ 0 → BeginsLine IsOn plan at old new
     → IsUnasked place old.sky → IsUnasked place new.sky
 line_apart IsOn plan place at old new other begins unasked =
-    begun_apart place begins.at begins.waiting begins.begun old.sky new.sky (ap (here place) begins.same ∙ other) begins.is begins.taken unasked
+    begun_apart place begins.at new.fleet.number begins.waiting begins.begun old.sky new.sky (ap (here place) begins.same ∙ other) begins.is begins.taken unasked
 
 -- a line whose ask does not begin stays so
 run_apart : (IsOn : Links) (plan : Plan) (place : ℕ) (events : List Event) (old new : Aloft) → Run (Happens IsOn plan) events old new
@@ -249,7 +264,12 @@ run_apart IsOn plan place (Began at ∷ events) old new ran none unasked =
 run_apart IsOn plan place (Held at ∷ events) old new ran none unasked =
     subst (IsUnasked place) (sym ran.last.same) (run_apart IsOn plan place events old ran.middle ran.so_far none unasked)
 run_apart IsOn plan place (WentOn p ∷ events) old new ran none unasked =
-    turn_apart place p ran.middle new ran.last.1 (run_apart IsOn plan place events old ran.middle ran.so_far none unasked)
+    turn_apart place ran.middle.fleet.number p ran.middle.at new.at ran.middle.sky new.sky ran.last.goes.went
+    (run_apart IsOn plan place events old ran.middle ran.so_far none unasked)
+run_apart IsOn plan place (LeavingWentOn node p ∷ events) old new ran none unasked =
+    turn_apart place node p _ _ ran.middle.sky new.sky ran.last.goes.went (run_apart IsOn plan place events old ran.middle ran.so_far none unasked)
+run_apart IsOn plan place (Left node ∷ events) old new ran none unasked =
+    subst (IsUnasked place) (sym ran.last.others.1) (run_apart IsOn plan place events old ran.middle ran.so_far none unasked)
 
 -- ---- a line that was printed was asked
 
@@ -292,11 +312,11 @@ none_asked : (place : ℕ) (lines : List LineQuestion) → IsUnasked place (new_
 none_asked place lines = record { none = refl; no_end = no_ends lines place }
 
 pub asked_once : (IsOn : Links) (plan : Plan) (place : ℕ) (events : List Event) (all : Bool) (at after : Timed) (lines : List LineQuestion)
-    (old new : Option (List ℕ)) → PrintsFrom IsOn plan 0 (length lines) events all (aloft at (new_sky lines)) after old new → place < length lines
+    (old new : Option (List ℕ)) → PrintsFrom IsOn plan 0 (length lines) events all (aloft at NEW_FLEET (new_sky lines)) after old new → place < length lines
     → asks_in place events ≡ 1
 asked_once IsOn plan place events all at after lines old new prints within =
-    let most = asked_at_most_once IsOn plan place (length lines) events all (aloft at (new_sky lines)) after lines old new refl prints in
+    let most = asked_at_most_once IsOn plan place (length lines) events all (aloft at NEW_FLEET (new_sky lines)) after lines old new refl prints in
     let least =
-    printed_asked IsOn plan place 0 (length lines) events all (aloft at (new_sky lines)) after old new prints (none_asked place lines) (omega arith)
+    printed_asked IsOn plan place 0 (length lines) events all (aloft at NEW_FLEET (new_sky lines)) after old new prints (none_asked place lines) (omega arith)
     (omega (arith, within)) in
     omega (arith, most, least)

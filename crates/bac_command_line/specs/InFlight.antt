@@ -1,11 +1,13 @@
 -- What `ask --lines --window` asks and prints: the requests of some lines, several at once.
-use Rattle.std.specs.Prelude.{◌≡◌, ◌⊎◌, ℕ, zero, suc, ◌+◌, ◌==◌, ◌<◌, ◌≤◌, ◌++◌, max, Bool, true, false, ◌&&◌, List, [], ◌∷◌, length, if◌then◌else◌, Option, Some, None, MatchOption}
+use Rattle.std.specs.Prelude.{◌≡◌, ◌⊎◌, ℕ, zero, suc, ◌+◌, ◌==◌, ◌<◌, ◌≤◌, ◌++◌, max, Bool, true, false, ◌&&◌, List, [], ◌∷◌, length, if◌then◌else◌, Option, Some, None, Result, Ok, Err}
 use Rattle.std.specs.Prelude.{count_by, map, nat_lt, position, slice_get, slice_set}
-use Rattle.std.specs.List.{remove}
+use Rattle.std.specs.List.{find, remove}
+use Rattle.std.specs.Option.{is_none, option_map}
 use Rattle.std.specs.Ordering.{eq_by_cmp, on}
 use Rattle.bac_npdu.specs.Peers.{peer_cmp}
 use Rattle.bac_npdu.specs.Views.{peer_view}
 use Rattle.bac_npdu.specs.declared.peer.Peer.{Peer}
+use Rattle.bac_driver.specs.BoundNodes.{BoundNode}
 use Rattle.bac_driver.specs.Moments.{with_moment}
 use Rattle.bac_node.specs.declared.outcome.Outcome.{Outcome}
 use Rattle.bac_requester.specs.declared.ask_fault.AskFault.{AskFault}
@@ -15,6 +17,7 @@ use Rattle.bac_driver.specs.Asking.{Question}
 use Rattle.bac_driver.specs.Runs.{Run, Timed, timed}
 use Rattle.bac_driver.specs.Serving.{IsOver, TakesEarlyTurn}
 use Rattle.bac_driver.specs.Views.{question_view, turn_view}
+use Rattle.bac_driver.specs.declared.fault.TurnFault.{TurnFault}
 use Rattle.bac_driver.specs.declared.wait_limit.WaitLimit.{WaitLimit}
 use Rattle.bac_driver.specs.declared.question.AskEnd.{AskEnd}
 use Rattle.bac_driver.specs.declared.question.AskEnd.TheVariants as end
@@ -25,6 +28,7 @@ use Rattle.bac_lists.specs.QuestionLines.{asker_of}
 use Rattle.bac_command_line.specs.AskedLines.{AsksEach, PrintsFront}
 use Rattle.bac_command_line.specs.Asking.{patience_for}
 use Rattle.bac_command_line.specs.Clients.{IsRenewed}
+use Rattle.bac_command_line.specs.Fleets.{Fleet, Leaving, MOST_LEAVING, NEW_FLEET, next_fleet}
 use Rattle.bac_command_line.specs.Online.{Links}
 use Rattle.bac_command_line.specs.Recording.{PrintsAsk}
 use Rattle.bac_command_line.specs.Rounds.{DoesNothing, Doing}
@@ -64,8 +68,13 @@ new_sky lines = record { waiting = waiting_from 0 lines; flights = []; ends = ma
 abbrev pub IsNewSky : List LineQuestion → Sky → Type 0
 IsNewSky lines s = s ≡ new_sky lines
 
-abbrev pub has_ticket : (ticket : ℕ) → Flight → Bool
-has_ticket wanted f = f.ticket == wanted
+-- the node of that number was asked
+abbrev pub is_on : (node : ℕ) → Flight → Bool
+is_on node f = f.node == node
+
+-- tickets are apart within one node alone
+abbrev pub has_ticket : (node ticket : ℕ) → Flight → Bool
+has_ticket node wanted f = (f.node == node) && (f.ticket == wanted)
 
 abbrev pub is_of : Peer → Flight → Bool
 is_of peer f = on peer_view (eq_by_cmp peer_cmp) f.line.peer peer
@@ -86,33 +95,54 @@ closed_flight (Some f) at how s = with_end f.line.place how (record s { flights 
 abbrev pub closed : (at : ℕ) → AskEnd → Sky → Sky
 closed at how s = closed_flight (slice_get s.flights at) at how s
 
-abbrev pub noted_at : Option ℕ → Ended → Sky → Sky
-noted_at None f s = s
-noted_at (Some at) f s = closed at (end.Ended f.ending) s
+abbrev pub closed_at : Option ℕ → AskEnd → Sky → Sky
+closed_at None how s = s
+closed_at (Some at) how s = closed at how s
 
--- the ask whose ticket has ended is over
-abbrev pub noted : Ended → Sky → Sky
-noted f s = noted_at (position (has_ticket f.ticket) s.flights) f s
+-- the ask whose ticket has ended at that node is over
+abbrev pub noted : (node : ℕ) → Ended → Sky → Sky
+noted node f s = closed_at (position (has_ticket node f.ticket) s.flights) (end.Ended f.ending) s
 
-abbrev pub all_noted : List Ended → Sky → Sky
-all_noted [] s = s
-all_noted (f ∷ more) s = all_noted more (noted f s)
+abbrev pub all_noted : (node : ℕ) → List Ended → Sky → Sky
+all_noted node [] s = s
+all_noted node (f ∷ more) s = all_noted node more (noted node f s)
+
+-- the first ask of that node is waited for no longer
+abbrev pub given_up : (node : ℕ) → Sky → Sky
+given_up node s = closed_at (position (is_on node) s.flights) end.NoEnding s
 
 -- the tickets that a step of a turn ended
 abbrev pub ended_in : Option Outcome → List Ended
 ended_in None = []
 ended_in (Some o) = o.ended.items
 
-abbrev pub first_patience : List Flight → Option WaitLimit
-first_patience [] = None
-first_patience (f ∷ fs) = Some f.wait_limit
+-- what comes of a turn of that node, or of a moment that was too late for one
+abbrev pub turn_noted : (node : ℕ) → Option Turn → Sky → Sky
+turn_noted node None s = given_up node s
+turn_noted node (Some turn) s = all_noted node (ended_in turn.ticked) (all_noted node (ended_in turn.heard) s)
 
--- the ask of a line that waits is under way
-pub record AddsFlight (at ticket : ℕ) (wait_limit : WaitLimit) (old new : Sky) : Type 0 where
+-- a turn that failed is not noted
+abbrev pub IsNoted : (node : ℕ) → Result (Option Turn) TurnFault → (old new : Sky) → Type 0
+IsNoted node (Ok turn) old new = new ≡ turn_noted node turn old
+IsNoted node (Err fault) old new = ⊥
+
+abbrev pub patience_of : Flight → WaitLimit
+patience_of f = f.wait_limit
+
+-- how long the first ask of that node is waited for
+abbrev pub first_patience : (node : ℕ) → List Flight → Option WaitLimit
+first_patience node flights = option_map patience_of (find (is_on node) flights)
+
+-- none of that node is under way
+abbrev pub is_idle : (node : ℕ) → List Flight → Bool
+is_idle node flights = is_none (first_patience node flights)
+
+-- the ask of a line that waits is under way at that node
+pub record AddsFlight (at node ticket : ℕ) (wait_limit : WaitLimit) (old new : Sky) : Type 0 where
   pub line : Waiting
   pub is : slice_get old.waiting at ≡ Some line
   pub waiting : new.waiting ≡ remove old.waiting at
-  pub flights : new.flights ≡ old.flights ++ record { line = line; ticket = ticket; wait_limit = wait_limit } ∷ []
+  pub flights : new.flights ≡ old.flights ++ record { line = line; node = node; ticket = ticket; wait_limit = wait_limit } ∷ []
   pub ends : new.ends ≡ old.ends
 
 -- it has ended before it began
@@ -154,23 +184,37 @@ pub record FindsSpent (asking : Asking) (q : Question) (before after : Timed) : 
   pub spent : begins_spent refusal ≡ true
   pub refuses : BeginsAsk asking q refusal before after
 
--- and the next node was asked to begin
-pub record BeginsAnew (IsOn : Links) (asking : Asking) (q : Question) (b : Begun) (before after : Timed) : Type 0 where
+-- and the next node was asked to begin; the one before leaves, where asks of it are under way
+pub record BeginsAnew (IsOn : Links) (asking : Asking) (q : Question) (is_idle : Bool) (b : Begun) (before after : Timed) (old new : Fleet) : Type 0 where
   pub refused : Timed
   pub finds : FindsSpent asking q before refused
+  pub room : is_idle ≡ false → length old.leaving < MOST_LEAVING
   pub fresh : Timed
   pub renewed : IsRenewed IsOn asking.host refused fresh
+  pub fleet : new ≡ next_fleet is_idle refused.bound_node old
   pub begins : BeginsAsk asking q b fresh after
 
--- an ask began at the node that asks, or, where that has nothing left for it and none of its asks is under way, at the next one, which has
-pub record BeginsFree (IsOn : Links) (asking : Asking) (q : Question) (is_idle : Bool) (b : Begun) (before after : Timed) : Type 0 where
-  pub free : begins_spent b ≡ false
-  pub begins : BeginsAsk asking q b before after ⊎ ((is_idle ≡ true) × BeginsAnew IsOn asking q b before after)
+-- the node that asks was asked to begin
+pub record BeginsHere (asking : Asking) (q : Question) (b : Begun) (before after : Timed) (old new : Fleet) : Type 0 where
+  pub begins : BeginsAsk asking q b before after
+  pub same : new ≡ old
 
--- None where some are
-abbrev pub BeginsOn : Links → Asking → Question → (is_idle : Bool) → Option Begun → (before after : Timed) → Type 0
-BeginsOn IsOn asking q is_idle None before after = (is_idle ≡ false) × FindsSpent asking q before after
-BeginsOn IsOn asking q is_idle (Some b) before after = BeginsFree IsOn asking q is_idle b before after
+-- an ask began at the node that asks, or, where that has nothing left for it, at the next one, which has
+pub record BeginsFree (IsOn : Links) (asking : Asking) (q : Question) (is_idle : Bool) (b : Begun) (before after : Timed) (old new : Fleet) : Type 0 where
+  pub free : begins_spent b ≡ false
+  pub begins : BeginsHere asking q b before after old new ⊎ BeginsAnew IsOn asking q is_idle b before after old new
+
+-- the node that asks has nothing left for it, asks of that node are under way, and as many nodes leave as may
+pub record IsHeld (asking : Asking) (q : Question) (is_idle : Bool) (before after : Timed) (old new : Fleet) : Type 0 where
+  pub busy : is_idle ≡ false
+  pub full : MOST_LEAVING ≤ length old.leaving
+  pub finds : FindsSpent asking q before after
+  pub same : new ≡ old
+
+-- None where it is held
+abbrev pub BeginsOn : Links → Asking → Question → (is_idle : Bool) → Option Begun → (before after : Timed) → (old new : Fleet) → Type 0
+BeginsOn IsOn asking q is_idle None before after old new = IsHeld asking q is_idle before after old new
+BeginsOn IsOn asking q is_idle (Some b) before after old new = BeginsFree IsOn asking q is_idle b before after old new
 
 -- ---- what happens until the ask of a line has ended
 
@@ -184,21 +228,19 @@ pub record Plan : Type 0 where
 abbrev pub plan_view : code_plan.Plan → Plan
 plan_view p = record { asking = p.asking.now; lines = p.lines.now; window = p.window; share = p.share }
 
--- what the node that asks has become, what the clock has printed, and the asks of the lines
+-- what the node that asks has become, what the clock has printed, the number of that node and the nodes that leave, and the asks of the lines
 pub record Aloft : Type 0 where
   pub at : Timed
+  pub fleet : Fleet
   pub sky : Sky
 
-abbrev pub aloft : Timed → Sky → Aloft
-aloft at s = record { at = at; sky = s }
+abbrev pub aloft : Timed → Fleet → Sky → Aloft
+aloft at f s = record { at = at; fleet = f; sky = s }
 
-abbrev pub is_idle : List Flight → Bool
-is_idle flights = length flights == 0
-
--- what comes of a line that waits
-abbrev pub IsTakenUp : (at : ℕ) → Begun → (old new : Sky) → Type 0
-IsTakenUp at (begun.Accepted ticket wait_limit) old new = AddsFlight at ticket wait_limit old new
-IsTakenUp at (begun.Refused why) old new = EndsWaiting at (end.Refused why) old new
+-- what comes of a line that waits, of which a node was asked
+abbrev pub IsTakenUp : (at node : ℕ) → Begun → (old new : Sky) → Type 0
+IsTakenUp at node (begun.Accepted ticket wait_limit) old new = AddsFlight at node ticket wait_limit old new
+IsTakenUp at node (begun.Refused why) old new = EndsWaiting at (end.Refused why) old new
 
 -- the ask of a line that waits began: there was room for it, and for one more of its peer
 pub record BeginsLine (IsOn : Links) (plan : Plan) (place : ℕ) (old new : Aloft) : Type 0 where
@@ -211,44 +253,82 @@ pub record BeginsLine (IsOn : Links) (plan : Plan) (place : ℕ) (old new : Alof
   pub line : LineQuestion
   pub line_is : slice_get plan.lines place ≡ Some line
   pub begun : Begun
-  pub begins : BeginsOn IsOn plan.asking (question_view line.question) (is_idle old.sky.flights) (Some begun) old.at new.at
-  pub taken : IsTakenUp at begun old.sky new.sky
+  pub begins :
+      BeginsOn IsOn plan.asking (question_view line.question) (is_idle old.fleet.number old.sky.flights) (Some begun) old.at new.at old.fleet new.fleet
+  pub taken : IsTakenUp at new.fleet.number begun old.sky new.sky
 
--- the node had nothing left for a line, and some of its asks were under way: the line waits on
+-- the node had nothing left for a line, some of its asks were under way, and as many nodes left as may: the line waits on
 pub record HoldsLine (IsOn : Links) (plan : Plan) (place : ℕ) (old new : Aloft) : Type 0 where
   pub line : LineQuestion
   pub line_is : slice_get plan.lines place ≡ Some line
-  pub holds : BeginsOn IsOn plan.asking (question_view line.question) (is_idle old.sky.flights) None old.at new.at
+  pub holds :
+      BeginsOn IsOn plan.asking (question_view line.question) (is_idle old.fleet.number old.sky.flights) None old.at new.at old.fleet new.fleet
   pub same : new.sky ≡ old.sky
 
--- a turn was taken as long as the first that is under way is waited for, and how tickets ended in it was noted
-pub record TakesTurn (p : WaitLimit) (old new : Aloft) : Type 0 where
+-- a turn of that node was taken, and how tickets ended in it was noted
+pub record TakesTurn (node : ℕ) (p : WaitLimit) (before after : Timed) (old new : Sky) : Type 0 where
   pub turn : Turn
-  pub takes : TakesEarlyTurn p old.at (turn_view turn) new.at
-  pub noted : new.sky ≡ all_noted (ended_in turn.ticked) (all_noted (ended_in turn.heard) old.sky)
+  pub takes : TakesEarlyTurn p before (turn_view turn) after
+  pub noted : new ≡ turn_noted node (Some turn) old
 
--- or no time was left for that one
-pub record GivesUp (p : WaitLimit) (old new : Aloft) : Type 0 where
-  pub over : IsOver p old.at new.at
-  pub closed : new.sky ≡ closed 0 end.NoEnding old.sky
+-- or no time was left for its first ask
+pub record GivesUp (node : ℕ) (p : WaitLimit) (before after : Timed) (old new : Sky) : Type 0 where
+  pub over : IsOver p before after
+  pub closed : new ≡ turn_noted node None old
 
-abbrev pub GoesOn : WaitLimit → (old new : Aloft) → Type 0
-GoesOn p old new = (first_patience old.sky.flights ≡ Some p) × (TakesTurn p old new ⊎ GivesUp p old new)
+-- a turn that waits no longer than another, and not past the same moment
+pub record IsWithin (p q : WaitLimit) : Type 0 where
+  pub wait : p.wait ≤ q.wait
+  pub until : p.until ≡ q.until
 
--- or none is under way
-abbrev pub MayGoOn : (old new : Aloft) → Type 0
-MayGoOn old new = MatchOption (first_patience old.sky.flights) (new ≡ old) (λ p. GoesOn p old new)
+-- a node goes on, as long as its first ask is waited for
+pub record NodeGoesOn (node : ℕ) (p : WaitLimit) (before after : Timed) (old new : Sky) : Type 0 where
+  pub first : WaitLimit
+  pub is : first_patience node old.flights ≡ Some first
+  pub within : IsWithin p first
+  pub went : TakesTurn node p before after old new ⊎ GivesUp node p before after old new
 
--- what can happen: the ask of the line at a place began, or had to wait; or what is under way went on
+-- the node that asks does; while no node leaves, its turns wait as long as its first ask is waited for
+pub record GoesOn (p : WaitLimit) (old new : Aloft) : Type 0 where
+  pub goes : NodeGoesOn old.fleet.number p old.at new.at old.sky new.sky
+  pub alone : old.fleet.leaving ≡ [] → first_patience old.fleet.number old.sky.flights ≡ Some p
+  pub same : new.fleet ≡ old.fleet
+
+-- a node that leaves does, beside the clock of the one that asks, which stays
+pub record LeavingGoesOn (node : ℕ) (p : WaitLimit) (old new : Aloft) : Type 0 where
+  pub at : ℕ
+  pub leaving : Leaving
+  pub is : slice_get old.fleet.leaving at ≡ Some leaving
+  pub same : leaving.number ≡ node
+  pub bound_node : BoundNode
+  pub goes : NodeGoesOn node p (timed leaving.bound_node old.at.told) (timed bound_node new.at.told) old.sky new.sky
+  pub fleet : new.fleet ≡ record old.fleet { leaving = slice_set old.fleet.leaving at (record { number = node; bound_node = bound_node }) }
+  pub stays : new.at.bound_node ≡ old.at.bound_node
+
+-- a node that leaves is given up: none of its asks is under way
+pub record Leaves (node : ℕ) (old new : Aloft) : Type 0 where
+  pub at : ℕ
+  pub leaving : Leaving
+  pub is : slice_get old.fleet.leaving at ≡ Some leaving
+  pub same : leaving.number ≡ node
+  pub idle : is_idle node old.sky.flights ≡ true
+  pub fleet : new.fleet ≡ record old.fleet { leaving = remove old.fleet.leaving at }
+  pub others : (new.at ≡ old.at) × (new.sky ≡ old.sky)
+
+-- what can happen: the ask of the line at a place began, or had to wait; the node that asks went on, or one that leaves; or such a one was given up
 pub data Event : Type 0 where
   Began : (place : ℕ) → Event
   Held : (place : ℕ) → Event
   WentOn : (p : WaitLimit) → Event
+  LeavingWentOn : (node : ℕ) (p : WaitLimit) → Event
+  Left : (node : ℕ) → Event
 
 abbrev pub Happens : Links → Plan → Aloft → Event → Aloft → Type 0
 Happens IsOn plan old (Began place) new = BeginsLine IsOn plan place old new
 Happens IsOn plan old (Held place) new = HoldsLine IsOn plan place old new
 Happens IsOn plan old (WentOn p) new = GoesOn p old new
+Happens IsOn plan old (LeavingWentOn node p) new = LeavingGoesOn node p old new
+Happens IsOn plan old (Left node) new = Leaves node old new
 
 -- how often the ask of a line began
 abbrev pub here : (place at : ℕ) → ℕ
@@ -259,11 +339,17 @@ asks_in place [] = 0
 asks_in place (Began at ∷ events) = here place at + asks_in place events
 asks_in place (Held at ∷ events) = asks_in place events
 asks_in place (WentOn p ∷ events) = asks_in place events
+asks_in place (LeavingWentOn node p ∷ events) = asks_in place events
+asks_in place (Left node ∷ events) = asks_in place events
 
 -- these happened, one after the other
 pub record Goes (IsOn : Links) (plan : Plan) (old new : Aloft) : Type 0 where
   pub events : List Event
   pub run : Run (Happens IsOn plan) events old new
+
+-- nodes went on, whatever is asked
+abbrev pub NodesGo : Links → (old new : Aloft) → Type 0
+NodesGo IsOn old new = (plan : Plan) → Goes IsOn plan old new
 
 -- they happened until the ask of the line at that place had ended, so
 pub record EndsLine (IsOn : Links) (plan : Plan) (place : ℕ) (how : AskEnd) (old new : Aloft) : Type 0 where
@@ -271,6 +357,7 @@ pub record EndsLine (IsOn : Links) (plan : Plan) (place : ℕ) (how : AskEnd) (o
   pub goes : Goes IsOn plan old ended
   pub taken : IsTaken place how ended.sky new.sky
   pub same : new.at ≡ ended.at
+  pub fleet : new.fleet ≡ ended.fleet
 
 -- ---- how it is printed
 
@@ -320,8 +407,8 @@ pub record AsksAhead (IsOn : Links) (asking : Asking) (window : ℕ) (lines : Li
   pub share : ℕ
   pub events : List Event
   pub prints :
-      PrintsFrom IsOn (record { asking = asking; lines = lines; window = window; share = share }) 0 (length lines) events all (aloft before (new_sky lines))
-      after old new
+      PrintsFrom IsOn (record { asking = asking; lines = lines; window = window; share = share }) 0 (length lines) events all
+      (aloft before NEW_FLEET (new_sky lines)) after old new
   pub once : (place : ℕ) → place < length lines → asks_in place events ≡ 1
 
 -- so many at once as is wanted; without it one after the other

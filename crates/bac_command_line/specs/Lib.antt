@@ -14,6 +14,7 @@ pub mod ClientPairs
 pub mod Looking
 pub mod Online
 pub mod Clients
+pub mod Fleets
 pub mod AskedOne
 pub mod AskedLines
 pub mod InFlight

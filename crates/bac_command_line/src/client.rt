@@ -13,11 +13,12 @@ use crate::reasons::print_no_link;
 use crate::recording::{Printer, Stamp};
 use crate::station::Station;
 use bac_commands::{bound_client, clock_fault, link_fault};
+use bac_driver::BoundNode;
 use bac_npdu::LinkAddress;
 use bac_text::{Status, no_memory};
 use std::alloc::Global;
-use std::io;
 use std::io::{ErrorKind, Write};
+use std::{io, mem};
 
 /// A link of a new node, its own address, and the pair with which the node begins.
 #[derive(Drop)]
@@ -214,12 +215,17 @@ impl<'m, M: Machine> Client<'m, M> {
         Stamp { time, round }
     }
 
-    /// The next node, on a link of its own at another port; the one before asks no more. Where there is none, `err` and the status say so, and nothing has
-    /// changed but whether it is stranded.
-    pub(crate) fn renew<E: Write>(&mut self, host: [u8; 4], err: &mut E) -> Result<(), Status>
+    /// The next node, on a link of its own at another port, asks in the place of the one before. Answers that one. Where there is none, `err` and the status say
+    /// so, and nothing has changed but whether it is stranded.
+    pub(crate) fn renew<E: Write>(
+        &mut self,
+        host: [u8; 4],
+        err: &mut E,
+    ) -> Result<BoundNode<M::Link>, Status>
         ensures renewed { IfOk result (λ _. IsRenewed (OnPort M.is_bound M.Link.failures M.Link.calls) host
             (timed self.old.station.bound_node (M.Timer.told self.old.station.clock))
             (timed self.new.station.bound_node (M.Timer.told self.new.station.clock))) }
+        ensures before { IfOk result (λ before. before ≡ self.old.station.bound_node) }
         ensures failed { IfErr result IsFailure }
     {
         let alloc = self.station.alloc;
@@ -240,7 +246,24 @@ impl<'m, M: Machine> Client<'m, M> {
         let Ok(bound_node) = bound_client(alloc, bound.link, bound.address, first_id) else {
             return Err(no_memory(err));
         };
-        self.station.bound_node = bound_node;
+        Ok(mem::replace(&mut self.station.bound_node, bound_node))
+    }
+
+    /// A node that asked before is given up: the client does not ask from its port for as long as a request from there may be remembered. Where memory is
+    /// refused, `err` and the status say so.
+    pub(crate) fn part_with<E: Write>(
+        &mut self,
+        bound_node: &BoundNode<M::Link>,
+        err: &mut E,
+    ) -> Result<(), Status>
+        ensures same { self.new.station ≡ self.old.station }
+        ensures failed { IfErr result IsFailure }
+    {
+        let node = bound_node.node();
+        let port = port_of(node.link());
+        if self.past.leave(port, node.latest()).is_err() {
+            return Err(no_memory(err));
+        }
         Ok(())
     }
 }

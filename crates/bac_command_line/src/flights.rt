@@ -1,8 +1,8 @@
 //! The asks of the lines of a list: those that wait, those that are under way, and how the others ended.
-ghost use Rattle.std.specs.Prelude.{◌≡◌, ◌<◌, ◌↔◌, Some, count_by, length, max, slice_get, IfErr, IfOk, IsTrue};
+ghost use Rattle.std.specs.Prelude.{◌≡◌, ◌<◌, ◌↔◌, Some, count_by, length, max, slice_get, IfErr, IfOk, IfSome, IsTrue};
 ghost use Rattle.std.specs.List.{position};
 ghost use Rattle.bac_text.specs.Statuses.{IsFailure};
-ghost use Rattle.bac_command_line.specs.InFlight.{AddsFlight, EndsWaiting, IsNewSky, IsTakenUp, TakesEnd, all_noted, begins_spent, closed, ended_in, first_patience, has_ticket, is_idle, is_of, may_begin, noted, sky, with_end};
+ghost use Rattle.bac_command_line.specs.InFlight.{AddsFlight, EndsWaiting, IsNewSky, IsTakenUp, TakesEnd, all_noted, begins_spent, closed, closed_at, ended_in, first_patience, has_ticket, is_idle, is_of, is_on, may_begin, noted, sky, turn_noted, with_end};
 
 use bac_commands::is_spent;
 use bac_driver::{AskEnd, Turn, WaitLimit};
@@ -51,16 +51,25 @@ pub(crate) struct Waiting {
 #[derive(Clone, Copy)]
 pub(crate) struct Flight {
     pub line: Waiting,
+    /// The number of the node that was asked.
+    pub node: u64,
+    /// Its ticket at that node.
     pub ticket: u64,
     /// How long it is waited for.
     pub wait_limit: WaitLimit,
 }
 
 impl Flight {
-    fn has_ticket(&self, wanted: u64) -> bool
-        ensures { result ≡ has_ticket wanted self.now }
+    fn is_on(&self, node: u64) -> bool
+        ensures { result ≡ is_on node self.now }
     {
-        self.ticket == wanted
+        self.node == node
+    }
+
+    fn has_ticket(&self, node: u64, wanted: u64) -> bool
+        ensures { result ≡ has_ticket node wanted self.now }
+    {
+        self.node == node && self.ticket == wanted
     }
 
     fn is_of(&self, peer: &Peer) -> bool
@@ -130,10 +139,15 @@ impl Flights {
     }
 
     /// Whether none is under way.
-    pub(crate) fn is_idle(&self) -> bool
-        ensures { result ≡ is_idle self.now.under_way.items }
-    {
+    pub(crate) fn is_empty(&self) -> bool {
         self.under_way.is_empty()
+    }
+
+    /// Whether none of that node is under way.
+    pub(crate) fn is_idle(&self, node: u64) -> bool
+        ensures { result ≡ is_idle node self.now.under_way.items }
+    {
+        self.first_patience(node).is_none()
     }
 
     /// Whether there are fewer than so many under way, or none.
@@ -174,20 +188,22 @@ impl Flights {
         self.waiting[at]
     }
 
-    /// The ask of that line is under way. Where memory is refused, `err` and the status say so.
+    /// The ask of that line is under way at that node. Where memory is refused, `err` and the status say so.
     fn add<E: Write>(
         &mut self,
         at: usize,
+        node: u64,
         ticket: u64,
         wait_limit: WaitLimit,
         err: &mut E,
     ) -> Result<(), Status>
         requires { at < length self.old.waiting.items }
-        ensures added { IfOk result (λ _. AddsFlight at ticket wait_limit (sky self.old) (sky self.new)) }
+        ensures added { IfOk result (λ _. AddsFlight at node ticket wait_limit (sky self.old) (sky self.new)) }
         ensures failed { IfErr result IsFailure }
     {
         let flight = Flight {
             line: self.waiting[at],
+            node,
             ticket,
             wait_limit,
         };
@@ -220,19 +236,20 @@ impl Flights {
         self.set_end(place, end);
     }
 
-    /// A node was asked to begin the ask of that line among those that wait. Where memory is refused, `err` and the status say so.
+    /// The node of that number was asked to begin the ask of that line among those that wait. Where memory is refused, `err` and the status say so.
     pub(crate) fn take_up<E: Write>(
         &mut self,
         at: usize,
+        node: u64,
         begun: Begun,
         err: &mut E,
     ) -> Result<(), Status>
         requires { at < length self.old.waiting.items }
-        ensures taken { IfOk result (λ _. IsTakenUp at begun (sky self.old) (sky self.new)) }
+        ensures taken { IfOk result (λ _. IsTakenUp at node begun (sky self.old) (sky self.new)) }
         ensures failed { IfErr result IsFailure }
     {
         match begun {
-            Begun::Accepted { ticket, wait_limit } => self.add(at, ticket, wait_limit, err),
+            Begun::Accepted { ticket, wait_limit } => self.add(at, node, ticket, wait_limit, err),
             Begun::Refused(fault) => {
                 self.end_waiting(at, AskEnd::Refused(fault));
                 Ok(())
@@ -240,11 +257,11 @@ impl Flights {
         }
     }
 
-    /// How long the first that is under way is waited for.
-    pub(crate) fn first_patience(&self) -> Option<WaitLimit>
-        ensures { result ≡ first_patience self.now.under_way.items }
+    /// How long the first of that node that is under way is waited for.
+    pub(crate) fn first_patience(&self, node: u64) -> Option<WaitLimit>
+        ensures { result ≡ first_patience node self.now.under_way.items }
     {
-        let first = self.under_way.first()?;
+        let first = self.under_way.iter().find(|ask| ask.is_on(node))?;
         Some(first.wait_limit)
     }
 
@@ -257,54 +274,73 @@ impl Flights {
         self.set_end(flight.line.place, end);
     }
 
-    /// The first that is under way is waited for no longer.
-    pub(crate) fn give_up_first(&mut self)
-        requires { 0 < length self.old.under_way.items }
-        ensures { sky self.new ≡ closed 0 AskEnd.NoEnding (sky self.old) }
+    /// The same, where there is a place.
+    fn close_at(&mut self, place: Option<usize>, end: AskEnd)
+        requires { IfSome place (λ at. at < length self.old.under_way.items) }
+        ensures { sky self.new ≡ closed_at place end (sky self.old) }
     {
-        self.close(0, AskEnd::NoEnding);
+        if let Some(at) = place {
+            self.close(at, end);
+        }
     }
 
-    /// The place of the first that has that ticket.
-    fn place_of(&self, ticket: u64) -> Option<usize>
-        ensures { result ≡ position (has_ticket ticket) self.now.under_way.items }
+    /// The place of the first of that node.
+    fn first_on(&self, node: u64) -> Option<usize>
+        ensures place { result ≡ position (is_on node) self.now.under_way.items }
+        ensures within { IfSome result (λ at. at < length self.now.under_way.items) }
     {
-        self.under_way.iter().position(|ask| ask.has_ticket(ticket))
+        self.under_way.iter().position(|ask| ask.is_on(node))
     }
 
-    /// Notes how a ticket ended.
-    fn note(&mut self, finish: Ended)
-        ensures { sky self.new ≡ noted finish (sky self.old) }
+    /// The place of the first of that node that has that ticket.
+    fn place_of(&self, node: u64, ticket: u64) -> Option<usize>
+        ensures place { result ≡ position (has_ticket node ticket) self.now.under_way.items }
+        ensures within { IfSome result (λ at. at < length self.now.under_way.items) }
     {
-        let Some(at) = self.place_of(finish.ticket) else {
-            return;
-        };
-        self.close(at, AskEnd::Ended(finish.ending));
+        self.under_way
+            .iter()
+            .position(|ask| ask.has_ticket(node, ticket))
     }
 
-    fn note_each(&mut self, finishes: Vec<Ended>)
-        ensures { sky self.new ≡ all_noted finishes.items (sky self.old) }
+    /// Notes how a ticket of that node ended.
+    fn note(&mut self, node: u64, finish: Ended)
+        ensures { sky self.new ≡ noted node finish (sky self.old) }
+    {
+        let place = self.place_of(node, finish.ticket);
+        self.close_at(place, AskEnd::Ended(finish.ending));
+    }
+
+    fn note_each(&mut self, node: u64, finishes: Vec<Ended>)
+        ensures { sky self.new ≡ all_noted node finishes.items (sky self.old) }
     {
         for finish in finishes {
-            self.note(finish);
+            self.note(node, finish);
         }
     }
 
-    /// Notes how tickets ended in a step of a turn.
-    fn note_step(&mut self, step: Option<Outcome>)
-        ensures { sky self.new ≡ all_noted (ended_in step) (sky self.old) }
+    /// Notes how tickets of that node ended in a step of a turn.
+    fn note_step(&mut self, node: u64, step: Option<Outcome>)
+        ensures { sky self.new ≡ all_noted node (ended_in step) (sky self.old) }
     {
         if let Some(outcome) = step {
-            self.note_each(outcome.ended);
+            self.note_each(node, outcome.ended);
         }
     }
 
-    /// Notes how tickets ended in a turn.
-    pub(crate) fn note_turn(&mut self, turn: Turn)
-        ensures { sky self.new ≡ all_noted (ended_in turn.ticked) (all_noted (ended_in turn.heard) (sky self.old)) }
+    /// Notes how tickets of that node ended in a turn of it. Where there was no time left for one, its first ask is waited for no longer.
+    pub(crate) fn note_turn(&mut self, node: u64, turn: Option<Turn>)
+        ensures { sky self.new ≡ turn_noted node turn (sky self.old) }
     {
-        self.note_step(turn.heard);
-        self.note_step(turn.ticked);
+        match turn {
+            Some(turn) => {
+                self.note_step(node, turn.heard);
+                self.note_step(node, turn.ticked);
+            }
+            None => {
+                let place = self.first_on(node);
+                self.close_at(place, AskEnd::NoEnding);
+            }
+        }
     }
 
     /// How the ask of the line at that place among all has ended, where it has; it is kept no longer.

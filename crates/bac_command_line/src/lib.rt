@@ -15,6 +15,7 @@ mod file_news;
 mod file_task;
 mod file_words;
 mod files;
+mod fleet;
 mod flights;
 mod folder;
 mod followed;

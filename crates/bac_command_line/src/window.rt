@@ -1,23 +1,27 @@
 //! Requests of lines, several at once: what `ask --lines --window` does.
-ghost use Rattle.std.specs.Prelude.{◌≡◌, ◌<◌, length, IfErr, IfOk};
+ghost use Rattle.std.specs.Prelude.{◌≡◌, ◌<◌, ◌≤◌, length, IfErr, IfOk};
 ghost use Rattle.bac_driver.specs.Runs.{timed};
 ghost use Rattle.bac_driver.specs.Views.{question_view};
 ghost use Rattle.bac_text.specs.Statuses.{IsFailure};
-ghost use Rattle.bac_command_line.specs.InFlight.{AsksAhead, BeginsAsk, BeginsOn, EndsLine, Goes, MayGoOn, TellsLine, aloft, plan_view, sky};
+ghost use Rattle.bac_command_line.specs.Clients.{IsRenewed};
+ghost use Rattle.bac_command_line.specs.Fleets.{next_fleet};
+ghost use Rattle.bac_command_line.specs.InFlight.{AsksAhead, BeginsAsk, BeginsOn, EndsLine, Goes, IsNoted, IsWithin, NodesGo, TellsLine, aloft, plan_view, sky};
 ghost use Rattle.bac_command_line.specs.Online.{OnPort};
 
 use crate::asking::Asking;
 use crate::asking_lines::{both, print_unasked};
 use crate::client::Client;
 use crate::ends::print_line;
+use crate::fleet::{Fleet, Leaving};
 use crate::flights::{Begun, Flights};
 use crate::online::Machine;
 use crate::peers::share_of;
 use crate::recording::Printer;
 use crate::station::Station;
 use bac_commands::{CommandError, clock_fault, link_fault};
-use bac_driver::{AskEnd, Clock, Link, Question, WaitLimit};
+use bac_driver::{AskEnd, Clock, Link, Question, Turn, TurnFault, WaitLimit};
 use bac_lists::LineQuestion;
+use bac_npdu::LinkAddress;
 use bac_requester::AskFault;
 use bac_text::{Status, no_memory};
 use std::io::Write;
@@ -34,6 +38,17 @@ pub(crate) struct Plan<'a> {
     /// So many of one peer.
     pub share: u64,
 }
+
+/// The nodes that go on, and the asks of the lines.
+#[derive(Drop)]
+pub(crate) struct Traffic<L: Link> {
+    /// The one that asks, by its number, and those that leave.
+    pub fleet: Fleet<L>,
+    pub flights: Flights,
+}
+
+/// So many milliseconds a turn waits at the most while nodes leave, since each of them is to have its turn.
+const BRIEF: u64 = 5;
 
 /// A node is asked to begin an ask.
 fn begin<L: Link, C: Clock, E: Write>(
@@ -54,27 +69,48 @@ fn begin<L: Link, C: Clock, E: Write>(
     }
 }
 
-/// A client begins an ask, at the next node where the one that asks has nothing left for it and none of its asks is under way. None where some are.
+/// The next node asks in the place of the one that has nothing left. That one leaves, where asks of it are under way.
+fn renew<M: Machine, E: Write>(
+    asking: &Asking,
+    client: &mut Client<'_, M>,
+    fleet: &mut Fleet<M::Link>,
+    is_idle: bool,
+    err: &mut E,
+) -> Result<(), Status>
+    ensures renewed { IfOk result (λ _. IsRenewed (OnPort M.is_bound M.Link.failures M.Link.calls) asking.now.host
+        (timed client.old.station.bound_node (M.Timer.told client.old.station.clock))
+        (timed client.new.station.bound_node (M.Timer.told client.new.station.clock))) }
+    ensures next { IfOk result (λ _. fleet.new ≡ next_fleet is_idle client.old.station.bound_node fleet.old) }
+    ensures failed { IfErr result IsFailure }
+{
+    fleet.make_room(err)?;
+    let before = client.renew(asking.host, err)?;
+    fleet.advance(is_idle, before, err)
+}
+
+/// A client begins an ask, at the next node where the one that asks has nothing left for it. None where asks of that one are under way and no further node may
+/// leave.
 fn begin_on<M: Machine, E: Write>(
     asking: &Asking,
     client: &mut Client<'_, M>,
+    fleet: &mut Fleet<M::Link>,
     question: &Question,
     is_idle: bool,
     err: &mut E,
 ) -> Result<Option<Begun>, Status>
     ensures begun { IfOk result (λ b. BeginsOn (OnPort M.is_bound M.Link.failures M.Link.calls) asking.now (question_view question.now) is_idle b
         (timed client.old.station.bound_node (M.Timer.told client.old.station.clock))
-        (timed client.new.station.bound_node (M.Timer.told client.new.station.clock))) }
+        (timed client.new.station.bound_node (M.Timer.told client.new.station.clock)) fleet.old fleet.new) }
     ensures failed { IfErr result IsFailure }
 {
     let begun = begin(asking, &mut client.station, question, err)?;
     if !begun.is_spent() {
         return Ok(Some(begun));
     }
-    if !is_idle {
+    if fleet.is_full(is_idle) {
         return Ok(None);
     }
-    client.renew(asking.host, err)?;
+    renew(asking, client, fleet, is_idle, err)?;
     let anew = begin(asking, &mut client.station, question, err)?;
     Ok(Some(anew))
 }
@@ -83,30 +119,40 @@ fn begin_on<M: Machine, E: Write>(
 fn begin_next<M: Machine, E: Write>(
     plan: &Plan<'_>,
     client: &mut Client<'_, M>,
-    flights: &mut Flights,
+    traffic: &mut Traffic<M::Link>,
     err: &mut E,
 ) -> Result<bool, Status>
     ensures goes { IfOk result (λ _. Goes (OnPort M.is_bound M.Link.failures M.Link.calls) (plan_view plan.now)
-        (aloft (timed client.old.station.bound_node (M.Timer.told client.old.station.clock)) (sky flights.old))
-        (aloft (timed client.new.station.bound_node (M.Timer.told client.new.station.clock)) (sky flights.new))) }
+        (aloft (timed client.old.station.bound_node (M.Timer.told client.old.station.clock)) traffic.old.fleet (sky traffic.old.flights))
+        (aloft (timed client.new.station.bound_node (M.Timer.told client.new.station.clock)) traffic.new.fleet (sky traffic.new.flights))) }
     ensures failed { IfErr result IsFailure }
 {
-    if !flights.has_room(plan.window) {
+    if !traffic.flights.has_room(plan.window) {
         return Ok(false);
     }
-    let Some(at) = flights.next_to_begin(plan.share) else {
+    let Some(at) = traffic.flights.next_to_begin(plan.share) else {
         return Ok(false);
     };
-    let waiting = flights.waiting_at(at);
+    let waiting = traffic.flights.waiting_at(at);
     let Some(line) = plan.lines.get(waiting.place) else {
         return Ok(false);
     };
-    let is_idle = flights.is_idle();
-    match begin_on(plan.asking, client, &line.question, is_idle, err)? {
+    let is_idle = traffic.flights.is_idle(traffic.fleet.number());
+    let begun = begin_on(
+        plan.asking,
+        client,
+        &mut traffic.fleet,
+        &line.question,
+        is_idle,
+        err,
+    )?;
+    match begun {
         None => Ok(false),
         Some(begun) => {
-            flights.come_at(client.time_of_day());
-            flights.take_up(at, begun, err)?;
+            traffic.flights.come_at(client.time_of_day());
+            traffic
+                .flights
+                .take_up(at, traffic.fleet.number(), begun, err)?;
             Ok(true)
         }
     }
@@ -116,16 +162,16 @@ fn begin_next<M: Machine, E: Write>(
 fn begin_more<M: Machine, E: Write>(
     plan: &Plan<'_>,
     client: &mut Client<'_, M>,
-    flights: &mut Flights,
+    traffic: &mut Traffic<M::Link>,
     err: &mut E,
 ) -> Result<(), Status>
     ensures goes { IfOk result (λ _. Goes (OnPort M.is_bound M.Link.failures M.Link.calls) (plan_view plan.now)
-        (aloft (timed client.old.station.bound_node (M.Timer.told client.old.station.clock)) (sky flights.old))
-        (aloft (timed client.new.station.bound_node (M.Timer.told client.new.station.clock)) (sky flights.new))) }
+        (aloft (timed client.old.station.bound_node (M.Timer.told client.old.station.clock)) traffic.old.fleet (sky traffic.old.flights))
+        (aloft (timed client.new.station.bound_node (M.Timer.told client.new.station.clock)) traffic.new.fleet (sky traffic.new.flights))) }
     ensures failed { IfErr result IsFailure }
 {
     for _ in 0..plan.window.max(1) {
-        let began = begin_next(plan, client, flights, err)?;
+        let began = begin_next(plan, client, traffic, err)?;
         if !began {
             return Ok(());
         }
@@ -133,61 +179,149 @@ fn begin_more<M: Machine, E: Write>(
     Ok(())
 }
 
-/// A client's node takes a turn, and how tickets ended in it is noted. Where no time is left for the first that is under way, that is waited for no longer;
-/// where none is, nothing happens.
-fn go_on<M: Machine, E: Write>(
-    client: &mut Client<'_, M>,
+/// A turn that waits at most so many milliseconds, and not past the same moment.
+fn within(wait: u64, wait_limit: &WaitLimit) -> WaitLimit
+    ensures { IsWithin result wait_limit.now }
+{
+    WaitLimit {
+        wait: wait_limit.wait.min(wait),
+        until: wait_limit.until,
+    }
+}
+
+/// How long a turn of the node that asks waits: as long as its first ask is waited for, but only briefly while nodes leave, of which there are so many.
+fn own_limit(leaving: usize, first: &WaitLimit) -> WaitLimit
+    ensures within { IsWithin result first.now }
+    ensures alone { leaving ≡ 0 → result ≡ first.now }
+{
+    if leaving == 0 {
+        return *first;
+    }
+    within(BRIEF, first)
+}
+
+/// What came of a turn of a node is noted: how tickets ended, or that no time was left for its first ask. Where the node at that address could take none, `err`
+/// and the status say so.
+fn note<E: Write>(
+    node: u64,
+    own: LinkAddress,
+    turn: Result<Option<Turn>, TurnFault>,
     flights: &mut Flights,
     err: &mut E,
 ) -> Result<(), Status>
-    ensures went { IfOk result (λ _. MayGoOn
-        (aloft (timed client.old.station.bound_node (M.Timer.told client.old.station.clock)) (sky flights.old))
-        (aloft (timed client.new.station.bound_node (M.Timer.told client.new.station.clock)) (sky flights.new))) }
+    ensures noted { IfOk result (λ _. IsNoted node turn (sky flights.old) (sky flights.new)) }
     ensures failed { IfErr result IsFailure }
 {
-    let Some(wait_limit) = flights.first_patience() else {
+    match turn {
+        Ok(turn) => {
+            flights.note_turn(node, turn);
+            Ok(())
+        }
+        Err(fault) => Err(CommandError::from(fault).report_at(own, err)),
+    }
+}
+
+/// How long a turn of the node at that place among those that leave waits. The node that asks waits in their place, where asks of it are under way; otherwise
+/// the first of them does.
+fn leaving_limit(at: usize, is_idle: bool, first: &WaitLimit) -> WaitLimit
+    ensures { IsWithin result first.now }
+{
+    let wait = if is_idle && at == 0 { BRIEF } else { 0 };
+    within(wait, first)
+}
+
+/// The node at that place among those that leave takes a turn, and how tickets ended in it is noted. Where no time is left for its first ask, that is waited
+/// for no longer; where none of its asks is under way, it is given traffic.
+fn go_on_at<M: Machine, E: Write>(
+    client: &mut Client<'_, M>,
+    traffic: &mut Traffic<M::Link>,
+    at: usize,
+    err: &mut E,
+) -> Result<(), Status>
+    requires { at < length traffic.old.fleet.leaving }
+    ensures went { IfOk result (λ _. NodesGo (OnPort M.is_bound M.Link.failures M.Link.calls)
+        (aloft (timed client.old.station.bound_node (M.Timer.told client.old.station.clock)) traffic.old.fleet (sky traffic.old.flights))
+        (aloft (timed client.new.station.bound_node (M.Timer.told client.new.station.clock)) traffic.new.fleet (sky traffic.new.flights))) }
+    ensures others { IfOk result (λ _. at ≤ length traffic.new.fleet.leaving) }
+    ensures failed { IfErr result IsFailure }
+{
+    let node = traffic.fleet.number_at(at);
+    let Some(first) = traffic.flights.first_patience(node) else {
+        let leaving = traffic.fleet.remove(at);
+        return client.part_with(leaving.bound_node(), err);
+    };
+    let is_idle = traffic.flights.is_idle(traffic.fleet.number());
+    let wait_limit = leaving_limit(at, is_idle, &first);
+    let own = traffic.fleet.link_at(at);
+    let turn = traffic
+        .fleet
+        .turn_at(at, &mut client.station.clock, &wait_limit);
+    traffic.flights.come_at(client.time_of_day());
+    note(node, own, turn, &mut traffic.flights, err)
+}
+
+/// The node that asks takes a turn, and how tickets ended in it is noted. Where no time is left for its first ask, that is waited for no longer; where none of
+/// its asks is under way, nothing happens.
+fn go_on_here<M: Machine, E: Write>(
+    client: &mut Client<'_, M>,
+    traffic: &mut Traffic<M::Link>,
+    err: &mut E,
+) -> Result<(), Status>
+    ensures went { IfOk result (λ _. NodesGo (OnPort M.is_bound M.Link.failures M.Link.calls)
+        (aloft (timed client.old.station.bound_node (M.Timer.told client.old.station.clock)) traffic.old.fleet (sky traffic.old.flights))
+        (aloft (timed client.new.station.bound_node (M.Timer.told client.new.station.clock)) traffic.new.fleet (sky traffic.new.flights))) }
+    ensures failed { IfErr result IsFailure }
+{
+    let node = traffic.fleet.number();
+    let Some(first) = traffic.flights.first_patience(node) else {
         return Ok(());
     };
+    let wait_limit = own_limit(traffic.fleet.len(), &first);
     let station = &mut client.station;
+    let own = station.bound_node.node().link();
     let turn = station
         .bound_node
         .turn_before(&mut station.clock, &wait_limit);
-    flights.come_at(client.time_of_day());
-    match turn {
-        Ok(Some(turn)) => {
-            flights.note_turn(turn);
-            Ok(())
-        }
-        Ok(None) => {
-            flights.give_up_first();
-            Ok(())
-        }
-        Err(fault) => {
-            let own = client.station.bound_node.node().link();
-            Err(CommandError::from(fault).report_at(own, err))
-        }
+    traffic.flights.come_at(client.time_of_day());
+    note(node, own, turn, &mut traffic.flights, err)
+}
+
+/// Each node that leaves goes on, and then the one that asks.
+fn go_on<M: Machine, E: Write>(
+    client: &mut Client<'_, M>,
+    traffic: &mut Traffic<M::Link>,
+    err: &mut E,
+) -> Result<(), Status>
+    ensures went { IfOk result (λ _. NodesGo (OnPort M.is_bound M.Link.failures M.Link.calls)
+        (aloft (timed client.old.station.bound_node (M.Timer.told client.old.station.clock)) traffic.old.fleet (sky traffic.old.flights))
+        (aloft (timed client.new.station.bound_node (M.Timer.told client.new.station.clock)) traffic.new.fleet (sky traffic.new.flights))) }
+    ensures failed { IfErr result IsFailure }
+{
+    for at in (0..traffic.fleet.len()).rev() {
+        go_on_at(client, traffic, at, err)?;
     }
+    go_on_here(client, traffic, err)
 }
 
 /// A client asks until the ask of the line at that place among all has ended. Answers how it did.
 fn end_line<M: Machine, E: Write>(
     plan: &Plan<'_>,
     client: &mut Client<'_, M>,
-    flights: &mut Flights,
+    traffic: &mut Traffic<M::Link>,
     place: usize,
     err: &mut E,
 ) -> Result<AskEnd, Status>
     ensures ended { IfOk result (λ how. EndsLine (OnPort M.is_bound M.Link.failures M.Link.calls) (plan_view plan.now) place how
-        (aloft (timed client.old.station.bound_node (M.Timer.told client.old.station.clock)) (sky flights.old))
-        (aloft (timed client.new.station.bound_node (M.Timer.told client.new.station.clock)) (sky flights.new))) }
+        (aloft (timed client.old.station.bound_node (M.Timer.told client.old.station.clock)) traffic.old.fleet (sky traffic.old.flights))
+        (aloft (timed client.new.station.bound_node (M.Timer.told client.new.station.clock)) traffic.new.fleet (sky traffic.new.flights))) }
     ensures failed { IfErr result IsFailure }
 {
     for _ in 0..u64::MAX {
-        begin_more(plan, client, flights, err)?;
-        if let Some(end) = flights.take_end(place) {
+        begin_more(plan, client, traffic, err)?;
+        if let Some(end) = traffic.flights.take_end(place) {
             return Ok(end);
         }
-        go_on(client, flights, err)?;
+        go_on(client, traffic, err)?;
     }
     Err(link_fault(err))
 }
@@ -215,40 +349,69 @@ fn print_stranded<O: Write, E: Write>(
     }
 }
 
+/// What is under way goes on until it has ended, or that fails.
+fn end_all<M: Machine, E: Write>(
+    client: &mut Client<'_, M>,
+    traffic: &mut Traffic<M::Link>,
+    err: &mut E,
+) {
+    for _ in 0..u64::MAX {
+        if traffic.flights.is_empty() || go_on(client, traffic, err).is_err() {
+            return;
+        }
+    }
+}
+
 /// A client asks until the ask of the line at that place among all has ended, which is printed. Answers whether it succeeded. Where there is no link for the
-/// next node, this line and all behind it are printed as they stand.
+/// next node, this line and all behind it are printed as they stand once what is under way has ended.
 fn tell_line<M: Machine, O: Write, E: Write>(
     plan: &Plan<'_>,
     client: &mut Client<'_, M>,
-    flights: &mut Flights,
+    traffic: &mut Traffic<M::Link>,
     place: usize,
     out: &mut O,
     err: &mut E,
 ) -> Result<bool, Status>
     requires { place < length plan.now.lines.now }
     ensures told { IfOk result (λ succeeded. TellsLine (OnPort M.is_bound M.Link.failures M.Link.calls) (plan_view plan.now) place succeeded
-        (aloft (timed client.old.station.bound_node (M.Timer.told client.old.station.clock)) (sky flights.old))
-        (aloft (timed client.new.station.bound_node (M.Timer.told client.new.station.clock)) (sky flights.new))
+        (aloft (timed client.old.station.bound_node (M.Timer.told client.old.station.clock)) traffic.old.fleet (sky traffic.old.flights))
+        (aloft (timed client.new.station.bound_node (M.Timer.told client.new.station.clock)) traffic.new.fleet (sky traffic.new.flights))
         (O.contents out.old) (O.contents out.new)) }
     ensures failed { IfErr result IsFailure }
 {
-    match end_line(plan, client, flights, place, err) {
+    match end_line(plan, client, traffic, place, err) {
         Ok(end) => {
             let printer = Printer {
                 alloc: client.station.alloc,
                 asking: plan.asking,
-                stamp: client.stamp_at(flights.time_of(place)),
+                stamp: client.stamp_at(traffic.flights.time_of(place)),
             };
             print_line(&printer, &plan.lines[place], &end, out, err)
         }
         Err(status) => {
             if client.is_stranded {
+                end_all(client, traffic, err);
                 let printer = client.printer(plan.asking);
-                print_stranded(&printer, plan, flights, place, out, err);
+                print_stranded(&printer, plan, &mut traffic.flights, place, out, err);
             }
             Err(status)
         }
     }
+}
+
+/// The nodes that leave are given up.
+fn part_with_all<M: Machine, E: Write>(
+    client: &mut Client<'_, M>,
+    leaving: Vec<Leaving<M::Link>>,
+    err: &mut E,
+) -> Result<(), Status>
+    ensures same { client.new.station ≡ client.old.station }
+    ensures failed { IfErr result IsFailure }
+{
+    for left in leaving {
+        client.part_with(left.bound_node(), err)?;
+    }
+    Ok(())
 }
 
 /// A client asks what lines ask, several at once; how each ask ended is printed in the order of the lines. Answers whether all succeeded.
@@ -270,7 +433,7 @@ pub(crate) fn ask_ahead<M: Machine, O: Write, E: Write>(
     let Ok(share) = share_of(alloc, window, lines) else {
         return Err(no_memory(err));
     };
-    let Ok(mut flights) = Flights::new(alloc, lines) else {
+    let Ok(flights) = Flights::new(alloc, lines) else {
         return Err(no_memory(err));
     };
     let plan = Plan {
@@ -279,10 +442,15 @@ pub(crate) fn ask_ahead<M: Machine, O: Write, E: Write>(
         window,
         share,
     };
+    let mut traffic = Traffic {
+        fleet: Fleet::new(alloc),
+        flights,
+    };
     let mut all = true;
     for place in 0..lines.len() {
-        let succeeded = tell_line(&plan, client, &mut flights, place, out, err)?;
+        let succeeded = tell_line(&plan, client, &mut traffic, place, out, err)?;
         all = both(all, succeeded);
     }
+    part_with_all(client, traffic.fleet.into_leaving(), err)?;
     Ok(all)
 }

@@ -7,5 +7,5 @@ use Rattle.bac_command_line.proofs.window.begin_more.Given as goal
 abbrev pub invariant-loop : goal.invariant-loop
 invariant-loop g l =
     Goes (OnPort g.M.Machine.is_bound g.M.Link.Link.failures g.M.Link.Link.calls) (plan_view l.plan)
-    (aloft (timed l.fn.client.station.bound_node (g.M.Timer.Clock.told l.fn.client.station.clock)) (sky l.fn.flights))
-    (aloft (timed l.client.station.bound_node (g.M.Timer.Clock.told l.client.station.clock)) (sky l.flights))
+    (aloft (timed l.fn.client.station.bound_node (g.M.Timer.Clock.told l.fn.client.station.clock)) l.fn.traffic.fleet (sky l.fn.traffic.flights))
+    (aloft (timed l.client.station.bound_node (g.M.Timer.Clock.told l.client.station.clock)) l.traffic.fleet (sky l.traffic.flights))

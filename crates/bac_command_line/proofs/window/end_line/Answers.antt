@@ -16,10 +16,11 @@ returns-in-Some-clause-ended g c =
           both_go (OnPort g.M.Machine.is_bound g.M.Link.Link.failures g.M.Link.Link.calls) _ _ _ _ c.loop.invariant c.in_ok-begin_more.ensures.goes;
       taken = end_taken c.args.place c.take_end.result c.in-Some.end _ _ c.in-Some.is c.take_end.ensures;
       same = refl;
+      fleet = refl;
     }
 
 pub loop-preserved : goal.loop-preserved
 loop-preserved g c =
-    goes_on (OnPort g.M.Machine.is_bound g.M.Link.Link.failures g.M.Link.Link.calls) _ _ _ _ _ _
+    goes_on (OnPort g.M.Machine.is_bound g.M.Link.Link.failures g.M.Link.Link.calls) _ _ _ _ _ _ _
     (both_go (OnPort g.M.Machine.is_bound g.M.Link.Link.failures g.M.Link.Link.calls) _ _ _ _ c.loop.invariant c.in_ok-begin_more.ensures.goes)
     (none_taken c.args.place c.take_end.result _ _ c.in_default.not-Some c.take_end.ensures) c.in_ok-go_on.ensures.went

@@ -1,20 +1,27 @@
--- A turn was taken, or no time was left for it, or nothing is under way.
-use Rattle.std.proofs.Common.{inl, inr}
-use Rattle.bac_command_line.proofs.InFlight.{goes_so, none_to_go, one_flies}
+-- Those that leave went on, and then the one that asks.
+use Rattle.std.proofs.Common.{arith}
+use Rattle.bac_command_line.specs.Online.{OnPort}
+use Rattle.bac_command_line.proofs.InFlight.{both_nodes, if_ok, none_to_go}
 use Rattle.bac_command_line.proofs.window.go_on.Goals as goal
 
-pub returns-in_default-clause-went : goal.returns-in_default-clause-went
-returns-in_default-clause-went g c = none_to_go _ c.first_patience.result c.first_patience.ensures c.in_default.not-Some
+pub loop-at-init : goal.loop-at-init
+loop-at-init g c =
+    record {
+      went = none_to_go (OnPort g.M.Machine.is_bound g.M.Link.Link.failures g.M.Link.Link.calls) _;
+      within = omega (arith, c.len.ensures);
+    }
 
-pub returns-in-Ok-Some-clause-went : goal.returns-in-Ok-Some-clause-went
-returns-in-Ok-Some-clause-went g c =
-    goes_so _ _ c.first_patience.result c.in-Some.wait_limit c.first_patience.ensures c.in-Some.is
-    (inl (record { turn = c.in-Ok-Some.turn; takes = rw c.in-Ok-Some.field-0-is at c.in-Ok-Some.ensures.taken; noted = c.note_turn.ensures }))
+pub loop-at-preserved : goal.loop-at-preserved
+loop-at-preserved g c =
+    record {
+      went =
+          both_nodes (OnPort g.M.Machine.is_bound g.M.Link.Link.failures g.M.Link.Link.calls) _ _ _ c.loop-at.invariant.went
+          c.in_ok-go_on_at.ensures.went;
+      within = c.in_ok-go_on_at.ensures.others;
+    }
 
-pub give_up_first-requires : goal.give_up_first-requires
-give_up_first-requires g c = one_flies _ c.first_patience.result c.in-Some.wait_limit c.first_patience.ensures c.in-Some.is
-
-pub returns-in-Ok-None-clause-went : goal.returns-in-Ok-None-clause-went
-returns-in-Ok-None-clause-went g c =
-    goes_so _ _ c.first_patience.result c.in-Some.wait_limit c.first_patience.ensures c.in-Some.is
-    (inr (record { over = rw c.in-Ok-None.field-0-is at c.in-Ok-None.ensures.taken; closed = c.give_up_first.ensures }))
+pub returns-clause-went : goal.returns-clause-went
+returns-clause-went g c =
+    if_ok c.go_on_here.result _ _
+    (λ here. both_nodes (OnPort g.M.Machine.is_bound g.M.Link.Link.failures g.M.Link.Link.calls) _ _ _ c.loop-at.invariant.went here)
+    c.go_on_here.ensures.went

@@ -1,12 +1,22 @@
 -- The next node is on a link that was bound, beside the same clock.
-use Rattle.std.proofs.Common.{refl, sym, ap, ◌∙◌}
+use Rattle.std.proofs.Common.{refl, sym, ap, subst, ◌∙◌}
+use Rattle.bac_driver.specs.BoundNodes.{BoundNode}
+use Rattle.bac_driver.specs.Runs.{timed}
 use Rattle.bac_world.specs.Node.{Node}
+use Rattle.bac_command_line.specs.Clients.{IsRenewed}
+use Rattle.bac_command_line.specs.Online.{OnPort}
 use Rattle.bac_command_line.proofs.client.Client.renew.Goals as goal
 
 pub returns-clause-renewed : goal.returns-clause-renewed
 returns-clause-renewed g c =
     let bound = c.in-Ok.bound in
-    record {
+    let told = g.M.Timer.Clock.told c.args.self.now.station.clock in
+    subst
+    (λ (b : BoundNode).
+    IsRenewed (OnPort g.M.Machine.is_bound g.M.Link.Link.failures g.M.Link.Link.calls) c.args.host (timed c.args.self.now.station.bound_node told)
+    (timed b told))
+    (sym c.replace.ensures.after)
+    (record {
       client =
           record {
             first_id = bound.pair.first_id;
@@ -34,4 +44,4 @@ returns-clause-renewed g c =
           (sym (ap (λ (n : Node). n.link) c.in-Ok-bound_client.ensures.node)
           ∙ (same ∙ sym (c.link-own.ensures ∙ ap (λ (n : Node). n.link) c.node-node.ensures)));
       told = refl;
-    }
+    })
