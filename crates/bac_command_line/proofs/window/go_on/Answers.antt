@@ -8,7 +8,7 @@ pub loop-at-init : goal.loop-at-init
 loop-at-init g c =
     record {
       went = none_to_go (OnPort g.M.Machine.is_bound g.M.Link.Link.failures g.M.Link.Link.calls) _;
-      within = omega (arith, c.len.ensures);
+      within = omega (arith, c.len-at.ensures);
     }
 
 pub loop-at-preserved : goal.loop-at-preserved

@@ -23,13 +23,13 @@ returns-clause-went g c =
     (λ noted.
     leaving_went (OnPort g.M.Machine.is_bound g.M.Link.Link.failures g.M.Link.Link.calls) c.args.at c.number_at-node.result _ c.in-Some.first
     c.turn_at-turn.result _ _ _ _ _ _ _ c.number_at-node.ensures (sym c.first_patience.ensures ∙ c.in-Some.is) c.leaving_limit-wait_limit.ensures
-    c.turn_at-turn.ensures noted)
+    c.turn_at-turn.ensures.taken noted)
     c.note.ensures.noted
 
 pub returns-clause-others : goal.returns-clause-others
 returns-clause-others g c =
     if_ok c.note.result _ _
     (λ noted.
-    let same = as_many_leave c.args.at _ c.number_at-node.result c.turn_at-turn.result _ _ _ _ _ _ c.turn_at-turn.ensures noted in
+    let same = as_many_leave c.args.at _ c.number_at-node.result c.turn_at-turn.result _ _ _ _ _ _ c.turn_at-turn.ensures.taken noted in
     omega (arith, same, c.requires))
     c.note.ensures.noted
