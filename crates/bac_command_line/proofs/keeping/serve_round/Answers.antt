@@ -10,7 +10,7 @@ returns g c =
     let set = c.set.ensures in
     served_so g.K.Keeper.IsHonest g.K.Keeper.IsOpen g.K.Keeper.kept g.K.Keeper.noted g.K.Keeper.base _ _
     (OnPort g.M.Machine.is_bound g.M.Link.Link.failures g.M.Link.Link.calls) (OnClock g.M.Machine.is_made g.M.Timer.Clock.told) _ _ c.now-start.result
-    c.restart-restart.result c.in-Ok.bound.1 _ _ _ _ c.serve_kept_from.result c.restart-restart.ensures
+    c.restart-restart.result c.in-Ok.bound.1 _ _ _ _ c.serve_kept_from-status.result c.restart-restart.ensures
     (ap (λ (b : BoundNode). b.node) set ∙ c.in-Ok-bound_server.ensures.node)
     (record {
       link = c.in-Ok.bound.0;
@@ -23,5 +23,5 @@ returns g c =
       made = record { timer = c.in-Some.timer; made = c.in-Some.ensures; is = refl };
       is = c.now-start.ensures.tells;
     })
-    (ap (λ (b : BoundNode). b.reuse) set) c.serve_kept_from.ensures.printed c.serve_kept_from.ensures.all c.serve_kept_from.ensures.honest
-    c.serve_kept_from.ensures.base
+    (ap (λ (b : BoundNode). b.reuse) set) c.serve_kept_from-status.ensures.printed c.serve_kept_from-status.ensures.all c.serve_kept_from-status.ensures.honest
+    c.serve_kept_from-status.ensures.base

@@ -3,7 +3,7 @@ use Rattle.bac_command_line.proofs.rounds.ask_by_client.Goals as goal
 
 pub returns : goal.returns
 returns g c =
-    lifted c.ask_and_report.result
+    lifted c.ask_and_report-status.result
     (λ a. record { before = _; after = _; client = c.in-Ok.ensures.node; clock = c.in-Ok.ensures.clock; rounds = a })
     (λ a. record { before = _; after = _; client = c.in-Ok.ensures.node; clock = c.in-Ok.ensures.clock; rounds = a }) (λ n. n)
-    c.ask_and_report.ensures
+    c.ask_and_report-status.ensures
