@@ -284,10 +284,10 @@ def as_installed(job, machine, asking, told, folder):
 
 def as_edited(job, machine, asking, told, folder):
     """The words of `systemctl edit`: it is asked from the other host, and keeps what is written when it is killed."""
-    editor = Path(machine.root, 'root/editor')
+    editor = Path(machine.root, 'usr/bin/unit-editor')
     editor.write_text(f"#!/bin/sh\nfor file; do :; done\ncat > \"$file\" << 'END'\n{job.edit}END\n")
     editor.chmod(0o755)
-    status, said = on_terminal(machine.words(['env', 'SYSTEMD_EDITOR=/root/editor', 'systemctl', 'edit', 'bac']))
+    status, said = on_terminal(machine.words(['env', 'SYSTEMD_EDITOR=/usr/bin/unit-editor', 'systemctl', 'edit', 'bac']))
     told.check('systemctl edit bac', status == 0, said)
     following = commands_of(job, machine, told, folder)
     number, words, _ = machine.server()
