@@ -1,4 +1,4 @@
-"""A list of one `bac serve` and of nodes that do not answer, asked by one `bac ask`: each silent node holds up its own lines alone.
+"""A list of one `bac serve` and of nodes that do not answer, asked by one `bac ask`: a silent node stops no other node's lines, but slows them.
 
     python3 tests/outside/silent.py PROGRAM [LINES [SILENT [TIMEOUT]]]
 
