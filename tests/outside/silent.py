@@ -1,11 +1,11 @@
-"""A list of one `bac serve` and of nodes that do not answer, asked by one `bac ask`: a silent node stops no other node's lines, but slows them.
+"""A list of one `bac serve` and of nodes that do not answer, asked by one `bac ask`: a silent node holds up its own lines alone.
 
     python3 tests/outside/silent.py PROGRAM [LINES [SILENT [TIMEOUT]]]
 
 So many lines ask the server, far more than a client has invoke IDs for it, and among them are twelve lines for each silent node (sockets of this script, which
 take what comes and say nothing), three times its share of the window. It prints how the lines ended, how long all answers took, with the silent nodes and without
 them, and how long the whole list took; the status is 1 where a line of the server is not answered, a line of a silent node ends otherwise than by `no ending`, or
-the answers took half of a silent node's wait longer for each 256 lines, the invoke IDs of a client, than without silent nodes."""
+the answers took a millisecond longer for each line than without silent nodes."""
 
 import collections
 import csv
@@ -70,7 +70,7 @@ def main(program, count=2000, silent=4, timeout=3):
     beside = seconds_of_answers(rows)
     told = ' '.join(f'{status.replace(" ", "-")}={number}' for status, number in sorted(counts.items()))
     print(f'lines={len(rows)} silent={silent} {told} answers-alone={alone:.1f}s answers-beside={beside:.1f}s whole={whole:.1f}s')
-    if counts != {'answered': count, 'no ending': len(dead)} or beside > alone + count / 256 * timeout / 2 or complaints:
+    if counts != {'answered': count, 'no ending': len(dead)} or beside > alone + count / 1000 or complaints:
         print(f'WRONG: {complaints!r}')
         return 1
     return 0

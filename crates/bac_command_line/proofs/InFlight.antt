@@ -104,15 +104,10 @@ pub if_ok : {A E : Type 0} (r : Result A E) (P Q : Type 0) → (P → Q) → IfO
 if_ok (Ok a) P Q so held = so held
 if_ok (Err e) P Q so held = tt
 
-pub always_ok : {A E : Type 0} (r : Result A E) (Q : Type 0) → Q → IfOk r (λ a. Q)
-always_ok (Ok a) Q held = held
-always_ok (Err e) Q held = tt
-
--- those before a place stay where that one is taken out
-pub still_before : {A : Type 0} (xs : List A) (i : ℕ) → i < length xs → i ≤ length (remove xs i)
-still_before [] i within = absurd (omega (arith, within))
-still_before (x ∷ xs) zero within = omega arith
-still_before (x ∷ xs) (suc i) within = let more = still_before xs i (omega (arith, within)) in omega (arith, more)
+-- the same, of something that is said of what it gave
+pub if_ok_so : {A E : Type 0} (r : Result A E) (P : Type 0) (Q : A → Type 0) → (P → (a : A) → Q a) → IfOk r (λ a. P) → IfOk r Q
+if_ok_so (Ok a) P Q so held = so held a
+if_ok_so (Err e) P Q so held = tt
 
 -- it was taken, or it was too late for one, and so it was noted
 pub turned : (node : ℕ) (p : WaitLimit) (turn : Option Turn) (before after : Timed) (old new : Sky) → IsTurnOr p turn before after

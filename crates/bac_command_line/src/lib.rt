@@ -35,6 +35,7 @@ mod peer_file;
 mod peers;
 mod reasons;
 mod recording;
+mod rota;
 mod rounds;
 mod seconds;
 mod selecting;

@@ -1,5 +1,5 @@
 //! Requests of lines, several at once: what `ask --lines --window` does.
-ghost use Rattle.std.specs.Prelude.{◌≡◌, ◌<◌, ◌≤◌, length, IfErr, IfOk};
+ghost use Rattle.std.specs.Prelude.{◌≡◌, ◌<◌, length, IfErr, IfOk, IsTrue};
 ghost use Rattle.bac_driver.specs.Runs.{timed};
 ghost use Rattle.bac_driver.specs.Views.{question_view};
 ghost use Rattle.bac_text.specs.Statuses.{IsFailure};
@@ -17,6 +17,7 @@ use crate::flights::{Begun, Flights};
 use crate::online::Machine;
 use crate::peers::share_of;
 use crate::recording::Printer;
+use crate::rota::{IN_A_ROW, Rota};
 use crate::station::Station;
 use bac_commands::{CommandError, clock_fault, link_fault};
 use bac_driver::{AskEnd, Clock, Link, Question, Turn, TurnFault, WaitLimit};
@@ -45,6 +46,8 @@ pub(crate) struct Traffic<L: Link> {
     /// The one that asks, by its number, and those that leave.
     pub fleet: Fleet<L>,
     pub flights: Flights,
+    /// Whose turn it is among them.
+    pub rota: Rota,
 }
 
 /// So many milliseconds a turn waits at the most while nodes leave, since each of them is to have its turn.
@@ -200,58 +203,67 @@ fn own_limit(leaving: usize, first: &WaitLimit) -> WaitLimit
     within(BRIEF, first)
 }
 
-/// What came of a turn of a node is noted: how tickets ended, or that no time was left for its first ask. Where the node at that address could take none, `err`
-/// and the status say so.
+/// Whether something came of a turn, so that there may be more at once: a datagram came, or no time was left for the turn.
+fn is_busy(turn: &Option<Turn>) -> bool {
+    match turn {
+        Some(turn) => turn.received.is_some(),
+        None => true,
+    }
+}
+
+/// What came of a turn of a node is noted: how tickets ended, or that no time was left for its first ask. Answers whether something did. Where the node at that
+/// address could take none, `err` and the status say so.
 fn note<E: Write>(
     node: u64,
     own: LinkAddress,
     turn: Result<Option<Turn>, TurnFault>,
     flights: &mut Flights,
     err: &mut E,
-) -> Result<(), Status>
+) -> Result<bool, Status>
     ensures noted { IfOk result (λ _. IsNoted node turn (sky flights.old) (sky flights.new)) }
     ensures failed { IfErr result IsFailure }
 {
     match turn {
         Ok(turn) => {
+            let is_busy = is_busy(&turn);
             flights.note_turn(node, turn);
-            Ok(())
+            Ok(is_busy)
         }
         Err(fault) => Err(CommandError::from(fault).report_at(own, err)),
     }
 }
 
-/// How long a turn of the node at that place among those that leave waits. The node that asks waits in their place, where asks of it are under way; otherwise
-/// the first of them does.
-fn leaving_limit(at: usize, is_idle: bool, first: &WaitLimit) -> WaitLimit
+/// How long a turn of a node that leaves waits. The node that asks waits in its place, where asks of that one are under way.
+fn leaving_limit(is_idle: bool, first: &WaitLimit) -> WaitLimit
     ensures { IsWithin result first.now }
 {
-    let wait = if is_idle && at == 0 { BRIEF } else { 0 };
+    let wait = if is_idle { BRIEF } else { 0 };
     within(wait, first)
 }
 
 /// The node at that place among those that leave takes a turn, and how tickets ended in it is noted. Where no time is left for its first ask, that is waited
-/// for no longer; where none of its asks is under way, it is given traffic.
+/// for no longer; where none of its asks is under way, it is given up. Answers whether something came of a turn.
 fn go_on_at<M: Machine, E: Write>(
     client: &mut Client<'_, M>,
     traffic: &mut Traffic<M::Link>,
     at: usize,
     err: &mut E,
-) -> Result<(), Status>
+) -> Result<bool, Status>
     requires { at < length traffic.old.fleet.leaving }
     ensures went { IfOk result (λ _. NodesGo (OnPort M.is_bound M.Link.failures M.Link.calls)
         (aloft (timed client.old.station.bound_node (M.Timer.told client.old.station.clock)) traffic.old.fleet (sky traffic.old.flights))
         (aloft (timed client.new.station.bound_node (M.Timer.told client.new.station.clock)) traffic.new.fleet (sky traffic.new.flights))) }
-    ensures others { IfOk result (λ _. at ≤ length traffic.new.fleet.leaving) }
+    ensures stays { IfOk result (λ busy. IsTrue busy → at < length traffic.new.fleet.leaving) }
     ensures failed { IfErr result IsFailure }
 {
     let node = traffic.fleet.number_at(at);
     let Some(first) = traffic.flights.first_patience(node) else {
         let leaving = traffic.fleet.remove(at);
-        return client.part_with(leaving.bound_node(), err);
+        client.part_with(leaving.bound_node(), err)?;
+        return Ok(false);
     };
     let is_idle = traffic.flights.is_idle(traffic.fleet.number());
-    let wait_limit = leaving_limit(at, is_idle, &first);
+    let wait_limit = leaving_limit(is_idle, &first);
     let own = traffic.fleet.link_at(at);
     let turn = traffic
         .fleet
@@ -261,12 +273,12 @@ fn go_on_at<M: Machine, E: Write>(
 }
 
 /// The node that asks takes a turn, and how tickets ended in it is noted. Where no time is left for its first ask, that is waited for no longer; where none of
-/// its asks is under way, nothing happens.
+/// its asks is under way, nothing happens. Answers whether something came of a turn.
 fn go_on_here<M: Machine, E: Write>(
     client: &mut Client<'_, M>,
     traffic: &mut Traffic<M::Link>,
     err: &mut E,
-) -> Result<(), Status>
+) -> Result<bool, Status>
     ensures went { IfOk result (λ _. NodesGo (OnPort M.is_bound M.Link.failures M.Link.calls)
         (aloft (timed client.old.station.bound_node (M.Timer.told client.old.station.clock)) traffic.old.fleet (sky traffic.old.flights))
         (aloft (timed client.new.station.bound_node (M.Timer.told client.new.station.clock)) traffic.new.fleet (sky traffic.new.flights))) }
@@ -274,7 +286,7 @@ fn go_on_here<M: Machine, E: Write>(
 {
     let node = traffic.fleet.number();
     let Some(first) = traffic.flights.first_patience(node) else {
-        return Ok(());
+        return Ok(false);
     };
     let wait_limit = own_limit(traffic.fleet.len(), &first);
     let station = &mut client.station;
@@ -286,7 +298,29 @@ fn go_on_here<M: Machine, E: Write>(
     note(node, own, turn, &mut traffic.flights, err)
 }
 
-/// Each node that leaves goes on, and then the one that asks.
+/// The node at that place among those that leave takes turns as long as something comes of them, but at most so many in a row as any.
+fn visit<M: Machine, E: Write>(
+    client: &mut Client<'_, M>,
+    traffic: &mut Traffic<M::Link>,
+    at: usize,
+    err: &mut E,
+) -> Result<(), Status>
+    requires { at < length traffic.old.fleet.leaving }
+    ensures went { IfOk result (λ _. NodesGo (OnPort M.is_bound M.Link.failures M.Link.calls)
+        (aloft (timed client.old.station.bound_node (M.Timer.told client.old.station.clock)) traffic.old.fleet (sky traffic.old.flights))
+        (aloft (timed client.new.station.bound_node (M.Timer.told client.new.station.clock)) traffic.new.fleet (sky traffic.new.flights))) }
+    ensures failed { IfErr result IsFailure }
+{
+    for _ in 0..IN_A_ROW {
+        let is_busy = go_on_at(client, traffic, at, err)?;
+        if !is_busy {
+            return Ok(());
+        }
+    }
+    Ok(())
+}
+
+/// The node that asks goes on, and then one of those that leave, where it is the turn of one.
 fn go_on<M: Machine, E: Write>(
     client: &mut Client<'_, M>,
     traffic: &mut Traffic<M::Link>,
@@ -297,10 +331,12 @@ fn go_on<M: Machine, E: Write>(
         (aloft (timed client.new.station.bound_node (M.Timer.told client.new.station.clock)) traffic.new.fleet (sky traffic.new.flights))) }
     ensures failed { IfErr result IsFailure }
 {
-    for at in (0..traffic.fleet.len()).rev() {
-        go_on_at(client, traffic, at, err)?;
+    let is_busy = go_on_here(client, traffic, err)?;
+    let leaving = traffic.fleet.len();
+    match traffic.rota.after(is_busy, leaving) {
+        Some(at) => visit(client, traffic, at, err),
+        None => Ok(()),
     }
-    go_on_here(client, traffic, err)
 }
 
 /// A client asks until the ask of the line at that place among all has ended. Answers how it did.
@@ -445,6 +481,7 @@ pub(crate) fn ask_ahead<M: Machine, O: Write, E: Write>(
     let mut traffic = Traffic {
         fleet: Fleet::new(alloc),
         flights,
+        rota: Rota::new(),
     };
     let mut all = true;
     for place in 0..lines.len() {

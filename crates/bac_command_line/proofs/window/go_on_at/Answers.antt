@@ -2,20 +2,14 @@
 use Rattle.std.proofs.Common.{sym, ap, ◌∙◌, arith}
 use Rattle.bac_driver.specs.Runs.{timed}
 use Rattle.bac_command_line.specs.Online.{OnPort}
-use Rattle.bac_command_line.proofs.InFlight.{always_ok, as_many_leave, if_ok, leaving_went, left_so, still_before}
+use Rattle.bac_command_line.proofs.InFlight.{as_many_leave, if_ok, if_ok_so, leaving_went, left_so}
 use Rattle.bac_command_line.proofs.window.go_on_at.Goals as goal
 
 pub returns-in_default-clause-went : goal.returns-in_default-clause-went
 returns-in_default-clause-went g c =
-    always_ok c.part_with.result _
-    (left_so (OnPort g.M.Machine.is_bound g.M.Link.Link.failures g.M.Link.Link.calls) c.args.at c.number_at-node.result c.first_patience.result _ _ _ _ _
+    left_so (OnPort g.M.Machine.is_bound g.M.Link.Link.failures g.M.Link.Link.calls) c.args.at c.number_at-node.result c.first_patience.result _ _ _ _ _
     c.number_at-node.ensures c.first_patience.ensures c.in_default.not-Some c.remove-leaving.ensures
-    (ap (λ s. timed s.bound_node (g.M.Timer.Clock.told s.clock)) c.part_with.ensures.same))
-
-pub returns-in_default-clause-others : goal.returns-in_default-clause-others
-returns-in_default-clause-others g c =
-    let less = still_before c.args.traffic.now.fleet.leaving c.args.at c.requires in
-    always_ok c.part_with.result _ (rw c.remove-leaving.ensures less)
+    (ap (λ s. timed s.bound_node (g.M.Timer.Clock.told s.clock)) c.in_ok-part_with.ensures.same)
 
 pub returns-clause-went : goal.returns-clause-went
 returns-clause-went g c =
@@ -26,10 +20,10 @@ returns-clause-went g c =
     c.turn_at-turn.ensures.taken noted)
     c.note.ensures.noted
 
-pub returns-clause-others : goal.returns-clause-others
-returns-clause-others g c =
-    if_ok c.note.result _ _
-    (λ noted.
+pub returns-clause-stays : goal.returns-clause-stays
+returns-clause-stays g c =
+    if_ok_so c.note.result _ _
+    (λ noted busy is.
     let same = as_many_leave c.args.at _ c.number_at-node.result c.turn_at-turn.result _ _ _ _ _ _ c.turn_at-turn.ensures.taken noted in
     omega (arith, same, c.requires))
     c.note.ensures.noted

@@ -1,16 +1,16 @@
--- What has happened so far; the nodes that have not had their turn still leave.
-use Rattle.std.proofs.Common.{◌≤◌, length}
+-- What has happened so far; the node still leaves.
+use Rattle.std.proofs.Common.{◌<◌, length}
 use Rattle.bac_driver.specs.Runs.{timed}
 use Rattle.bac_command_line.specs.InFlight.{NodesGo, aloft, sky}
 use Rattle.bac_command_line.specs.Online.{OnPort}
-use Rattle.bac_command_line.proofs.window.go_on.Given as goal
+use Rattle.bac_command_line.proofs.window.visit.Given as goal
 
-abbrev pub invariant-loop-at : goal.invariant-loop-at
-invariant-loop-at g l =
+abbrev pub invariant-loop : goal.invariant-loop
+invariant-loop g l =
     record {
       went :
           NodesGo (OnPort g.M.Machine.is_bound g.M.Link.Link.failures g.M.Link.Link.calls)
           (aloft (timed l.fn.client.station.bound_node (g.M.Timer.Clock.told l.fn.client.station.clock)) l.fn.traffic.fleet (sky l.fn.traffic.flights))
           (aloft (timed l.client.station.bound_node (g.M.Timer.Clock.told l.client.station.clock)) l.traffic.fleet (sky l.traffic.flights));
-      within : l.at ≤ length l.traffic.fleet.leaving;
+      within : l.at < length l.traffic.fleet.leaving;
     }
