@@ -78,7 +78,8 @@ pub(crate) fn reader_of<F: OpenFiles, E: Write>(
 /// What `explain` takes, and what charts take.
 pub(crate) const CAPTURES_TAKEN: &str = "explain reads pcap and pcapng";
 
-const CHARTS_TAKEN: &str = "explain reads pcap and pcapng, and one chart has at most 16 peers";
+const CHARTS_TAKEN: &str =
+    "explain reads pcap and pcapng, and draws more than 16 peers with --pairs";
 
 /// What is told of a script that is not run.
 const NOTHING_HAPPENED: &str = "no event happened";

@@ -99,7 +99,7 @@ fn with_commands<'a>(
 /// The program with those of its commands that need no link.
 fn with_offline<'a>(alloc: Global) -> Result<Command<'a>, clap::Error> {
     let bac = Command::new(alloc, "bac")
-        .about("BACnet confirmed services, proved")
+        .about("BACnet confirmed services")
         .subcommand_required(true)
         .disable_help_subcommand(true);
     with_commands(alloc, bac, offline())

@@ -89,7 +89,7 @@ fn write_names<O: Write>(out: &mut O, grammars: &[Grammar]) -> io::Result<()> {
 
 /// Writes all commands.
 fn write_all_commands<O: Write>(out: &mut O) -> io::Result<()> {
-    out.writeln("BACnet confirmed services, proved: bac COMMAND WORDS..")?;
+    out.writeln("BACnet confirmed services: bac COMMAND WORDS..")?;
     out.write_all(b"\n")?;
     write_names(out, offline())?;
     write_names(out, of_servers())?;

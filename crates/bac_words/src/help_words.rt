@@ -9,7 +9,7 @@ const HELP: &[Word] = &[
         form: WordForm::Bare,
         need: Need::Never,
         against: &["man"],
-        help: "The command to tell of; without it, all commands are listed",
+        help: "The command to explain; without it, all commands are listed",
     },
     Word {
         name: "man",
@@ -24,7 +24,7 @@ const HELP: &[Word] = &[
 const TOLD: &[Grammar] = &[
     Grammar {
         name: "help",
-        about: "Tells of a command: what it does, what its words mean, and examples",
+        about: "Explains a command: what it does, what its words mean, and examples",
         after: "Example: bac help ask\nExample: bac help --man > bac.1",
         words: HELP,
     },

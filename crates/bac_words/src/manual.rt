@@ -11,7 +11,7 @@ use std::io::Write;
 const HEAD: &str = ".\\\" made by `bac help --man`: change the table of commands, and make it again
 .TH BAC 1
 .SH NAME
-bac \\- BACnet confirmed services, proved
+bac \\- BACnet confirmed services
 .SH SYNOPSIS
 .B bac
 COMMAND WORDS..

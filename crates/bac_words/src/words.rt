@@ -65,7 +65,7 @@ const ANSWER: &[Word] = &[
         form: WordForm::Text("FILE"),
         need: Need::Never,
         against: &[],
-        help: "The node's objects, as a TOML document; by default those of the house",
+        help: "The node's objects, as a TOML document; by default an example, a device and four objects",
     },
 ];
 
@@ -437,7 +437,7 @@ const SERVE: &[Word] = &[
         form: WordForm::Flag,
         need: Need::Never,
         against: &[],
-        help: "Lets no client use an invoke ID again within 65 seconds: an equal request gets the old answer, another one is refused. So it is with --turns",
+        help: "Lets no client use an invoke ID again within 65 seconds: an equal request gets the old answer, another one is refused. --turns implies it",
     },
     Word {
         name: "reuse",
@@ -451,7 +451,7 @@ const SERVE: &[Word] = &[
         form: WordForm::Number("S", 65),
         need: Need::Never,
         against: &["strict"],
-        help: "An equal request gets the old answer for S seconds, 1 to 65, and is then performed again: for clients that ask all under one invoke ID. 65 by default; with --turns only beside --reuse",
+        help: "An equal write gets the old answer for S seconds, 1 to 65, and is then performed again: for clients that ask all under one invoke ID. 65 by default; with --turns only beside --reuse",
     },
     Word {
         name: "memory",
@@ -465,7 +465,7 @@ const SERVE: &[Word] = &[
         form: WordForm::Text("FILE"),
         need: Need::Never,
         against: &[],
-        help: "The node's objects, as a TOML document; by default those of the house",
+        help: "The node's objects, as a TOML document; by default an example, a device and four objects",
     },
     Word {
         name: "keep",
@@ -479,7 +479,7 @@ const SERVE: &[Word] = &[
         form: WordForm::Flag,
         need: Need::Never,
         against: &[],
-        help: "Logs each datagram that arrives, and what was done for it, on standard error",
+        help: "Logs each datagram that arrives, whole, and what was done for it, on standard error; --log-level can log less, and shortens long lines",
     },
     Word {
         name: "log-level",
@@ -572,7 +572,7 @@ Example: bac ask --to 192.168.1.20 --text --every 60 read analog-input:5 present
 Example: bac ask --to 192.168.1.20 --lines points.txt --csv --every 60 --times 60
 Example: bac ask --to 192.168.1.20 --json read analog-input:5 present-value
 Example: bac ask --port 47808 put file:1 0 @log.bin
-Example: bac ask --port 47808 --raw get file:1 0 1000 > log.bin
+Example: bac ask --port 47808 --raw get file:1 > log.bin
 Example: bac ask --port 47808 --out log.bin get file:1
 Example: bac ask --port 47808 put file:1 @log.bin";
 
@@ -723,7 +723,7 @@ pub(crate) const OFFLINE: &[Grammar] = &[
 pub(crate) const SERVING: &[Grammar] = &[
     Grammar {
         name: "serve",
-        about: "Serves a house over UDP, and prints how many requests it performed",
+        about: "Serves a device over UDP, and prints how many requests it performed",
         after: SERVE_EXAMPLES,
         words: SERVE,
     },
