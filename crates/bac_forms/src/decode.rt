@@ -116,6 +116,9 @@ fn print_misfit<E: Write>(
             let character = char::from(octet);
             writeln!(err, "'{character}' does not fit")
         }
+        Some(b' ') => err.writeln("a blank does not fit"),
+        Some(b'\t') => err.writeln("a tab does not fit"),
+        Some(b'\r' | b'\n') => err.writeln("the line ends too early"),
         Some(octet) => writeln!(err, "the octet {octet:02X} does not fit"),
         None => err.writeln("the text ends too early"),
     }
@@ -135,12 +138,20 @@ fn refuse<E: Write>(form: Form, fault: FormFault, err: &mut E) -> Status
     }
 }
 
+/// Tells that a text has no datagram, where there is one of more than blanks.
+fn tell_none<E: Write>(text: &[u8], datagrams: &[Vec<u8>], err: &mut E) {
+    if datagrams.is_empty() && !text.iter().all(|octet| octet.is_ascii_whitespace()) {
+        // if that fails too, only the status is left
+        let _ = err.writeln("no datagram");
+    }
+}
+
 /// Prints the layers of the datagrams of a text in that form, as `bac_text::decode_text_over` does of each; each behind a line `datagram N`, from 1 on, where they
 /// are numbered. With `frames` each is the datagram in a frame of Ethernet, from or to a UDP port of BACnet/IP; of another frame a line `frame: ` says why it has
 /// none, which counts as a fault.
 ///
 /// Ends with `Faulty` where one has a fault. Where a character of the text does not fit the form nothing is printed but `bad escaped`, with the form's name, and the
-/// line, the column and the character on `err`. Out of memory: `no memory` on `err`. `Output` where `out` cannot be written.
+/// line, the column and the character on `err`; where it has no datagram, and more than blanks, `no datagram` on `err`. Out of memory: `no memory` on `err`. `Output` where `out` cannot be written.
 pub fn decode_form_over<O: Write, E: Write>(
     alloc: Global,
     form: Form,
@@ -155,6 +166,7 @@ pub fn decode_form_over<O: Write, E: Write>(
         Ok(datagrams) => datagrams,
         Err(fault) => return refuse(form, fault, err),
     };
+    tell_none(text, &datagrams, err);
     match print_all(alloc, printing, &datagrams, out) {
         Ok(status) => status,
         Err(error) => {
