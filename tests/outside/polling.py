@@ -2,17 +2,18 @@
 
     python3 tests/outside/polling.py PROGRAM [SERVERS [DEAD [ROUNDS [POINTS]]]]
 
-Each server is a process of its own at an address of 127.0.0.0/8; the last of them are never started. One list has so many points of each, server after server, and
-is asked in rounds, one a second. It prints how many lines were answered and how many were not, how long after the round before the rounds began, and how long the
-live servers' lines took in the first one; the status is 1 where a line of a live server was not answered, one of a dead one was, or lines are missing or out of
-order."""
+Each server is a process of its own at an address of 127.0.0.0/8; the first of them, and the last ones, are never started: so many are dead. One list has so many
+points of each, server after server, and is asked in rounds, one a second. It prints how many lines were answered and how many were not, how long after the round
+before the rounds began, and how long the answers of a round took, from the first to the last, at the most; the status is 1 where a line of a live server was not
+answered, one of a dead one was, or lines are missing or out of order."""
 
 import collections
+import csv
+import datetime
 import re
 import subprocess
 import sys
 import tempfile
-import time
 
 PORT = 47808
 POINTS = ['analog-input:5 present-value', 'analog-value:1 present-value', 'device:1 object-name']
@@ -29,10 +30,10 @@ def list_of(servers, points):
     return ''.join(f'@{address_of(place)} read {POINTS[point % len(POINTS)]}\n' for place in range(servers) for point in range(points))
 
 
-def started(program, servers, seconds):
-    """The processes of the servers, once each listens."""
+def started(program, places, seconds):
+    """The processes of the servers at these places, once each listens."""
     found = []
-    for place in range(servers):
+    for place in places:
         words = [program, 'serve', '--port', str(PORT), '--at', address_of(place), '--seconds', str(seconds)]
         found.append(subprocess.Popen(words, stdout=subprocess.DEVNULL, stderr=subprocess.PIPE, text=True))
     for process in found:
@@ -42,24 +43,30 @@ def started(program, servers, seconds):
 
 
 def rounds_of(process, lines):
-    """For each round how its lines ended, and when its first and last came."""
+    """The rows of each round, and those that are left over."""
     found, current = [], []
-    for line in process.stdout:
-        current.append((time.monotonic(), line.rstrip('\n').split(': ', 1)))
+    for row in csv.DictReader(process.stdout):
+        current.append(row)
         if len(current) == lines:
             found.append(current)
             current = []
     return found, current
 
 
+def times_of(rows):
+    """When these lines were answered, in seconds."""
+    return [datetime.datetime.fromisoformat(row['time']).timestamp() for row in rows if row['status'] == 'answered']
+
+
 def main(program, servers=200, dead=2, rounds=10, points=1):
-    lines, alive = servers * points, servers - dead
-    processes = started(program, alive, 60 + rounds * 10)
+    lines = servers * points
+    first, last = min(dead, 1), servers - max(dead - 1, 0)
+    processes = started(program, range(first, last), 60 + rounds * 10)
     try:
         with tempfile.NamedTemporaryFile('w', suffix='.txt') as file:
             file.write(list_of(servers, points))
             file.flush()
-            words = ['--text', '--timeout', str(TIMEOUT), '--window', '64', '--every', '1', '--times', str(rounds), '--lines', file.name]
+            words = ['--csv', '--timeout', str(TIMEOUT), '--window', '64', '--every', '1', '--times', str(rounds), '--lines', file.name]
             asking = subprocess.Popen([program, 'ask', *words], stdout=subprocess.PIPE, stderr=subprocess.PIPE, text=True)
             found, left = rounds_of(asking, lines)
             # with a dead server a round takes as long as its timeout, so later ones say that they are late
@@ -71,16 +78,17 @@ def main(program, servers=200, dead=2, rounds=10, points=1):
             process.wait()
     counts, wrong = collections.Counter(), 0
     for current in found:
-        for place, (_, (number, ended)) in enumerate(current):
-            is_alive = place // points < alive
-            counts['answered' if ended.startswith('answered') else ended] += 1
-            wrong += int(number) != place + 1 or ended.startswith('answered') != is_alive
-    begins = [current[0][0] for current in found]
+        for place, row in enumerate(current):
+            server = place // points
+            counts[row['status']] += 1
+            wrong += not row['peer'].startswith(address_of(server) + ':') or (row['status'] == 'answered') != (first <= server < last)
+    answers = [times_of(current) for current in found]
+    begins = [min(times) for times in answers if times]
     gaps = [later - before for before, later in zip(begins, begins[1:])]
     told = ' '.join(f'{kind.replace(" ", "-")}={count}' for kind, count in sorted(counts.items()))
-    live = [current[alive * points - 1][0] - current[0][0] for current in found]
+    took = max((max(times) - min(times) for times in answers if times), default=0)
     print(f'servers={servers} dead={dead} rounds={len(found)} lines={lines} {told} status={status}')
-    print(f'rounds began after {min(gaps, default=0):.2f} to {max(gaps, default=0):.2f} s; the lines of live servers were printed within {max(live, default=0):.3f} s')
+    print(f'rounds began after {min(gaps, default=0):.2f} to {max(gaps, default=0):.2f} s; the answers of a round came within {took:.3f} s')
     if wrong or left or complaint or len(found) != rounds or status != (1 if dead else 0):
         print(f'WRONG: {wrong} lines, {len(left)} left over, {complaint!r}')
         return 1
