@@ -89,9 +89,9 @@ typedef struct bac_settings {
                               and is not performed again. So is a request in segments, if the last one had the same service and first segment, or more
                               than 256 segments */
     uint8_t later[3];      /* 0: room for members of later versions */
-    uint32_t memory;       /* how many octets of requests and replies it keeps for those that ask it, 65,540 and more; 0: 67,108,864. A request that
-                              can make it keep more needs room for 65,539 octets beside its own: one for which there is none is not heard, and bac_on answers
-                              BAC_NO_MEMORY */
+    uint32_t memory;       /* how many octets of requests and replies it keeps for those that ask it, 65,540 and more; 0: 67,108,864. A new request
+                              that can make it keep more, and any in segments, needs room for 65,539 octets beside its own: one for which there is none is
+                              not heard, and bac_on answers BAC_NO_MEMORY */
 } bac_settings;
 
 /* APDUs of 1476 octets, any number of segments, windows of 32, 64 slots at each end (64 asks in 135,000 ms, 64 requests in 65,000), at that link; clients may
