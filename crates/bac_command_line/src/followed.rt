@@ -12,7 +12,7 @@ use bac_follow::{Documents, FollowFault, changes_between};
 use bac_keep_json::KeptPart;
 use bac_log_json::LogEvent;
 use bac_objects::{DocumentFault, read_object_list, read_objects};
-use bac_store::{Change, ChangeFault, Store};
+use bac_store::{Change, ChangeFault, Object, Store};
 use bac_text::no_memory;
 use bac_value::NoMemory;
 use std::alloc::Global;
@@ -27,6 +27,8 @@ pub(crate) struct Followed<'p> {
     octets: Option<Vec<u8>>,
     /// The store that the document meant when its values were last given to the node.
     store: Store,
+    /// The objects that it listed then.
+    objects: Vec<Object>,
 }
 
 /// Why a document is not followed now, apart from memory.
@@ -42,6 +44,7 @@ enum Refusal {
 #[derive(Drop)]
 struct News {
     store: Store,
+    objects: Vec<Object>,
     changes: Vec<Change>,
 }
 
@@ -53,10 +56,19 @@ fn octets_at<F: OpenFiles>(alloc: Global, files: &F, path: &str) -> io::Result<V
     Ok(octets)
 }
 
-/// What the octets of a document change of the store that it meant before. `NoMemory` where that is refused.
+/// The objects that a document lists which means a store.
+fn objects_in(alloc: Global, octets: &[u8]) -> Result<Vec<Object>, NoMemory> {
+    match read_object_list(alloc, octets) {
+        Ok(objects) => Ok(objects),
+        Err(_) => Err(NoMemory),
+    }
+}
+
+/// What the octets of a document change of the store that it meant before, when it listed those objects. `NoMemory` where that is refused.
 fn news_in(
     alloc: Global,
     before: &Store,
+    served: &[Object],
     octets: &[u8],
 ) -> Result<Result<News, Refusal>, NoMemory> {
     let store = match read_objects(alloc, octets) {
@@ -64,15 +76,17 @@ fn news_in(
         Err(DocumentFault::NoMemory) => return Err(NoMemory),
         Err(fault) => return Ok(Err(Refusal::Wrong(fault))),
     };
-    let Ok(objects) = read_object_list(alloc, octets) else {
-        return Err(NoMemory);
-    };
+    let objects = objects_in(alloc, octets)?;
     let documents = Documents {
         before,
         now: &store,
     };
-    match changes_between(alloc, documents, &objects) {
-        Ok(changes) => Ok(Ok(News { store, changes })),
+    match changes_between(alloc, documents, served, &objects) {
+        Ok(changes) => Ok(Ok(News {
+            store,
+            objects,
+            changes,
+        })),
         Err(FollowFault::NoMemory) => Err(NoMemory),
         Err(fault) => Ok(Err(Refusal::Unfit(fault))),
     }
@@ -95,6 +109,13 @@ fn print_unfit<E: Write>(alloc: Global, path: &str, fault: FollowFault, err: &mu
                 "{fault}{served}: not followed, start the server again"
             ) {
                 let _ = print_about(alloc, path, object, property, &why, err);
+            }
+        }
+        FollowFault::Other {
+            object: Some(object),
+        } => {
+            if let Ok(why) = format!(in alloc; "{fault}: not followed, start the server again") {
+                let _ = print_about(alloc, path, object, None, &why, err);
             }
         }
         fault => {
@@ -147,12 +168,20 @@ fn make<L: Link, E: Write>(
 
 impl<'p> Followed<'p> {
     /// The document at a path, whose octets mean that store.
-    pub(crate) fn new(path: &'p str, octets: Vec<u8>, store: Store) -> Followed<'p> {
-        Followed {
+    pub(crate) fn new(
+        alloc: Global,
+        path: &'p str,
+        octets: Vec<u8>,
+        store: &Store,
+    ) -> Result<Followed<'p>, NoMemory> {
+        let store = store.copy(alloc)?;
+        let objects = objects_in(alloc, &octets)?;
+        Ok(Followed {
             path,
             octets: Some(octets),
             store,
-        }
+            objects,
+        })
     }
 
     /// Whether the octets are those that were read last.
@@ -173,7 +202,11 @@ impl<'p> Followed<'p> {
     ) -> Result<(), ChangeFault>
         ensures { IsChanged station.old.bound_node station.new.bound_node }
     {
-        let News { store, changes } = news;
+        let News {
+            store,
+            objects,
+            changes,
+        } = news;
         let moment = station.clock.now();
         for change in &changes {
             make(
@@ -186,6 +219,7 @@ impl<'p> Followed<'p> {
             )?;
         }
         self.store = store;
+        self.objects = objects;
         Ok(())
     }
 
@@ -200,7 +234,7 @@ impl<'p> Followed<'p> {
         ensures { IsChanged station.old.bound_node station.new.bound_node }
     {
         let alloc = station.alloc;
-        match news_in(alloc, &self.store, octets)? {
+        match news_in(alloc, &self.store, &self.objects, octets)? {
             Ok(news) => match self.make_all(station, news, log, err) {
                 Ok(()) => Ok(()),
                 Err(_) => Err(NoMemory),

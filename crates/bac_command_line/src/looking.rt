@@ -117,10 +117,10 @@ fn followed_from<'p, F: Read + Drop, E: Write>(
 {
     let octets = octets_of(alloc, path, file, err)?;
     let store = store_in(alloc, path, &octets, err)?;
-    match store.copy(alloc) {
-        Ok(before) => Ok(Served {
+    match Followed::new(alloc, path, octets, &store) {
+        Ok(followed) => Ok(Served {
             store,
-            followed: Some(Followed::new(path, octets, before)),
+            followed: Some(followed),
         }),
         Err(_) => Err(no_memory(err)),
     }

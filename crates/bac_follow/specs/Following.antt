@@ -1,12 +1,16 @@
 -- What a document that was read again changes in a store.
-use Rattle.std.specs.Prelude.{◌≡◌, ◌≢◌, ⊤, ℕ, nat_eq, List, [], ◌∷◌, ◌++◌, map, Option, Some, None, if◌then◌else◌}
-use Rattle.std.specs.Option.{option_map}
+use mathlib.Core.Bool.{beq}
+use Rattle.std.specs.Prelude.{◌≡◌, ◌≢◌, ⊤, ℕ, nat_eq, ◌==◌, Bool, true, false, not, ◌&&◌, List, [], ◌∷◌, ◌++◌, length, map, Option, Some, None}
+use Rattle.std.specs.Prelude.{if◌then◌else◌}
+use Rattle.std.specs.List.{list_all, list_any}
+use Rattle.std.specs.Option.{option_eq, option_map, option_or}
 use Rattle.std.specs.Cmp.Lexicographic.{pointwise}
 use Rattle.bac_value.specs.Value.{ObjectId}
 use Rattle.bac_value.specs.Views.{object_identifier_view}
+use Rattle.bac_store.specs.Allowing.{Allowed, are_same}
 use Rattle.bac_store.specs.AtNode.{Change, change_fault, changed}
 use Rattle.bac_store.specs.Changes.{with_contents, with_own_values}
-use Rattle.bac_store.specs.Stores.{File, Object, Property, Store}
+use Rattle.bac_store.specs.Stores.{File, Object, Property, Store, first_that, is_same}
 use Rattle.bac_store.specs.Writes.{file_at, listed_at}
 use Rattle.bac_store.specs.declared.change_fault.ChangeFault.{ChangeFault}
 use Rattle.bac_store.specs.declared.change_fault.ChangeFault.TheVariants as change
@@ -86,6 +90,38 @@ with_objects before now (o ∷ os) cs = with_objects before now os (with_object 
 abbrev pub all_news : (before now : Store) → List Object → List Change
 all_news before now objects = with_objects before now objects []
 
+-- ---- which object of a document differs in more than values and octets
+
+abbrev pub are_same_limits : Allowed → Allowed → Bool
+are_same_limits Allowed.Any Allowed.Any = true
+are_same_limits (Allowed.Between a b) (Allowed.Between c d) = are_same a c && are_same b d
+are_same_limits (Allowed.OneOf xs) (Allowed.OneOf ys) = pointwise are_same xs ys
+are_same_limits _ _ = false
+
+-- the same property, whatever its values: of one number, flag, kind and limits
+abbrev pub is_like_property : Property → Property → Bool
+is_like_property p q = (p.number == q.number) && beq p.writable q.writable && option_eq nat_eq p.kind q.kind && are_same_limits p.allowed q.allowed
+
+-- the same properties in any order, where no two of either have the same number
+abbrev pub are_like_properties : List Property → List Property → Bool
+are_like_properties ps qs = (length ps == length qs) && list_all (λ p. list_any (is_like_property p) qs) ps
+
+-- the same file, whatever its octets
+abbrev pub is_like_file : File → File → Bool
+is_like_file f g = beq f.writable g.writable
+
+-- the same object, whatever its values and octets
+abbrev pub is_like : Object → Object → Bool
+is_like o p = is_same o.id p.id && are_same o.name p.name && are_like_properties o.properties p.properties && option_eq is_like_file o.file p.file
+
+-- the first of some objects that is like none of the others
+abbrev pub first_unlike : (others objects : List Object) → Option ObjectId
+first_unlike others objects = option_map (λ o. o.id) (first_that (λ o. not (list_any (is_like o) others)) objects)
+
+-- the first object that is new or differs, in the order that the document has now; if there is none, the first one that is gone, in the order before
+abbrev pub other_object : (before now : List Object) → Option ObjectId
+other_object before now = option_or (first_unlike before now) (first_unlike now before)
+
 -- ---- why a document cannot be followed
 
 -- a property or a file that cannot be given what the document says, and why
@@ -111,23 +147,24 @@ first_refused (c ∷ cs) s = refused_or c (change_fault s c) (first_refused cs (
 abbrev pub IsRefusedAs : Change → ChangeFault → FollowFault → Type 0
 IsRefusedAs c f (fault.Cannot object property why) =
     (f ≢ change.NoMemory) × (refused c f ≡ record { object = object_identifier_view object; property = property; fault = why })
-IsRefusedAs c f fault.Other = ⊥
+IsRefusedAs c f (fault.Other object) = ⊥
 IsRefusedAs c f fault.NoMemory = f ≡ change.NoMemory
 
 -- memory was refused, or that change is the first that cannot be made
 abbrev pub IsRefusal : List Change → Store → FollowFault → Type 0
 IsRefusal cs s (fault.Cannot object property why) =
     first_refused cs s ≡ Some (record { object = object_identifier_view object; property = property; fault = why })
-IsRefusal cs s fault.Other = ⊥
+IsRefusal cs s (fault.Other object) = ⊥
 IsRefusal cs s fault.NoMemory = ⊤
 
--- all of them can be made, and do not make that store
-pub record IsOther (cs : List Change) (before now : Store) : Type 0 where
+-- all of them can be made, and do not make that store; and which object differs
+pub record IsOther (cs : List Change) (before now : Store) (differs named : Option ObjectId) : Type 0 where
   pub made_all : first_refused cs before ≡ None
   pub other : made cs before ≢ now
+  pub object : named ≡ differs
 
--- why the document is not followed whose news are those changes
-abbrev pub IsFollowFault : List Change → (before now : Store) → FollowFault → Type 0
-IsFollowFault cs before now (fault.Cannot object property why) = IsRefusal cs before (fault.Cannot object property why)
-IsFollowFault cs before now fault.Other = IsOther cs before now
-IsFollowFault cs before now fault.NoMemory = ⊤
+-- why the document is not followed whose news are those changes, and in which that object differs
+abbrev pub IsFollowFault : List Change → (before now : Store) → (differs : Option ObjectId) → FollowFault → Type 0
+IsFollowFault cs before now differs (fault.Cannot object property why) = IsRefusal cs before (fault.Cannot object property why)
+IsFollowFault cs before now differs (fault.Other object) = IsOther cs before now differs (option_map object_identifier_view object)
+IsFollowFault cs before now differs fault.NoMemory = ⊤

@@ -3,6 +3,7 @@
 
 mod fault;
 mod following;
+mod likeness;
 mod news;
 
 pub use fault::FollowFault;
