@@ -1,17 +1,18 @@
 //! Files that a command line names: what `check`, `explain` and `simulate` do.
 ghost use Rattle.std.specs.Prelude.{◌≡◌, ℕ, List, IfOk, IfErr};
 ghost use Rattle.std.specs.Io.Buffered.{reader_remaining};
+ghost use Rattle.std.specs.Io.KnownBytes.{Keeps};
 ghost use Rattle.bac_text.specs.Statuses.{IsStop};
 ghost use Rattle.bac_command_line.specs.Files.{IsChartedFile, IsCheckedFile, IsExplainedFile, IsShownFile, IsSimulatedFile, OnFile};
 
 use crate::reasons::{print_unfit, print_unread};
-use bac_capture::{Ports, check_capture_over};
+use bac_capture::{Ports, check_capture_over, signature_of};
 use bac_explain_report::{ChartOptions, ReportOptions, chart_over, explain_over};
 use bac_simulate::{View, show_over, simulate_lines_over};
-use bac_text::{Status, no_memory};
+use bac_text::{Status, next_line, no_memory, read_capture_line};
 use std::alloc::Global;
 use std::io;
-use std::io::{BufReader, Read, Write};
+use std::io::{BufRead, BufReader, Read, Write};
 
 /// How many octets of a file are read at once.
 const READ_AT_ONCE: usize = 65_536;
@@ -102,8 +103,52 @@ pub(crate) struct ScriptFile<'a> {
     pub reasons: bool,
 }
 
+/// What is told of a file with bad lines, of which the first, as many as were read at once, are none of a capture.
+const NO_CAPTURE: &str =
+    "begins as no capture: pcap, pcapng or lines `moment from to hex` wanted; see bac help check";
+
+/// Whether octets are lines, and none of them one of a capture. The last one does not count where its end may be behind the octets.
+fn are_no_capture(alloc: Global, octets: &[u8]) -> bool {
+    let mut left = octets;
+    let mut line = Vec::new(alloc);
+    let mut is_none = false;
+    for _ in 0..octets.len() {
+        let Ok(true) = next_line(&mut left, &mut line) else {
+            return is_none;
+        };
+        if left.is_empty() && octets.last() != Some(&b'\n') {
+            return is_none;
+        }
+        let Ok(None) = read_capture_line(alloc, &line) else {
+            return false;
+        };
+        is_none = true;
+    }
+    is_none
+}
+
+/// Whether an input begins as no capture, as far as its next octets show. None is taken.
+fn begins_as_none<R: BufRead>(alloc: Global, input: &mut R) -> bool
+    ensures { Keeps (R.remaining input.old) (R.remaining input.new) }
+{
+    match input.fill_buf() {
+        Ok([a, b, c, d, ..]) if signature_of(&[*a, *b, *c, *d]).is_some() => false,
+        Ok(octets) => are_no_capture(alloc, octets),
+        // it fails again where it is checked
+        Err(_) => false,
+    }
+}
+
+/// Where the status says that something is bad of a file that begins as no capture, tells so.
+fn print_no_capture<E: Write>(is_none: bool, status: Status, path: &str, err: &mut E) {
+    if is_none && status == Status::Faulty {
+        // if that fails too, only the status is left
+        let _ = writeln!(err, "{path}: {NO_CAPTURE}");
+    }
+}
+
 /// Checks the capture in a file: one of pcap or pcapng, or of lines; in words, with counts of other functions by name, or not. A file that cannot be opened:
-/// `cannot read` on `err`.
+/// `cannot read` on `err`. Of a file that begins as no capture `err` has a hint.
 pub(crate) fn check<F: OpenFiles, O: Write, E: Write>(
     alloc: Global,
     files: &F,
@@ -117,7 +162,10 @@ pub(crate) fn check<F: OpenFiles, O: Write, E: Write>(
     match reader_of(alloc, files, capture.path, err) {
         Ok(mut input) => {
             let ports = Ports { also: capture.port };
-            check_capture_over(alloc, &mut input, ports, in_words, out, err)
+            let is_none = begins_as_none(alloc, &mut input);
+            let status = check_capture_over(alloc, &mut input, ports, in_words, out, err);
+            print_no_capture(is_none, status, capture.path, err);
+            status
         }
         Err(status) => status,
     }
