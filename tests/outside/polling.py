@@ -81,7 +81,8 @@ def main(program, servers=200, dead=2, rounds=10, points=1):
         for place, row in enumerate(current):
             server = place // points
             counts[row['status']] += 1
-            wrong += not row['peer'].startswith(address_of(server) + ':') or (row['status'] == 'answered') != (first <= server < last)
+            asked = row['peer'].split(':')[0], f"{row['object']} {row['property']}"
+            wrong += asked != (address_of(server), POINTS[place % points % len(POINTS)]) or (row['status'] == 'answered') != (first <= server < last)
     answers = [times_of(current) for current in found]
     begins = [min(times) for times in answers if times]
     gaps = [later - before for before, later in zip(begins, begins[1:])]
