@@ -69,7 +69,7 @@ def watched(frames, selection=Selection()):
     watch = Watch(selection)
     for number, (moment, _, why, it) in enumerate(frames, 1):
         if why:
-            watch.see_unread(number, why)
+            watch.see_unread(number, moment // captures.MILLISECOND, why)
         else:
             watch.see(it and seen(number, moment // captures.MILLISECOND, str(it.source.end), str(it.to.end), it.datagram))
     watch.end()

@@ -191,6 +191,11 @@ def rfc_3339(moment):
     return f'{seconds:%Y-%m-%dT%H:%M:%S}.{moment % 1000:03d}Z'
 
 
+def moment_of(moment):
+    """The members of a frame's moment in its object of JSON."""
+    return {'moment': moment, 'time': rfc_3339(moment)}
+
+
 def ends_of(key):
     return {'client': key[0], 'server': key[1], 'invoke_id': key[2]}
 
@@ -324,14 +329,14 @@ class Watch:
         if self.selection.passes(seen.key, it):
             self.wrong += it is None
             self.lines.append(f'frame {seen.number}: {finding}, {seen.key[0]} > {seen.key[1]} id {seen.key[2]}')
-            self.objects.append({'kind': 'finding', 'frame': seen.number, 'finding': finding} | ends_of(seen.key))
+            self.objects.append({'kind': 'finding', 'frame': seen.number, 'finding': finding} | moment_of(seen.moment) | ends_of(seen.key))
 
-    def see_unread(self, number, why):
+    def see_unread(self, number, moment, why):
         """One frame that cannot be looked at."""
         self.frames += 1
         self.unread += 1
         self.lines.append(f'frame {number}: {why}')
-        self.objects.append({'kind': 'unread', 'frame': number, 'text': why})
+        self.objects.append({'kind': 'unread', 'frame': number, 'text': why} | moment_of(moment))
 
     def end(self):
         for key in list(self.open):
