@@ -78,9 +78,10 @@ typedef struct bac_settings {
     bool takes_segments;   /* whether it takes replies in segments */
     uint8_t max_segments;  /* how many: 0 to 7 for unspecified, 2, 4, 8, 16, 32, 64 and more */
     uint8_t window;        /* the greatest window that it proposes or grants: 1 to 64 segments */
-    size_t client_slots;   /* how many asks it holds, each until 135,000 ms after it was first sent, also once it has ended: 1 to 65,536. docs/C.md says what
-                              memory a slot takes */
-    size_t reply_slots;    /* how many requests it remembers, each for 65,000 ms: 1 to 65,536. Where all slots are held, a new one is answered by Abort 0 */
+    size_t client_slots;   /* how many asks it holds, each until 135,000 ms after it was first sent, also once it has ended: 1 to 65,536. Each takes 30 octets
+                              from the start, whether it is in use or not */
+    size_t reply_slots;    /* how many requests it remembers, each for 65,000 ms: 1 to 65,536. Where all slots are held, a new one is answered by Abort 0.
+                              Each takes 30 octets from the start, and some 240 in all while it remembers a short reply */
     bool reuse_invoke_ids; /* whether a client, of another make say, may use an invoke ID again as soon as its transaction is over (clause 5.4).
                               false: for 65,000 ms an equal request of the same peer under the same invoke ID gets the old answer and is not performed, a read
                               too; another one is answered by Abort 0. So a peer gets at most 256 new requests in 65,000 ms.
