@@ -22,7 +22,7 @@ use Rattle.bac_protocol.specs.Service.Outcome.{Rejects, Replies}
 use Rattle.bac_protocol.specs.Sizes.{Way, allows_segments, reply_way_in_segments, reply_way_of, reply_way_of_size, transfer_size}
 use Rattle.bac_protocol.specs.Sizes.Way.{InOne, InSegments, Refused}
 use Rattle.bac_transaction.specs.Reuse.{is_read}
-use Rattle.bac_responder.specs.Kept.{adds_nothing, entry_octets, growth, is_known, is_read_in_one, is_whole, kept_length, octets_of, parts_octets, reply_octets, request_octets, state_octets}
+use Rattle.bac_responder.specs.Kept.{adds_nothing, entry_octets, grows_none, grows_none_at, growth, is_known, is_read_in_one, kept_length, octets_of, parts_octets, reply_octets, request_octets, state_octets}
 
 -- Segments and pieces.
 
@@ -356,29 +356,40 @@ module _ (c : Context) (service : Service) (short : HasShort service) where
 
   -- It makes no entry keep more.
 
-  whole_octets : (e : ServerTransaction) (z : State) → e.state ≡ z → (limits : Limits) (i choice : ℕ) (octets : Octets)
-      → octets_of (server.live_on_apdu c service e z (ConfirmedRequest limits i None choice octets)).entry ≤ entry_octets e
-  whole_octets e (State.SegmentedRequest inc since) is limits i choice octets = omega arith
-  whole_octets e (State.Done kept) is limits i choice octets = omega arith
-  whole_octets e (State.SegmentedResponse out transfer since) is limits i choice octets =
-      let all = replying e out transfer since is (ConfirmedRequest limits i None choice octets) in
+  receiving_whole : (e : ServerTransaction) (inc : Incoming) (since : ℕ) (a : Apdu) → grows_none (State.SegmentedRequest inc since) a ≡ true
+      → octets_of (server.segmented_request_on_apdu c service e inc since a).entry ≤ entry_octets e
+  receiving_whole e inc since (ConfirmedRequest limits i None choice octets) none = omega arith
+  receiving_whole e inc since (ConfirmedRequest limits i (Some g) choice octets) none = absurd cc
+  receiving_whole e inc since _ none = absurd cc
+
+  done_request : (e : ServerTransaction) (kept a : Apdu) → grows_none (State.Done kept) a ≡ true
+      → octets_of (server.done_on_apdu c e kept a).entry ≤ entry_octets e
+  done_request e kept (ConfirmedRequest limits i None choice octets) none = omega arith
+  done_request e kept (ConfirmedRequest limits i (Some g) choice octets) none = omega arith
+  done_request e kept _ none = absurd cc
+
+  dropped_request : (e : ServerTransaction) (a : Apdu) → grows_none State.Dropped a ≡ true → octets_of (server.dropped_on_apdu c e a).entry ≤ entry_octets e
+  dropped_request e (ConfirmedRequest limits i g choice octets) none = omega arith
+  dropped_request e _ none = absurd cc
+
+  none_octets : (e : ServerTransaction) (z : State) (a : Apdu) → e.state ≡ z → grows_none z a ≡ true
+      → octets_of (server.live_on_apdu c service e z a).entry ≤ entry_octets e
+  none_octets e (State.SegmentedRequest inc since) a is none = receiving_whole e inc since a none
+  none_octets e (State.Done kept) a is none = done_request e kept a none
+  none_octets e (State.SegmentedResponse out transfer since) a is none =
+      let all = replying e out transfer since is a in
       let same = ap state_octets is in
       omega (arith, all, same)
-  whole_octets e State.Dropped is limits i choice octets = omega arith
+  none_octets e State.Dropped a is none = dropped_request e a none
 
-  live_whole : (e : ServerTransaction) (a : Apdu) → is_whole a ≡ true → octets_of (server.live_on_apdu c service e e.state a).entry ≤ entry_octets e
-  live_whole e (ConfirmedRequest limits i None choice octets) whole = whole_octets e e.state refl limits i choice octets
-  live_whole e (ConfirmedRequest limits i (Some g) choice octets) whole = absurd cc
-  live_whole e _ whole = absurd cc
-
-  whole_fits : (o : Option ServerTransaction) (free : Bool) (a : Apdu) → is_none_live c.now o ≡ false → is_whole a ≡ true
+  none_fits : (o : Option ServerTransaction) (free : Bool) (a : Apdu) → is_none_live c.now o ≡ false → grows_none_at o a ≡ true
       → Fits c.now (octets_of (live_entry c.now o) + 0) (server.server_on_apdu c service o free a).entry
-  whole_fits None free a some whole = absurd cc
-  whole_fits (Some e) free a some whole = go (is_live c.now e) some
+  none_fits None free a some none = absurd cc
+  none_fits (Some e) free a some none = go (is_live c.now e) some
     where
       go : (b : Bool) → (if b then false else true) ≡ false → Fits c.now (octets_of (if b then Some e else None) + 0)
           (if b then server.live_on_apdu c service e e.state a else server.idle_on_apdu c service (Some e) free a).entry
-      go true live = let same = live_whole e a whole in fits_all c.now _ _ (omega (arith, same))
+      go true live = let same = none_octets e e.state a refl none in fits_all c.now _ _ (omega (arith, same))
       go false dead = absurd cc
 
   read_in_one_fits : (o : Option ServerTransaction) → is_none_live c.now o ≡ true → (free : Bool) (a : Apdu) → is_read_in_one c service a ≡ true
@@ -407,20 +418,20 @@ module _ (c : Context) (service : Service) (short : HasShort service) where
       → Fits c.now (octets_of (live_entry c.now o) + 0) (left_on_apdu c service is_read o free a).entry
   nothing_fits o free a is = go (is_none_live c.now o) refl is
     where
-      go : (b : Bool) → is_none_live c.now o ≡ b → (if b then is_read_in_one c service a else is_whole a) ≡ true
+      go : (b : Bool) → is_none_live c.now o ≡ b → (if b then is_read_in_one c service a else grows_none_at o a) ≡ true
           → Fits c.now (octets_of (live_entry c.now o) + 0)
           (if b then idle_reusing c service is_read o free a else server.server_on_apdu c service o free a).entry
       go true none one = read_in_one_fits o none free a one
-      go false some whole = whole_fits o free a some whole
+      go false some small = none_fits o free a some small
 
   pub known_fits : (o : Option ServerTransaction) (free : Bool) (a : Apdu) → is_known c.now o a ≡ true
       → Fits c.now (octets_of (live_entry c.now o) + 0) (server.server_on_apdu c service o free a).entry
   known_fits o free a is = go (is_none_live c.now o) refl is
     where
-      go : (b : Bool) → is_none_live c.now o ≡ b → (if b then false else is_whole a) ≡ true
+      go : (b : Bool) → is_none_live c.now o ≡ b → (if b then false else grows_none_at o a) ≡ true
           → Fits c.now (octets_of (live_entry c.now o) + 0) (server.server_on_apdu c service o free a).entry
       go true none known = absurd cc
-      go false some whole = whole_fits o free a some whole
+      go false some small = none_fits o free a some small
 
 -- A tick.
 

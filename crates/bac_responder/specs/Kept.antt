@@ -96,6 +96,23 @@ is_whole (ConfirmedRequest limits invoke_id None choice octets) = true
 is_whole (ConfirmedRequest limits invoke_id (Some segment) choice octets) = false
 is_whole _ = false
 
+-- a request, without SEG or a segment of one
+abbrev pub is_request : Apdu → Bool
+is_request (ConfirmedRequest limits invoke_id segment choice octets) = true
+is_request _ = false
+
+-- a request that makes an entry in that state keep no more: each one, but a segment where segments are received
+abbrev pub grows_none : State → Apdu → Bool
+grows_none (State.SegmentedRequest inc since) a = is_whole a
+grows_none (State.Done kept) a = is_request a
+grows_none (State.SegmentedResponse out transfer since) a = is_request a
+grows_none State.Dropped a = is_request a
+
+-- there is an entry, and it makes that keep no more
+abbrev pub grows_none_at : Option ServerTransaction → Apdu → Bool
+grows_none_at None a = false
+grows_none_at (Some e) a = grows_none e.state a
+
 -- a read without SEG whose reply is one APDU, or a Reject or an Abort
 abbrev pub is_read_in_one : Context → Service → Apdu → Bool
 is_read_in_one c service (ConfirmedRequest limits invoke_id None choice octets) =
@@ -103,13 +120,13 @@ is_read_in_one c service (ConfirmedRequest limits invoke_id None choice octets) 
 is_read_in_one c service (ConfirmedRequest limits invoke_id (Some segment) choice octets) = false
 is_read_in_one c service _ = false
 
--- a request without SEG whose entry is live gets its kept reply again, or an Abort
+-- a request whose entry is live, and without SEG where that receives segments: it gets the kept reply again, or an Abort, or sets a stopped transfer going
 abbrev pub is_known : (now : ℕ) → Option ServerTransaction → Apdu → Bool
-is_known now entry a = if is_none_live now entry then false else is_whole a
+is_known now entry a = if is_none_live now entry then false else grows_none_at entry a
 
 -- the same where invoke IDs may be used again, of the entry that is left; and where none is live, a read whose reply is one APDU begins none
 abbrev pub adds_nothing : Context → Service → Option ServerTransaction → Apdu → Bool
-adds_nothing c service left a = if is_none_live c.now left then is_read_in_one c service a else is_whole a
+adds_nothing c service left a = if is_none_live c.now left then is_read_in_one c service a else grows_none_at left a
 
 -- an APDU comes from a peer
 abbrev pub knows : (now : ℕ) → PeerView → Apdu → ServerEnd → Bool

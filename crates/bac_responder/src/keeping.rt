@@ -5,7 +5,7 @@ ghost use Rattle.bac_apdu.specs.Views.{apdu_view};
 ghost use Rattle.bac_slots.specs.declared.slot.Slot.{Slot};
 ghost use Rattle.bac_slots.specs.Slots.{value_at};
 ghost use Rattle.bac_transaction.specs.Views.{code_same_key};
-ghost use Rattle.bac_responder.specs.Kept.{counted, entry_octets, given_back, growth, is_whole, kept_length, octets_of, reply_octets, state_octets, sum_of};
+ghost use Rattle.bac_responder.specs.Kept.{counted, entry_octets, given_back, grows_none, growth, is_request, is_whole, kept_length, octets_of, reply_octets, state_octets, sum_of};
 ghost use Rattle.bac_responder.specs.TransactionViews.{kept_reply_view, state_view};
 
 use crate::ServerTransaction;
@@ -45,6 +45,18 @@ impl State {
             State::Done { kept, .. } => kept.octets(),
             State::SegmentedResponse(reply) => reply.outgoing.octets().len(),
             State::Dropped => 0,
+        }
+    }
+
+    /// Whether an APDU is a request that makes an entry in this state keep no more: only a segment where segments are received can.
+    pub(crate) fn grows_none(&self, apdu: &Apdu<'_>) -> bool
+        ensures { (c : ℕ) → result ≡ grows_none (state_view c self.now) (apdu_view apdu.now) }
+    {
+        match self {
+            State::SegmentedRequest(_) => is_whole(apdu),
+            State::Done { .. } => is_request(apdu),
+            State::SegmentedResponse(_) => is_request(apdu),
+            State::Dropped => is_request(apdu),
         }
     }
 }
@@ -127,10 +139,17 @@ pub(crate) fn service_len(apdu: &Apdu<'_>) -> Option<usize>
 }
 
 /// Whether an APDU is a request without SEG.
-pub(crate) fn is_whole(apdu: &Apdu<'_>) -> bool
+fn is_whole(apdu: &Apdu<'_>) -> bool
     ensures { result ≡ is_whole (apdu_view apdu.now) }
 {
     matches!(apdu, Apdu::ConfirmedRequest { segment: None, .. })
+}
+
+/// Whether an APDU is a request, without SEG or a segment of one.
+fn is_request(apdu: &Apdu<'_>) -> bool
+    ensures { result ≡ is_request (apdu_view apdu.now) }
+{
+    matches!(apdu, Apdu::ConfirmedRequest { .. })
 }
 
 /// Whether there is room for a request with so much service data, where so many octets are kept.

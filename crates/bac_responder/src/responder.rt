@@ -201,8 +201,8 @@ impl<S: SlotTable<PeerKey, ServerTransaction> + Drop> Responder<S> {
         false
     }
 
-    /// Whether an APDU is a request without segments that has a live entry: `on` sends the kept reply again, or an Abort, and the end keeps no more than before,
-    /// however little room there is.
+    /// Whether an APDU is a request that has a live entry, and no segment where that receives segments: `on` sends the kept reply again, or an Abort, or sets a
+    /// stopped reply going, and the end keeps no more than before, however little room there is.
     pub fn knows(&self, now: u64, peer: &Peer, apdu: &Apdu<'_>) -> bool
         ensures exact { result ≡ knows now (peer_view peer.now) (apdu_view apdu.now) self.now }
         ensures within { (c : Set) (s : Stored) → IsTrue result → HasShortReplies s
@@ -217,9 +217,9 @@ impl<S: SlotTable<PeerKey, ServerTransaction> + Drop> Responder<S> {
         is_known(&self.aged.table, &key, now, apdu)
     }
 
-    /// Whether `on_reusing` of an APDU, with the same store, makes the end keep no more than before, however little room there is. Such are a request without
-    /// segments that has a live entry and does not end it: the kept reply goes again, or an Abort; and a read without segments whose reply is one APDU, where no
-    /// entry goes on. The reply to a read is prepared for this, so ask it only where there is no room. An Err says that an allocation failed.
+    /// Whether `on_reusing` of an APDU, with the same store, makes the end keep no more than before, however little room there is. Such are a request that has a
+    /// live entry and does not end it, and is no segment where that receives segments: the kept reply goes again, or an Abort; and a read without segments whose
+    /// reply is one APDU, where no entry goes on. The reply to a read is prepared for this, so ask it only where there is no room. An Err says that an allocation failed.
     pub fn keeps_no_more(
         &self,
         alloc: Global,

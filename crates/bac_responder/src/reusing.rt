@@ -12,14 +12,13 @@ ghost use Rattle.bac_transaction.specs.Reuse.{is_read};
 ghost use Rattle.bac_transaction.specs.Services.{service_of};
 ghost use Rattle.bac_transaction.specs.Views.{code_same_key, context_view, peer_of};
 ghost use Rattle.bac_responder.specs.Aging.{AreAged, begins_request};
-ghost use Rattle.bac_responder.specs.Kept.{adds_nothing, is_known};
+ghost use Rattle.bac_responder.specs.Kept.{adds_nothing, grows_none_at, is_known};
 ghost use Rattle.bac_responder.specs.Reactions.{BeginsAt, BeginsWhereFree};
 ghost use Rattle.bac_responder.specs.Reuse.{ReusingReacts, code_slots_left, reusing_turn_of, whole_read};
 ghost use Rattle.bac_responder.specs.TransactionViews.{state_view};
 ghost use Rattle.bac_responder.specs.Views.{end_of, Serves};
 
 use crate::aging::ServerRules;
-use crate::keeping::is_whole;
 use crate::lookup::{self, begins_request, has_place, served};
 use crate::performed::Performed;
 use crate::performing::commit;
@@ -326,7 +325,21 @@ pub(crate) fn on_apdu<S: SlotTable<PeerKey, ServerTransaction>>(
     lookup::on_apdu(alloc, context, aged, restart, apdu, store)
 }
 
-/// Whether an APDU is a request without SEG whose entry is live.
+/// Whether there is an entry of the key, live or not, and an APDU is a request that makes it keep no more.
+fn grows_none<S: SlotTable<PeerKey, ServerTransaction>>(
+    table: &S,
+    key: &PeerKey,
+    apdu: &Apdu<'_>,
+) -> bool
+    ensures { result ≡ grows_none_at (value_at code_same_key key.now (S.slots table.now)) (apdu_view apdu.now) }
+{
+    match table.get(key) {
+        None => false,
+        Some(entry) => entry.state.grows_none(apdu),
+    }
+}
+
+/// Whether an APDU is a request whose entry is live, and without SEG where that receives segments.
 pub(crate) fn is_known<S: SlotTable<PeerKey, ServerTransaction>>(
     table: &S,
     key: &PeerKey,
@@ -338,7 +351,7 @@ pub(crate) fn is_known<S: SlotTable<PeerKey, ServerTransaction>>(
     if is_none_live(table, key, now) {
         return false;
     }
-    is_whole(apdu)
+    grows_none(table, key, apdu)
 }
 
 /// Whether the reply to a read without SEG is one APDU, or a Reject or an Abort. It prepares the reply, and changes nothing.
@@ -371,7 +384,7 @@ pub(crate) fn adds_nothing<S: SlotTable<PeerKey, ServerTransaction>>(
     let context = &told.context;
     let ends = ends_entry(table, told, apdu);
     if !ends && !is_none_live(table, &context.key, context.moment) {
-        return Ok(is_whole(apdu));
+        return Ok(grows_none(table, &context.key, apdu));
     }
     match whole_read(apdu) {
         None => Ok(false),
