@@ -1,12 +1,18 @@
 -- Laws of the machine that lets invoke IDs be used again.
-use Rattle.std.proofs.Common.{◌≡◌, ℕ, ◌⊎◌, Bool, true, false, ◌&&◌, ◌||◌, not, [], ◌∷◌, Option, Some, None, if◌then◌else◌, refl, ap, sym, inl, inr, ◌∙◌, nat_eq, arith}
+use Rattle.std.proofs.Common.{◌≡◌, ℕ, ◌+◌, ◌⊎◌, Bool, true, false, ◌&&◌, ◌||◌, not, [], ◌∷◌, Option, Some, None, if◌then◌else◌, refl, ap, sym, subst, inl, inr, ◌∙◌}
+use Rattle.std.proofs.Common.{min, nat_eq, nat_lt, arith}
 use Rattle.std.proofs.lemmas.Bool.Decides.{nat_tests}
-use Rattle.bac_apdu.specs.Apdu.{Apdu, Limits, Segment}
-use Rattle.bac_apdu.specs.Apdu.Apdu.{ConfirmedRequest}
+use Rattle.bac_apdu.specs.Apdu.{Acknowledgement, Apdu, Limits, Segment}
+use Rattle.bac_apdu.specs.Apdu.Apdu.{Abort, ComplexAck, ConfirmedRequest, Error, Reject, SegmentAck, SimpleAck, UnconfirmedRequest}
+use Rattle.bac_segment.specs.Numbers.{ahead}
+use Rattle.bac_segment.specs.Limits.{N_RETRY}
+use Rattle.bac_segment.specs.Window.{Outgoing, in_window, is_finished}
 use Rattle.bac_protocol.specs.Context.{Context}
-use Rattle.bac_protocol.specs.Reuse.{Reads, ends_entry, entry_left, idle_on_read, idle_reusing, is_ended_by, is_other_first, is_over, left_on_apdu, reads_so, reusing_on_apdu}
-use Rattle.bac_protocol.specs.ReuseLaws.{GoesOnAsEver, PerformsWhereEnded, ReadsAreFresh, fresh_read}
-use Rattle.bac_protocol.specs.Server.{Effect, Reaction, ServerTransaction, Service, begins, idle_on_request, is_kept, is_live, is_none_live, performs_so, sends_reply}
+use Rattle.bac_protocol.specs.Reuse.{Reads, ends_entry, ends_with_reply, entry_left, goes_in_segments, idle_on_read, idle_reusing, is_acknowledged_by, is_all_acknowledged}
+use Rattle.bac_protocol.specs.Reuse.{is_ended_by, is_of_whole_read, is_other_first, is_over, left_on_apdu, reads_so, reusing_on_apdu}
+use Rattle.bac_protocol.specs.ReuseLaws.{EndsWithReply, GoesOnAsEver, PerformsWhereEnded, ReadsAreFresh, fresh_read}
+use Rattle.bac_protocol.specs.Server as server
+use Rattle.bac_protocol.specs.Server.{Effect, Reaction, ServerTransaction, Service, State, Transfer, begins, idle_on_request, is_kept, is_live, is_none_live, performs_so, sends_reply}
 use Rattle.bac_protocol.specs.Server.{server_on_apdu}
 use Rattle.bac_protocol.specs.Service.{Octets, Outcome, Reply}
 use Rattle.bac_protocol.specs.Service.Outcome.{Replies}
@@ -24,11 +30,21 @@ module _ (c : Context) (service : Service) (reads : Reads) (e : ServerTransactio
       ap (λ x. left_on_apdu c service reads (if x then None else Some e) free a) (ended_as a false stays)
       ∙ ap (λ x. if (if x then false else true) then idle_reusing c service reads (Some e) free a else server_on_apdu c service (Some e) free a) live
 
-not_over : (reads : Reads) (e : ServerTransaction) (a : Apdu) → is_over e.state ≡ false → is_ended_by reads e a ≡ false
-not_over reads e (ConfirmedRequest limits id None choice octets) over = ap (λ x. x && (reads choice || not (is_kept e e.request choice octets))) over
-not_over reads e (ConfirmedRequest limits id (Some segment) choice octets) over =
+  -- an entry that ends leaves none
+  pub ends_where : (a : Apdu) → is_ended_by reads e a ≡ true → reusing_on_apdu c service reads (Some e) free a ≡ idle_reusing c service reads None free a
+  ends_where a ends = ap (λ x. left_on_apdu c service reads (if x then None else Some e) free a) (ended_as a true ends)
+
+not_over : (reads : Reads) (e : ServerTransaction) (a : Apdu) → is_over e.state ≡ false → ends_with_reply reads e a ≡ false → is_ended_by reads e a ≡ false
+not_over reads e (ConfirmedRequest limits id None choice octets) over stays = ap (λ x. x && (reads choice || not (is_kept e e.request choice octets))) over
+not_over reads e (ConfirmedRequest limits id (Some segment) choice octets) over stays =
     ap (λ x. x && (nat_eq segment.number 0 && is_other_first e e.first choice octets)) over
-not_over reads e _ over = refl
+not_over reads e (UnconfirmedRequest choice octets) over stays = refl
+not_over reads e (SimpleAck id choice) over stays = refl
+not_over reads e (ComplexAck id segment choice octets) over stays = refl
+not_over reads e (SegmentAck up id ack) over stays = stays
+not_over reads e (Error id choice class code) over stays = refl
+not_over reads e (Reject id reason) over stays = refl
+not_over reads e (Abort up id reason) over stays = stays
 
 and_false : (b : Bool) → b && false ≡ false
 and_false true = refl
@@ -51,12 +67,80 @@ segment_stays reads e limits id choice segment octets same = go (nat_eq segment.
 pub goes_on_as_ever : GoesOnAsEver
 goes_on_as_ever = record {
   off = λ c service reads entry free a. refl;
-  going = λ c service reads e free a live over. goes_on_where c service reads e free live a (not_over reads e a over);
+  going = λ c service reads e free a live over stays. goes_on_where c service reads e free live a (not_over reads e a over stays);
   kept = λ c service reads e free limits id choice octets live no_read kept.
       goes_on_where c service reads e free live (ConfirmedRequest limits id None choice octets) (kept_stays reads e limits id choice octets no_read kept);
   segments = λ c service reads e free limits id choice segment octets live same.
       goes_on_where c service reads e free live (ConfirmedRequest limits id (Some segment) choice octets)
       (segment_stays reads e limits id choice segment octets same);
+}
+
+-- Where an entry ends with its reply.
+
+and_right : (a b : Bool) → a && b ≡ true → b ≡ true
+and_right true b both = both
+and_right false b both = absurd cc
+
+-- the entry that it would leave else
+abbrev pub IsOverAfter : Reaction → Type 0
+IsOverAfter v = (d : ServerTransaction) × (v ≡ server.rests (Some d) []) × (is_over d.state ≡ true)
+
+module _ (c : Context) (e : ServerTransaction) where
+  moves_over : (b : Bool) (next near : Outgoing) → is_finished near ≡ is_finished next → is_all_acknowledged (if b then Some near else None) ≡ true
+      → IsOverAfter (server.moves_reply_window c e (if b then Some next else None))
+  moves_over false next near same all = absurd cc
+  moves_over true next near same all = (
+    record e { state = State.SegmentedResponse next Transfer.Finished c.now },
+    ap (λ b. if b then server.becomes e (State.SegmentedResponse next Transfer.Finished c.now) [] else server.sends_reply_window c e next) (sym same ∙ all),
+    refl,
+  )
+
+  ack_over : (out : Outgoing) (transfer : Transfer) (since number window : ℕ) → is_acknowledged_by (State.SegmentedResponse out transfer since) number ≡ true
+      → IsOverAfter (server.segmented_response_on_ack c e out transfer number window)
+  ack_over out Transfer.Running since number window all = moves_over (nat_lt (ahead number out.first) (in_window out))
+      (record out { first = out.first + ahead number out.first + 1; window = min window c.settings.window; retries = N_RETRY })
+      (record out { first = out.first + ahead number out.first + 1; window = min 1 1; retries = N_RETRY }) refl all
+  ack_over out Transfer.Stopped since number window all = absurd cc
+  ack_over out Transfer.Finished since number window all = absurd cc
+
+  acked_in : (service : Service) (st : State) (id : ℕ) (ack : Acknowledgement) → is_acknowledged_by st ack.number ≡ true
+      → IsOverAfter (server.live_on_apdu c service e st (SegmentAck false id ack))
+  acked_in service (State.SegmentedRequest inc since) id ack all = absurd cc
+  acked_in service (State.Done kept) id ack all = absurd cc
+  acked_in service (State.SegmentedResponse out transfer since) id ack all = ack_over out transfer since ack.number ack.window all
+  acked_in service State.Dropped id ack all = absurd cc
+
+  aborted_in : (service : Service) (st : State) (id reason : ℕ) → goes_in_segments st ≡ true
+      → IsOverAfter (server.live_on_apdu c service e st (Abort false id reason))
+  aborted_in service (State.SegmentedRequest inc since) id reason gives = absurd cc
+  aborted_in service (State.Done kept) id reason gives = absurd cc
+  aborted_in service (State.SegmentedResponse out transfer since) id reason gives =
+      (record e { state = State.SegmentedResponse out Transfer.Finished since }, refl, refl)
+  aborted_in service State.Dropped id reason gives = absurd cc
+
+  live_over : (service : Service) (reads : Reads) (a : Apdu) → ends_with_reply reads e a ≡ true → IsOverAfter (server.live_on_apdu c service e e.state a)
+  live_over service reads (SegmentAck false id ack) ends =
+      acked_in service e.state id ack (and_right (is_of_whole_read reads e) (is_acknowledged_by e.state ack.number) ends)
+  live_over service reads (SegmentAck true id ack) ends = absurd cc
+  live_over service reads (Abort false id reason) ends =
+      aborted_in service e.state id reason (and_right (is_of_whole_read reads e) (goes_in_segments e.state) ends)
+  live_over service reads (Abort true id reason) ends = absurd cc
+  live_over service reads _ ends = absurd cc
+
+none_left : (c : Context) (service : Service) (reads : Reads) (e : ServerTransaction) (free : Bool) (a : Apdu) → is_live c.now e ≡ true
+    → ends_with_reply reads e a ≡ true → reusing_on_apdu c service reads (Some e) free a ≡ server.rests None []
+none_left c service reads e free (SegmentAck false id ack) live ends = ends_where c service reads e free live (SegmentAck false id ack) ends
+none_left c service reads e free (SegmentAck true id ack) live ends = absurd cc
+none_left c service reads e free (Abort false id reason) live ends = ends_where c service reads e free live (Abort false id reason) ends
+none_left c service reads e free (Abort true id reason) live ends = absurd cc
+none_left c service reads e free _ live ends = absurd cc
+
+pub ends_with_its_reply : EndsWithReply
+ends_with_its_reply = record {
+  ends = none_left;
+  else_over = λ c service reads e free a live ends.
+      subst IsOverAfter (sym (ap (λ b. if b then server.live_on_apdu c service e e.state a else server.idle_on_apdu c service (Some e) free a) live))
+      (live_over c e service reads a ends);
 }
 
 -- Where a request is performed.

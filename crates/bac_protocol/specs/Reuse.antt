@@ -2,7 +2,8 @@
 -- Server. A read is a request that changes no store.
 use Rattle.std.specs.Prelude.{ℕ, Bool, true, false, ◌&&◌, ◌||◌, not, [], ◌∷◌, Option, Some, None, is_some, if◌then◌else◌, nat_eq}
 use Rattle.bac_apdu.specs.Apdu.{Apdu, Limits}
-use Rattle.bac_apdu.specs.Apdu.Apdu.{ConfirmedRequest}
+use Rattle.bac_apdu.specs.Apdu.Apdu.{Abort, ConfirmedRequest, SegmentAck}
+use Rattle.bac_segment.specs.Window.{Outgoing, acknowledged, is_finished}
 use Rattle.bac_protocol.specs.Context.{Context}
 use Rattle.bac_protocol.specs.Service.{Octets, OTHER}
 use Rattle.bac_protocol.specs.Server.{Reaction, ServerTransaction, Service, State, Transfer, begins, is_kept, is_live, is_none_live, performs, rests, server_abort}
@@ -30,12 +31,48 @@ abbrev pub is_other_first : ServerTransaction → (first : Option Octets) → (c
 is_other_first e None choice octets = is_some e.request
 is_other_first e (Some first) choice octets = not (is_kept e (Some first) choice octets)
 
--- an entry that is over ends when a read comes, or a request without SEG that is not the kept one, or a segment 0 that is not that of its request
+-- a state whose reply goes in segments
+abbrev pub goes_in_segments : State → Bool
+goes_in_segments (State.SegmentedRequest inc since) = false
+goes_in_segments (State.Done kept) = false
+goes_in_segments (State.SegmentedResponse out transfer since) = true
+goes_in_segments State.Dropped = false
+
+-- the last piece was acknowledged
+abbrev pub is_all_acknowledged : Option Outgoing → Bool
+is_all_acknowledged None = false
+is_all_acknowledged (Some out) = is_finished out
+
+-- a SegmentACK with that number finishes a transfer, whatever the windows are
+abbrev pub is_finished_by_ack : Outgoing → Transfer → (number : ℕ) → Bool
+is_finished_by_ack out Transfer.Running number = is_all_acknowledged (acknowledged 1 out number 1)
+is_finished_by_ack out Transfer.Stopped number = false
+is_finished_by_ack out Transfer.Finished number = false
+
+-- it finishes that of a reply in segments
+abbrev pub is_acknowledged_by : State → (number : ℕ) → Bool
+is_acknowledged_by (State.SegmentedRequest inc since) number = false
+is_acknowledged_by (State.Done kept) number = false
+is_acknowledged_by (State.SegmentedResponse out transfer since) number = is_finished_by_ack out transfer number
+is_acknowledged_by State.Dropped number = false
+
+-- an entry of a read that came without SEG
+abbrev pub is_of_whole_read : Reads → ServerTransaction → Bool
+is_of_whole_read reads e = reads e.choice && is_some e.request
+
+-- the entry of a read that came without SEG ends with its reply in segments: at the SegmentACK that finishes the transfer, and at an Abort of its client
+abbrev pub ends_with_reply : Reads → ServerTransaction → Apdu → Bool
+ends_with_reply reads e (SegmentAck false invoke_id ack) = is_of_whole_read reads e && is_acknowledged_by e.state ack.number
+ends_with_reply reads e (Abort false invoke_id reason) = is_of_whole_read reads e && goes_in_segments e.state
+ends_with_reply reads e _ = false
+
+-- an entry that is over ends when a read comes, or a request without SEG that is not the kept one, or a segment 0 that is not that of its request; that of a
+-- read ends also with its reply
 abbrev pub is_ended_by : Reads → ServerTransaction → Apdu → Bool
 is_ended_by reads e (ConfirmedRequest limits invoke_id None choice octets) = is_over e.state && (reads choice || not (is_kept e e.request choice octets))
 is_ended_by reads e (ConfirmedRequest limits invoke_id (Some segment) choice octets) =
     is_over e.state && (nat_eq segment.number 0 && is_other_first e e.first choice octets)
-is_ended_by reads e _ = false
+is_ended_by reads e apdu = ends_with_reply reads e apdu
 
 -- an APDU ends the entry of its key, if that is live
 abbrev pub ends_entry : Reads → (now : ℕ) → Option ServerTransaction → Apdu → Bool
@@ -45,13 +82,6 @@ ends_entry reads now (Some e) apdu = is_live now e && is_ended_by reads e apdu
 -- the entry, unless the APDU ends it
 abbrev pub entry_left : Reads → (now : ℕ) → Option ServerTransaction → Apdu → Option ServerTransaction
 entry_left reads now entry apdu = if ends_entry reads now entry apdu then None else entry
-
--- a state whose reply goes in segments
-abbrev pub goes_in_segments : State → Bool
-goes_in_segments (State.SegmentedRequest inc since) = false
-goes_in_segments (State.Done kept) = false
-goes_in_segments (State.SegmentedResponse out transfer since) = true
-goes_in_segments State.Dropped = false
 
 abbrev pub has_transfer : Option ServerTransaction → Bool
 has_transfer None = false

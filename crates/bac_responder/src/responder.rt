@@ -289,7 +289,8 @@ impl<S: SlotTable<PeerKey, ServerTransaction> + Drop> Responder<S> {
 
     /// As `on`, of a node that lets clients use an invoke ID again as soon as its transaction is over (clause 5.4). Call one of both for all APDUs.
     ///
-    /// An entry is over once the last of its reply was sent, or its request was given up. Such an entry ends when a read comes without segments (ReadProperty,
+    /// The entry of a read that came without segments ends at the SegmentACK that finishes its reply in segments, and at an Abort of its client. Another entry
+    /// is over once the last of its reply was sent, or its request was given up. Such an entry ends when a read comes without segments (ReadProperty,
     /// AtomicReadFile), or another request than the kept one; segments end it only where it began without. The request is then performed, or begins to be
     /// received; the kept one still gets the kept reply. Where no entry of its peer and invoke ID goes on, a read whose reply is one APDU is performed: it needs
     /// no free slot, no entry is kept of it, and the end does not turn it away while it waits after a restart.

@@ -4,6 +4,7 @@ ghost use Rattle.std.specs.Prelude.{◌≡◌, ◌&&◌, ℕ, not, true, [], Som
 ghost use Rattle.bac_apdu.specs.Views.{apdu_view, limits_view};
 ghost use Rattle.bac_slots.specs.Slots.{value_at};
 ghost use Rattle.bac_slots.specs.Ages.{IsKnownBy};
+ghost use Rattle.bac_segment.specs.Window.{acknowledged};
 ghost use Rattle.bac_protocol.specs.Reuse as machine;
 ghost use Rattle.bac_protocol.specs.Server.{begins, is_none_live, performs};
 ghost use Rattle.bac_transaction.specs.Ends.{is_free};
@@ -15,7 +16,7 @@ ghost use Rattle.bac_responder.specs.Aging.{AreAged, begins_request};
 ghost use Rattle.bac_responder.specs.Kept.{adds_nothing, grows_none_at, is_known};
 ghost use Rattle.bac_responder.specs.Reactions.{BeginsAt, BeginsWhereFree};
 ghost use Rattle.bac_responder.specs.Reuse.{ReusingReacts, code_slots_left, reusing_turn_of, whole_read};
-ghost use Rattle.bac_responder.specs.TransactionViews.{state_view};
+ghost use Rattle.bac_responder.specs.TransactionViews.{state_view, transfer_view};
 ghost use Rattle.bac_responder.specs.Views.{end_of, Serves};
 
 use crate::aging::ServerRules;
@@ -26,11 +27,12 @@ use crate::reading::read_whole;
 use crate::repeats::{is_other_first, is_repeated};
 use crate::replying::{PreparedReply, prepare_reply};
 use crate::served::Served;
-use crate::server_transaction::{Origin, State, Terms, Transfer};
+use crate::server_transaction::{Origin, ReplyTransfer, State, Terms, Transfer};
 use crate::{ServerTransaction, idle_on_apdu};
 use bac_apdu::Apdu;
 use bac_protocol::reasons::OTHER;
 use bac_protocol::times::KEEP;
+use bac_segment::Outgoing;
 use bac_service::{ATOMIC_READ_FILE, READ_PROPERTY};
 use bac_slots::{AgedTable, SlotTable, enter, remove, removing_a_slot};
 use bac_store::Store;
@@ -72,9 +74,68 @@ impl State {
     {
         matches!(self, State::SegmentedResponse(_))
     }
+
+    /// Whether a SegmentACK with this number finishes the transfer of its reply.
+    fn is_acknowledged_by(&self, number: u8) -> bool
+        ensures { (c : ℕ) → result ≡ machine.is_acknowledged_by (state_view c self.now) number }
+    {
+        match self {
+            State::SegmentedRequest(_) => false,
+            State::Done { .. } => false,
+            State::SegmentedResponse(reply) => reply.is_finished_by(number),
+            State::Dropped => false,
+        }
+    }
+}
+
+impl ReplyTransfer {
+    /// Whether a SegmentACK with this number finishes it.
+    fn is_finished_by(&self, number: u8) -> bool
+        ensures { result ≡ machine.is_finished_by_ack self.now.outgoing (transfer_view self.now.transfer) number }
+    {
+        match self.transfer {
+            Transfer::Running => acknowledges_all(&self.outgoing, number),
+            Transfer::Stopped => false,
+            Transfer::Finished => false,
+        }
+    }
+}
+
+/// Whether a SegmentACK with this number acknowledges the last piece.
+fn acknowledges_all(outgoing: &Outgoing, number: u8) -> bool
+    ensures { result ≡ machine.is_all_acknowledged (acknowledged 1 outgoing.now number 1) }
+{
+    let first = outgoing.position().first;
+    let by = number.wrapping_sub((first % 256) as u8) as usize;
+    if by >= outgoing.in_window() {
+        return false;
+    }
+    outgoing.count() <= first + by + 1
 }
 
 impl ServerTransaction {
+    /// Whether it is of a read that came without SEG.
+    fn is_of_whole_read(&self) -> bool
+        ensures { result ≡ machine.is_of_whole_read is_read self.now }
+    {
+        is_read(self.origin.terms.choice) && self.origin.request.is_some()
+    }
+
+    /// Whether an APDU is the SegmentACK that finishes its reply in segments, or an Abort of its client, and it is of a read that came without SEG.
+    fn ends_with_reply(&self, apdu: &Apdu<'_>) -> bool
+        ensures { result ≡ machine.ends_with_reply is_read self.now (apdu_view apdu.now) }
+    {
+        match *apdu {
+            Apdu::SegmentAck { server, number, .. } => {
+                !server && self.is_of_whole_read() && self.state.is_acknowledged_by(number)
+            }
+            Apdu::Abort { server, .. } => {
+                !server && self.is_of_whole_read() && self.state.goes_in_segments()
+            }
+            _ => false,
+        }
+    }
+
     /// Whether an APDU ends it.
     fn is_ended_by(&self, apdu: &Apdu<'_>) -> bool
         ensures { result ≡ machine.is_ended_by is_read self.now (apdu_view apdu.now) }
@@ -86,7 +147,7 @@ impl ServerTransaction {
             ..
         } = *apdu
         else {
-            return false;
+            return self.ends_with_reply(apdu);
         };
         if !self.state.is_over() {
             return false;

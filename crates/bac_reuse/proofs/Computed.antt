@@ -1,6 +1,6 @@
 -- The examples are computed.
 use Rattle.std.proofs.Common.{refl}
-use Rattle.bac_reuse.specs.Examples.{WritesAreOnce, ReadsAreFresh, OneInvokeId, PiecesAreOnce, ReadsThatWrite}
+use Rattle.bac_reuse.specs.Examples.{WritesAreOnce, ReadsAreFresh, OneInvokeId, PiecesAreOnce, ReadsEnd, ReadsThatWrite}
 
 pub writes_are_once : WritesAreOnce
 writes_are_once = refl
@@ -13,6 +13,9 @@ one_invoke_id = refl
 
 pub pieces_are_once : PiecesAreOnce
 pieces_are_once = record { first = refl; another = refl; repeated = refl }
+
+pub reads_end : ReadsEnd
+reads_end = record { goes_on = refl; another = refl; ends = refl; aborted = refl; remembered = refl }
 
 pub reads_that_write : ReadsThatWrite
 reads_that_write = refl

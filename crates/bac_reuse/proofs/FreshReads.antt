@@ -19,7 +19,7 @@ use Rattle.bac_protocol.specs.Reuse.{Reads, ends_entry, entry_left, has_transfer
 use Rattle.bac_protocol.specs.Reuse.{reusing_on_apdu, server_hears}
 use Rattle.bac_protocol.proofs.Facts.{all_map}
 use Rattle.bac_protocol.proofs.Own.{server_sends_own}
-use Rattle.bac_protocol.proofs.Reused.{goes_on_where}
+use Rattle.bac_protocol.proofs.Reused.{ends_where, goes_on_where}
 use Rattle.bac_protocol.proofs.Served.{IsServed, gets_served}
 use Rattle.bac_reuse.proofs.Machine.{EntryIs, GoesOnFrom, IsGiving, IsRequestOf, OverIf, gets_gives, gives_quiet}
 
@@ -204,6 +204,15 @@ module _ (c : Context) (service : Service) (ask : Ask) where
     going_read e free live over limits id choice octets = goes_on_where c service reads e free live (ConfirmedRequest limits id None choice octets)
         (ap (λ y. y && (reads choice || not (is_kept e e.request choice octets))) over)
 
+    -- with one that may end with its reply
+    ending_alone : (e : ServerTransaction) (free : Bool) → is_live c.now e ≡ true → IsGiving e.state → (a : Apdu)
+        → idle_reusing c service reads None free a ≡ server.rests None [] → GoesAlone c service ask free e.begin (reusing_on_apdu c service reads (Some e) free a)
+    ending_alone e free live gives a nothing = go (is_ended_by reads e a) refl
+      where
+        go : (b : Bool) → is_ended_by reads e a ≡ b → GoesAlone c service ask free e.begin (reusing_on_apdu c service reads (Some e) free a)
+        go true ends = subst (GoesAlone c service ask free e.begin) (sym (ends_where c service reads e free live a ends ∙ nothing)) (nothing_alone free e.begin)
+        go false stays = subst (GoesAlone c service ask free e.begin) (sym (goes_on_where c service reads e free live a stays)) (going_alone e free live gives a)
+
     pub alone_some : (e : ServerTransaction) (free : Bool) → is_live c.now e ≡ true → IsGiving e.state → (a : Apdu) → IsRequestOf ask a
         → GoesAlone c service ask free e.begin (reusing_on_apdu c service reads (Some e) free a)
     alone_some e free live gives (ConfirmedRequest limits id None choice octets) is = go (is_over e.state) refl
@@ -220,14 +229,12 @@ module _ (c : Context) (service : Service) (ask : Ask) where
         (sym (goes_on_where c service reads e free live (SimpleAck id choice) refl)) (going_alone e free live gives (SimpleAck id choice))
     alone_some e free live gives (ComplexAck id segment choice octets) is = subst (GoesAlone c service ask free e.begin)
         (sym (goes_on_where c service reads e free live (ComplexAck id segment choice octets) refl)) (going_alone e free live gives (ComplexAck id segment choice octets))
-    alone_some e free live gives (SegmentAck up id ack) is = subst (GoesAlone c service ask free e.begin)
-        (sym (goes_on_where c service reads e free live (SegmentAck up id ack) refl)) (going_alone e free live gives (SegmentAck up id ack))
+    alone_some e free live gives (SegmentAck up id ack) is = ending_alone e free live gives (SegmentAck up id ack) refl
     alone_some e free live gives (Error id choice class code) is = subst (GoesAlone c service ask free e.begin)
         (sym (goes_on_where c service reads e free live (Error id choice class code) refl)) (going_alone e free live gives (Error id choice class code))
     alone_some e free live gives (Reject id reason) is = subst (GoesAlone c service ask free e.begin)
         (sym (goes_on_where c service reads e free live (Reject id reason) refl)) (going_alone e free live gives (Reject id reason))
-    alone_some e free live gives (Abort up id reason) is = subst (GoesAlone c service ask free e.begin)
-        (sym (goes_on_where c service reads e free live (Abort up id reason) refl)) (going_alone e free live gives (Abort up id reason))
+    alone_some e free live gives (Abort up id reason) is = ending_alone e free live gives (Abort up id reason) refl
 
 -- What holds of all that comes of an APDU without reuse, of Aborts, and of a read that leaves the entry that was, holds of all that comes of one with reuse.
 pub record IsOfMachine (c : Context) (service : Service) (Has : Option ServerTransaction → Type 0) (Is : Reaction → Type 0) : Type 0 where

@@ -21,7 +21,8 @@ use Rattle.bac_protocol.specs.Server as server
 use Rattle.bac_protocol.specs.Server.{Effect, Reaction, ServerTransaction, Service, State, Transfer, is_kept, is_live, is_none_live, server_on_apdu, server_ticks}
 use Rattle.bac_protocol.specs.Server.State.{Done, SegmentedResponse, Dropped}
 use Rattle.bac_protocol.specs.Server.Transfer.{Running, Stopped, Finished}
-use Rattle.bac_protocol.specs.Reuse.{Reads, idle_on_read, idle_reusing, is_ended_by, is_other_first, is_transfer_over, left_on_apdu, reusing_on_apdu}
+use Rattle.bac_protocol.specs.Reuse.{Reads, goes_in_segments, idle_on_read, idle_reusing, is_acknowledged_by, is_ended_by, is_of_whole_read, is_other_first}
+use Rattle.bac_protocol.specs.Reuse.{is_transfer_over, left_on_apdu, reusing_on_apdu}
 use Rattle.bac_protocol.specs.Steps.{IsSegmentedRequest, MayPerform, StateStays, StaysIn}
 use Rattle.bac_protocol.proofs.Reused.{goes_on_as_ever, goes_on_where}
 use Rattle.bac_protocol.proofs.Sound.{FirstFits}
@@ -208,6 +209,20 @@ module _ (c : Context) (service : Service) where
               let test : nat_eq choice e.choice ≡ true = grind (arith, nat_tests) in
               ap (λ b. not (b && bytes_eq octets (piece_at ask.pieces 0))) test ∙ ap not ((bytes_eq-Decides octets (piece_at ask.pieces 0)).1 same)
 
+      none_and : (a b : Bool) → (a && false) && b ≡ false
+      none_and true b = refl
+      none_and false b = refl
+
+      -- the entry is of no read in one APDU
+      no_whole_read : (e : ServerTransaction) → IsFor ask e → (b : Bool) → is_of_whole_read reads e && b ≡ false
+      no_whole_read e is b = go old
+        where
+          go : (reads ask.choice ≡ false) ⊎ (ask.whole ≡ false) → is_of_whole_read reads e && b ≡ false
+          go (inl never) = ap (λ x. (x && is_some e.request) && b) (ap reads is.choice ∙ never)
+          go (inr parts) =
+              ap (λ x. (reads e.choice && x) && b) (ap is_some (is.request ∙ ap (λ w. if w then Some (join ask.pieces) else None) parts))
+              ∙ none_and (reads e.choice) b
+
       pub live_same : (e : ServerTransaction) (free : Bool) → is_live c.now e ≡ true → FirstFits ask e.first → IsFor ask e → (a : Apdu) → IsRequestOf ask a
           → reusing_on_apdu c service reads (Some e) free a ≡ server_on_apdu c service (Some e) free a
       live_same e free live first is (ConfirmedRequest limits id None choice octets) of =
@@ -218,10 +233,14 @@ module _ (c : Context) (service : Service) where
       live_same e free live first is (SimpleAck id choice) of = goes_on_where c service reads e free live (SimpleAck id choice) refl
       live_same e free live first is (ComplexAck id segment choice octets) of =
           goes_on_where c service reads e free live (ComplexAck id segment choice octets) refl
-      live_same e free live first is (SegmentAck up id ack) of = goes_on_where c service reads e free live (SegmentAck up id ack) refl
+      live_same e free live first is (SegmentAck true id ack) of = goes_on_where c service reads e free live (SegmentAck true id ack) refl
+      live_same e free live first is (SegmentAck false id ack) of =
+          goes_on_where c service reads e free live (SegmentAck false id ack) (no_whole_read e is (is_acknowledged_by e.state ack.number))
       live_same e free live first is (Error id choice class code) of = goes_on_where c service reads e free live (Error id choice class code) refl
       live_same e free live first is (Reject id reason) of = goes_on_where c service reads e free live (Reject id reason) refl
-      live_same e free live first is (Abort up id reason) of = goes_on_where c service reads e free live (Abort up id reason) refl
+      live_same e free live first is (Abort true id reason) of = goes_on_where c service reads e free live (Abort true id reason) refl
+      live_same e free live first is (Abort false id reason) of =
+          goes_on_where c service reads e free live (Abort false id reason) (no_whole_read e is (goes_in_segments e.state))
 
     pub live_for : (e : ServerTransaction) (free : Bool) → is_live c.now e ≡ true → IsFor ask e → (a : Apdu)
         → EntryIs (IsFor ask) (server_on_apdu c service (Some e) free a).entry

@@ -11,9 +11,9 @@ use Rattle.bac_protocol.specs.Client.{Ask}
 use Rattle.bac_protocol.specs.Server as server
 use Rattle.bac_protocol.specs.Server.{Reaction, ServerTransaction, Service, State, Transfer, is_live, server_on_apdu}
 use Rattle.bac_protocol.specs.Server.Transfer.{Running}
-use Rattle.bac_protocol.specs.Reuse.{idle_on_read, is_over, is_transfer_over, reusing_on_apdu, server_hears}
+use Rattle.bac_protocol.specs.Reuse.{ends_with_reply, idle_on_read, is_ended_by, is_over, is_transfer_over, reusing_on_apdu, server_hears}
 use Rattle.bac_protocol.specs.Transaction.{Key}
-use Rattle.bac_protocol.proofs.Reused.{goes_on_where}
+use Rattle.bac_protocol.proofs.Reused.{ends_with_its_reply, goes_on_where}
 use Rattle.bac_protocol.proofs.Sound.{FirstFits}
 use Rattle.bac_reuse.specs.Runs.{Reusing}
 use Rattle.bac_reuse.proofs.Beside.{AreGone, FitOf, Holds, IsFresh, IsLeftOf, fresh_is, is_fresh, not_fresh}
@@ -55,9 +55,20 @@ pub record GoesApart (c : Context) (service : Service) (fresh idle : Bool) (ask 
   pub live : is_live c.now entry ≡ true
   pub goes : GoesAlone c service ask room entry.begin v
 
+-- the entry of a fresh read ends with its reply, and the other's is over from then on
+pub record ReadEnds (c : Context) (service : Service) (fresh idle : Bool) (a : Apdu) (theirs : Option ServerTransaction) (v w : Reaction) : Type 0 where
+  pub is_fresh : fresh ≡ true
+  pub entry : ServerTransaction
+  pub is : theirs ≡ Some entry
+  pub live : is_live c.now entry ≡ true
+  pub ours : v ≡ server.rests None []
+  pub next : EntryIs (GivesOn c service idle a) w.entry
+  pub over : EntryIs (λ d. is_over d.state ≡ true) w.entry
+
 abbrev pub Outcome : Context → Service → (fresh idle : Bool) → Ask → (room : Bool) → Apdu → (ours theirs : Option ServerTransaction) → (v w : Reaction) → Type 0
 Outcome c service fresh idle ask room a ours theirs v w = DoSame c service fresh idle ask a v w
-    ⊎ (DoRest c.now ours theirs v w ⊎ (ReadsFresh c service fresh ask ours theirs v ⊎ GoesApart c service fresh idle ask room theirs v))
+    ⊎ (DoRest c.now ours theirs v w ⊎ (ReadsFresh c service fresh ask ours theirs v
+    ⊎ (GoesApart c service fresh idle ask room theirs v ⊎ ReadEnds c service fresh idle a theirs v w)))
 
 over_of_none : (c : Context) (service : Service) (a : Apdu) (st : State) → OverIf ⊥ st → OverBy c service a Running st
 over_of_none c service a (State.SegmentedRequest inc since) h = tt
@@ -65,7 +76,7 @@ over_of_none c service a (State.Done kept) h = tt
 over_of_none c service a (State.SegmentedResponse out transfer since) h = λ is. absurd (h is)
 over_of_none c service a State.Dropped h = tt
 
-over_idle : (idle : Bool) (st : State) → IsGiving st → OverIf (idle ≡ true) st → is_over st ≡ true → idle ≡ true
+pub over_idle : (idle : Bool) (st : State) → IsGiving st → OverIf (idle ≡ true) st → is_over st ≡ true → idle ≡ true
 over_idle idle (State.SegmentedRequest inc since) gives h is = absurd gives
 over_idle idle (State.Done kept) gives h is = absurd gives
 over_idle idle (State.SegmentedResponse out transfer since) gives h is = h is
@@ -219,7 +230,7 @@ module _ (c : Context) (service : Service) (u : Reusing) (key : Key) (ask : Ask)
 
       ended_request : (limits : Limits) (id choice : ℕ) (octets : Octets) → IsRequestOf ask (ConfirmedRequest limits id None choice octets)
           → (b : Bool) → is_over e.state ≡ b → OutcomeOf true (ConfirmedRequest limits id None choice octets) (Some e) (Some e)
-      ended_request limits id choice octets is true ends = inr (inr (inr (record {
+      ended_request limits id choice octets is true ends = inr (inr (inr (inl (record {
         is_fresh = refl;
         is_idle = over_idle idle e.state gives over ends;
         entry = e;
@@ -227,9 +238,27 @@ module _ (c : Context) (service : Service) (u : Reusing) (key : Key) (ask : Ask)
         live = live;
         goes = subst (GoesAlone c service ask room e.begin) (sym (ours_reuses (ConfirmedRequest limits id None choice octets) (Some e)))
             (alone_some c service ask u.reads fresh.read fresh.whole e room live gives (ConfirmedRequest limits id None choice octets) is);
-      })))
+      }))))
       ended_request limits id choice octets is false goes = both_go (ConfirmedRequest limits id None choice octets)
           (going_read c service ask u.reads fresh.read fresh.whole e room live goes limits id choice octets)
+
+      -- it ends with its reply, or goes on
+      with_reply : (a : Apdu) → is_ended_by u.reads e a ≡ ends_with_reply u.reads e a → OutcomeOf true a (Some e) (Some e)
+      with_reply a same = go (ends_with_reply u.reads e a) refl
+        where
+          go : (b : Bool) → ends_with_reply u.reads e a ≡ b → OutcomeOf true a (Some e) (Some e)
+          go false stays = both_go a (goes_on_where c service u.reads e room live a (same ∙ stays))
+          go true ends =
+              let after = ends_with_its_reply.else_over c service u.reads e room a live ends in
+              inr (inr (inr (inr (record {
+                is_fresh = refl;
+                entry = e;
+                is = refl;
+                live = live;
+                ours = ours_reuses a (Some e) ∙ ends_with_its_reply.ends c service u.reads e room a live ends;
+                next = goes_on a e.state refl gives over;
+                over = subst (λ (w : Reaction). EntryIs (λ d. is_over d.state ≡ true) w.entry) (sym after.1) after.2;
+              }))))
 
       pub live_fresh : (a : Apdu) → IsRequestOf ask a → OutcomeOf true a (Some e) (Some e)
       live_fresh (ConfirmedRequest limits id None choice octets) is = ended_request limits id choice octets is (is_over e.state) refl
@@ -239,24 +268,24 @@ module _ (c : Context) (service : Service) (u : Reusing) (key : Key) (ask : Ask)
       live_fresh (SimpleAck id choice) is = both_go (SimpleAck id choice) (goes_on_where c service u.reads e room live (SimpleAck id choice) refl)
       live_fresh (ComplexAck id g choice octets) is =
           both_go (ComplexAck id g choice octets) (goes_on_where c service u.reads e room live (ComplexAck id g choice octets) refl)
-      live_fresh (SegmentAck up id ack) is = both_go (SegmentAck up id ack) (goes_on_where c service u.reads e room live (SegmentAck up id ack) refl)
+      live_fresh (SegmentAck up id ack) is = with_reply (SegmentAck up id ack) refl
       live_fresh (Error id choice class code) is =
           both_go (Error id choice class code) (goes_on_where c service u.reads e room live (Error id choice class code) refl)
       live_fresh (Reject id reason) is = both_go (Reject id reason) (goes_on_where c service u.reads e room live (Reject id reason) refl)
-      live_fresh (Abort up id reason) is = both_go (Abort up id reason) (goes_on_where c service u.reads e room live (Abort up id reason) refl)
+      live_fresh (Abort up id reason) is = with_reply (Abort up id reason) refl
 
     -- where the other's does not count any more
     pub apart_fresh : idle ≡ true → (e : ServerTransaction) → is_live c.now e ≡ true → (o : Option ServerTransaction) → IsLeftOf e o → (a : Apdu) → IsRequestOf ask a
         → OutcomeOf true a o (Some e)
-    apart_fresh over e live None left a is = inr (inr (inr (record {
+    apart_fresh over e live None left a is = inr (inr (inr (inl (record {
       is_fresh = refl;
       is_idle = over;
       entry = e;
       is = refl;
       live = live;
       goes = subst (GoesAlone c service ask room e.begin) (sym (ours_reuses a None)) (alone_none c service ask u.reads fresh.read fresh.whole room e.begin a is);
-    })))
-    apart_fresh over e live (Some d) left a is = inr (inr (inr (record {
+    }))))
+    apart_fresh over e live (Some d) left a is = inr (inr (inr (inl (record {
       is_fresh = refl;
       is_idle = over;
       entry = e;
@@ -265,7 +294,7 @@ module _ (c : Context) (service : Service) (u : Reusing) (key : Key) (ask : Ask)
       goes = subst (λ n. GoesAlone c service ask room n (ours_does a (Some d))) left.0
           (subst (GoesAlone c service ask room d.begin) (sym (ours_reuses a (Some d)))
           (alone_some c service ask u.reads fresh.read fresh.whole d room (subst (λ n. nat_le (c.now - n) KEEP ≡ true) (sym left.0) live) left.1 a is));
-    })))
+    }))))
 
   -- All of it.
 

@@ -18,7 +18,7 @@ use Rattle.bac_protocol.specs.Server as server
 use Rattle.bac_protocol.specs.Server.{Effect, ServerTransaction, Service, State, Transfer, is_live, server_on_apdu}
 use Rattle.bac_protocol.specs.Log.{Fact, Has, IsOrderly, IsUnperformed, MayEnd}
 use Rattle.bac_protocol.specs.Log.Fact.{Asked, Ended}
-use Rattle.bac_protocol.specs.Reuse.{is_transfer_over, server_hears}
+use Rattle.bac_protocol.specs.Reuse.{is_over, is_transfer_over, server_hears}
 use Rattle.bac_protocol.specs.Transaction.{Copy, Key, Rules, ended, performed, server_context}
 use Rattle.bac_protocol.specs.World.{Net, Post, client_acts, client_now, is_room, post_of, server_acts, server_now, set_at}
 use Rattle.bac_protocol.specs.Claims.{IsBounded, Moments, moments_of}
@@ -40,7 +40,7 @@ use Rattle.bac_reuse.proofs.Beside.{likes_map, likes_same, logs_effect, logs_end
 use Rattle.bac_reuse.proofs.Clients.{AbortsIf}
 use Rattle.bac_reuse.proofs.FreshReads.{IsFromServer, IsOfRead, all_from_server, given_from_server, giving_own}
 use Rattle.bac_reuse.proofs.Machine.{EntryIs, GoesOnFrom, IsClientAbort, IsGiving, IsGone, IsRequestOf, OverBy, OverIf, gone_ticks, ticks_for, ticks_gives, ticks_over}
-use Rattle.bac_reuse.proofs.Outcomes.{GivesOn, GoesApart, HoldsOn, Outcome, ReadsFresh, outcome}
+use Rattle.bac_reuse.proofs.Outcomes.{GivesOn, GoesApart, HoldsOn, Outcome, ReadEnds, ReadsFresh, outcome, over_idle}
 use Rattle.bac_reuse.proofs.NetSteps.{IsInTime, IsSoon, Stands, aborts, copy_is_soon, entry_first, entry_gets, entry_in_time, entry_ticks, server_aborts}
 use Rattle.bac_reuse.proofs.NetSteps.{soon_in_time}
 
@@ -481,6 +481,21 @@ module _ (W : ℕ) (x : Rules) (bound : IsBounded W x) (u : Reusing) where
           )
           (h.2).of (inl h.1))
 
+      -- the entry of a read ends with its reply: its ticket has ended
+      over_then : (o : Option ServerTransaction) → EntryIs (Holds true (is_idle t.phase) t.ask) o → EntryIs (λ d. is_over d.state ≡ true) o → is_idle t.phase ≡ true
+      over_then None h over = absurd h
+      over_then (Some d) h over = over_idle (is_idle t.phase) d.state h.0 h.1 over
+
+      read_ends : ReadEnds told service (is_fresh u key t.ask) (is_idle t.phase) p.apdu (n.entries key) ours theirs → Goes ours
+      read_ends h = subst Goes (sym h.ours) (apart_goes (server.rests None []) (record {
+        is_fresh = h.is_fresh;
+        is_idle = over_then theirs.entry (holds_next theirs kept_theirs service p.apdu gave_up true h.next) h.over;
+        entry = h.entry;
+        is = h.is;
+        live = h.live;
+        goes = record { sends = tt; of = tt; entry = inl refl };
+      }))
+
       pub copy_comes : IsFollowed (server_acts (over n g) key ours)
       copy_comes = go (outcome told service u key t.ask (is_idle t.phase) (is_room n key free) (is_fresh u key t.ask) refl p.apdu of_ask
           (g.entries key) (n.entries key) (entry_first W x bound n s key t at) fit_at)
@@ -493,7 +508,8 @@ module _ (W : ℕ) (x : Rules) (bound : IsBounded W x) (u : Reusing) where
               (subst (λ (v : server.Reaction). Stands W (server_acts n key v)) (h.1).2 kept_theirs)
               (subst (λ (v : server.Reaction). Each IsFromServer v.sends) (h.1).2 from_theirs) h.0)
           go (inr (inr (inl h))) = fresh_goes ours h
-          go (inr (inr (inr h))) = apart_goes ours h
+          go (inr (inr (inr (inl h)))) = apart_goes ours h
+          go (inr (inr (inr (inr h)))) = read_ends h
 
     -- The entry ticks.
 

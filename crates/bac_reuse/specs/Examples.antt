@@ -1,7 +1,8 @@
 -- Runs that are computed, in which node 1 lets invoke IDs be used again. A store counts its writes, a reply tells how many there were, and choice 12 is a read.
-use Rattle.std.specs.Prelude.{◌≡◌, ℕ, suc, Bool, true, false, List, [], ◌∷◌, ◌++◌, Option, Some, None, nat_eq, if◌then◌else◌}
+use Rattle.std.specs.Prelude.{◌≡◌, ℕ, suc, Bool, true, false, List, [], ◌∷◌, ◌++◌, Option, Some, None, is_some, nat_eq, if◌then◌else◌}
 use Rattle.bac_apdu.specs.Apdu.{Apdu}
-use Rattle.bac_apdu.specs.Apdu.Apdu.{ConfirmedRequest, ComplexAck}
+use Rattle.bac_apdu.specs.Apdu.Apdu.{Abort, ConfirmedRequest, ComplexAck, SegmentAck}
+use Rattle.bac_segment.specs.Window.{outgoing}
 use Rattle.bac_protocol.specs.Service.{Octets, Request, Reply}
 use Rattle.bac_protocol.specs.Service.Reply.{Complex}
 use Rattle.bac_protocol.specs.Service.Outcome.{Replies}
@@ -9,7 +10,7 @@ use Rattle.bac_protocol.specs.Service.Ending.{Answered}
 use Rattle.bac_protocol.specs.Log.{StoreModel}
 use Rattle.bac_protocol.specs.Log.Fact.{Asked, Performed, Ended}
 use Rattle.bac_protocol.specs.Reuse.{reusing_on_apdu}
-use Rattle.bac_protocol.specs.Server.{Effect, Reaction, ServerTransaction}
+use Rattle.bac_protocol.specs.Server.{Effect, Reaction, ServerTransaction, State, Transfer}
 use Rattle.bac_protocol.specs.Transaction.{Key, server_context}
 use Rattle.bac_protocol.specs.Pace.{one_clock}
 use Rattle.bac_protocol.specs.World.{Event, start}
@@ -134,6 +135,35 @@ pub record PiecesAreOnce : Type 0 where
   pub first : performs_pieces None on off ≡ Some (record { request = write (on ++ off); reply = tells 0 })
   pub another : performs_pieces (left_by on off) off on ≡ Some (record { request = write (off ++ on); reply = tells 0 })
   pub repeated : performs_pieces (left_by on off) on off ≡ None
+
+-- A reply in two segments, to a request of that choice that came without SEG.
+
+abbrev pub giving : (choice : ℕ) → ServerTransaction
+giving choice = record {
+  begin = 0;
+  choice = choice;
+  limits = limits true 7;
+  request = Some [];
+  first = None;
+  state = State.SegmentedResponse (outgoing (on ∷ off ∷ [])) Transfer.Running 0;
+}
+
+-- its entry, once node 1 has heard these of its client, the last one first
+abbrev pub once_heard : (choice : ℕ) → List Apdu → Option ServerTransaction
+once_heard choice [] = Some (giving choice)
+once_heard choice (a ∷ heard) =
+    (reusing_on_apdu (server_context (rules 32) (from 0) 0) (counting.outcome 0) reusing.reads (once_heard choice heard) true a).entry
+
+abbrev pub acks : (number : ℕ) → Apdu
+acks number = SegmentAck false 0 (record { nak = false; number = number; window = 32 })
+
+-- A read ends with its reply: at the SegmentACK of the last segment, and not before, or at an Abort of its client. A write is remembered.
+pub record ReadsEnd : Type 0 where
+  pub goes_on : is_some (once_heard 12 (acks 0 ∷ [])) ≡ true
+  pub another : is_some (once_heard 12 (acks 1 ∷ [])) ≡ true
+  pub ends : once_heard 12 (acks 1 ∷ acks 0 ∷ []) ≡ None
+  pub aborted : once_heard 12 (Abort false 0 0 ∷ []) ≡ None
+  pub remembered : is_some (once_heard 7 (acks 1 ∷ acks 0 ∷ [])) ≡ true
 
 -- Beyond: where what is called a read changes its store, its ask takes effect each time that its request comes.
 abbrev pub careless : StoreModel ℕ
