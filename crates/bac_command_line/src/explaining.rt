@@ -12,7 +12,7 @@ use bac_text::Status;
 use std::alloc::Global;
 use std::io::Write;
 
-/// Explains the capture in a file as objects of JSON. A file that cannot be opened: `cannot read` on `err`.
+/// Explains the capture in a file as objects of JSON. A file that cannot be opened or read on: `cannot read` on `err`, and why.
 pub(crate) fn explain_json<F: OpenFiles, O: Write, E: Write>(
     alloc: Global,
     files: &F,
@@ -27,14 +27,20 @@ pub(crate) fn explain_json<F: OpenFiles, O: Write, E: Write>(
         Ok(mut input) => {
             let ports = Ports { also: capture.port };
             let status = explain_json_over(alloc, options, &mut input, ports, out, err);
-            print_unfit(status, capture.path, CAPTURES_TAKEN, err);
+            print_unfit(
+                status,
+                capture.path,
+                input.get_ref(),
+                Some(CAPTURES_TAKEN),
+                err,
+            );
             status
         }
         Err(status) => status,
     }
 }
 
-/// Explains the capture in a file as a page of HTML. A file that cannot be opened: `cannot read` on `err`.
+/// Explains the capture in a file as a page of HTML. A file that cannot be opened or read on: `cannot read` on `err`, and why.
 pub(crate) fn explain_html<F: OpenFiles, O: Write, E: Write>(
     alloc: Global,
     files: &F,
@@ -49,7 +55,13 @@ pub(crate) fn explain_html<F: OpenFiles, O: Write, E: Write>(
         Ok(mut input) => {
             let ports = Ports { also: capture.port };
             let status = explain_html_over(alloc, options, &mut input, ports, out, err);
-            print_unfit(status, capture.path, CAPTURES_TAKEN, err);
+            print_unfit(
+                status,
+                capture.path,
+                input.get_ref(),
+                Some(CAPTURES_TAKEN),
+                err,
+            );
             status
         }
         Err(status) => status,

@@ -6,6 +6,7 @@ ghost use Rattle.bac_text.specs.Statuses.{IsStop};
 ghost use Rattle.bac_command_line.specs.Files.{IsChartedFile, IsCheckedFile, IsExplainedFile, IsShownFile, IsSimulatedFile, OnFile};
 
 use crate::reasons::{print_unfit, print_unread};
+use crate::watched::Watched;
 use bac_capture::{Ports, check_capture_over, signature_of};
 use bac_explain_report::{ChartOptions, ReportOptions, chart_over, explain_over};
 use bac_simulate::{View, show_over, simulate_lines_over};
@@ -59,17 +60,30 @@ pub(crate) fn opened<F: OpenFiles, E: Write>(
     }
 }
 
-/// A file, opened for reading, with a buffer. Where it cannot be opened, or memory is refused, `err` and the status say so.
+/// A file, opened for reading, that remembers why a read failed. Where it cannot be opened, `err` and the status say so.
+pub(crate) fn watched_of<F: OpenFiles, E: Write>(
+    files: &F,
+    path: &str,
+    err: &mut E,
+) -> Result<Watched<F::File>, Status>
+    ensures opened { IfOk result (λ w. F.is_file path.now w.file) }
+    ensures told { IfErr result IsStop }
+{
+    let file = opened(files, path, err)?;
+    Ok(Watched::new(file))
+}
+
+/// A file, opened for reading, with a buffer; it remembers why a read failed. Where it cannot be opened, or memory is refused, `err` and the status say so.
 pub(crate) fn reader_of<F: OpenFiles, E: Write>(
     alloc: Global,
     files: &F,
     path: &str,
     err: &mut E,
-) -> Result<BufReader<F::File>, Status>
-    ensures at { IfOk result (λ r. OnFile F.is_file F.File.remaining path.now (reader_remaining F.File.remaining r)) }
+) -> Result<BufReader<Watched<F::File>>, Status>
+    ensures at { IfOk result (λ r. OnFile F.is_file F.File.remaining path.now (reader_remaining (λ w. F.File.remaining w.file) r)) }
     ensures told { IfErr result IsStop }
 {
-    let file = opened(files, path, err)?;
+    let file = watched_of(files, path, err)?;
     match BufReader::with_capacity(alloc, READ_AT_ONCE, file) {
         Ok(reader) => Ok(reader),
         Err(_) => Err(no_memory(err)),
@@ -127,14 +141,14 @@ fn are_no_capture(alloc: Global, octets: &[u8]) -> bool {
     is_none
 }
 
-/// Whether an input begins as no capture, as far as its next octets show. None is taken.
+/// Whether an input begins as no capture, as far as its next octets show. It takes none of them.
 fn begins_as_none<R: BufRead>(alloc: Global, input: &mut R) -> bool
     ensures { Keeps (R.remaining input.old) (R.remaining input.new) }
 {
     match input.fill_buf() {
         Ok([a, b, c, d, ..]) if signature_of(&[*a, *b, *c, *d]).is_some() => false,
         Ok(octets) => are_no_capture(alloc, octets),
-        // it fails again where it is checked
+        // the check meets the fault, or reads on after a signal
         Err(_) => false,
     }
 }
@@ -147,8 +161,8 @@ fn print_no_capture<E: Write>(is_none: bool, status: Status, path: &str, err: &m
     }
 }
 
-/// Checks the capture in a file: one of pcap or pcapng, or of lines; in words, with counts of other functions by name, or not. A file that cannot be opened:
-/// `cannot read` on `err`. Of a file that begins as no capture `err` has a hint.
+/// Checks the capture in a file: one of pcap or pcapng, or of lines; in words, with counts of other functions by name, or not. A file that cannot be opened or read on:
+/// `cannot read` on `err`, and why. Of a file that begins as no capture `err` has a hint.
 pub(crate) fn check<F: OpenFiles, O: Write, E: Write>(
     alloc: Global,
     files: &F,
@@ -165,13 +179,14 @@ pub(crate) fn check<F: OpenFiles, O: Write, E: Write>(
             let is_none = begins_as_none(alloc, &mut input);
             let status = check_capture_over(alloc, &mut input, ports, in_words, out, err);
             print_no_capture(is_none, status, capture.path, err);
+            print_unfit(status, capture.path, input.get_ref(), None, err);
             status
         }
         Err(status) => status,
     }
 }
 
-/// Explains the capture in a file of pcap or pcapng, as those options say. A file that cannot be opened: `cannot read` on `err`.
+/// Explains the capture in a file of pcap or pcapng, as those options say. A file that cannot be opened or read on: `cannot read` on `err`, and why.
 pub(crate) fn explain<F: OpenFiles, O: Write, E: Write>(
     alloc: Global,
     files: &F,
@@ -186,14 +201,20 @@ pub(crate) fn explain<F: OpenFiles, O: Write, E: Write>(
         Ok(mut input) => {
             let ports = Ports { also: capture.port };
             let status = explain_over(alloc, options, &mut input, ports, out, err);
-            print_unfit(status, capture.path, CAPTURES_TAKEN, err);
+            print_unfit(
+                status,
+                capture.path,
+                input.get_ref(),
+                Some(CAPTURES_TAKEN),
+                err,
+            );
             status
         }
         Err(status) => status,
     }
 }
 
-/// Draws the datagrams of the capture in a file of pcap or pcapng, as those options say. A file that cannot be opened: `cannot read` on `err`.
+/// Draws the datagrams of the capture in a file of pcap or pcapng, as those options say. A file that cannot be opened or read on: `cannot read` on `err`, and why.
 pub(crate) fn chart<F: OpenFiles, O: Write, E: Write>(
     alloc: Global,
     files: &F,
@@ -208,14 +229,20 @@ pub(crate) fn chart<F: OpenFiles, O: Write, E: Write>(
         Ok(mut input) => {
             let ports = Ports { also: capture.port };
             let status = chart_over(alloc, options, &mut input, ports, out, err);
-            print_unfit(status, capture.path, CHARTS_TAKEN, err);
+            print_unfit(
+                status,
+                capture.path,
+                input.get_ref(),
+                Some(CHARTS_TAKEN),
+                err,
+            );
             status
         }
         Err(status) => status,
     }
 }
 
-/// Runs the script in a file. A file that cannot be opened: `cannot read` on `err`.
+/// Runs the script in a file. A file that cannot be opened or read on: `cannot read` on `err`, and why.
 pub(crate) fn simulate<F: OpenFiles, O: Write, E: Write>(
     alloc: Global,
     files: &F,
@@ -225,7 +252,7 @@ pub(crate) fn simulate<F: OpenFiles, O: Write, E: Write>(
 ) -> Status
     ensures { IsSimulatedFile (OnFile F.is_file F.File.remaining) script.now.notes script.now.path.now result (O.contents out.old) (O.contents out.new) }
 {
-    match opened(files, script.path, err) {
+    match watched_of(files, script.path, err) {
         Ok(mut file) => {
             let status = simulate_lines_over(
                 alloc,
@@ -235,16 +262,19 @@ pub(crate) fn simulate<F: OpenFiles, O: Write, E: Write>(
                 out,
                 err,
             );
-            if script.reasons {
-                print_unfit(status, script.path, NOTHING_HAPPENED, err);
-            }
+            let text = if script.reasons {
+                Some(NOTHING_HAPPENED)
+            } else {
+                None
+            };
+            print_unfit(status, script.path, &file, text, err);
             status
         }
         Err(status) => status,
     }
 }
 
-/// Shows the run of the script in a file. A file that cannot be opened: `cannot read` on `err`.
+/// Shows the run of the script in a file. A file that cannot be opened or read on: `cannot read` on `err`, and why.
 pub(crate) fn show<F: OpenFiles, O: Write, E: Write>(
     alloc: Global,
     files: &F,
@@ -255,10 +285,10 @@ pub(crate) fn show<F: OpenFiles, O: Write, E: Write>(
 ) -> Status
     ensures { IsShownFile (OnFile F.is_file F.File.remaining) view script.now.notes script.now.path.now result (O.contents out.old) (O.contents out.new) }
 {
-    match opened(files, script.path, err) {
+    match watched_of(files, script.path, err) {
         Ok(mut file) => {
             let status = show_over(alloc, view, script.notes, &mut file, out, err);
-            print_unfit(status, script.path, NOTHING_HAPPENED, err);
+            print_unfit(status, script.path, &file, Some(NOTHING_HAPPENED), err);
             status
         }
         Err(status) => status,

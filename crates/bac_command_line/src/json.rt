@@ -4,7 +4,7 @@ ghost use Rattle.bac_command_line.specs.Json.{AreDecodedLines, AreCheckedLines, 
 
 use crate::files::{CaptureFile, OpenFiles, reader_of};
 use crate::lines::STANDARD_INPUT;
-use crate::reasons::{Digits, print_bad_digit};
+use crate::reasons::{Digits, print_bad_digit, print_unfit};
 use bac_capture::Ports;
 use bac_json_report::{
     check_json_lines_over, check_json_over, decode_json_lines_over, decode_json_over,
@@ -13,7 +13,7 @@ use bac_text::Status;
 use std::alloc::Global;
 use std::io::Write;
 
-/// The datagrams in a file, one on each line, as objects. A file that cannot be opened: `cannot read` on `err`.
+/// The datagrams in a file, one on each line, as objects. A file that cannot be opened or read on: `cannot read` on `err`, and why.
 fn decode_lines<F: OpenFiles, O: Write, E: Write>(
     alloc: Global,
     files: &F,
@@ -24,7 +24,11 @@ fn decode_lines<F: OpenFiles, O: Write, E: Write>(
     ensures { AreDecodedLines (OnFile F.is_file F.File.remaining) path.now result (O.contents out.old) (O.contents out.new) }
 {
     match reader_of(alloc, files, path, err) {
-        Ok(mut input) => decode_json_lines_over(alloc, &mut input, out, err),
+        Ok(mut input) => {
+            let status = decode_json_lines_over(alloc, &mut input, out, err);
+            print_unfit(status, path, input.get_ref(), None, err);
+            status
+        }
         Err(status) => status,
     }
 }
@@ -48,7 +52,7 @@ pub(crate) fn decode_json<F: OpenFiles, O: Write, E: Write>(
     }
 }
 
-/// Checks the capture in a file, and prints objects. A file that cannot be opened: `cannot read` on `err`.
+/// Checks the capture in a file, and prints objects. A file that cannot be opened or read on: `cannot read` on `err`, and why.
 pub(crate) fn check_json<F: OpenFiles, O: Write, E: Write>(
     alloc: Global,
     files: &F,
@@ -61,13 +65,15 @@ pub(crate) fn check_json<F: OpenFiles, O: Write, E: Write>(
     match reader_of(alloc, files, capture.path, err) {
         Ok(mut input) => {
             let ports = Ports { also: capture.port };
-            check_json_over(alloc, &mut input, ports, out, err)
+            let status = check_json_over(alloc, &mut input, ports, out, err);
+            print_unfit(status, capture.path, input.get_ref(), None, err);
+            status
         }
         Err(status) => status,
     }
 }
 
-/// Checks the capture of lines and notes in a file, and prints objects. A file that cannot be opened: `cannot read` on `err`.
+/// Checks the capture of lines and notes in a file, and prints objects. A file that cannot be opened or read on: `cannot read` on `err`, and why.
 pub(crate) fn check_json_lines<F: OpenFiles, O: Write, E: Write>(
     alloc: Global,
     files: &F,
@@ -78,7 +84,11 @@ pub(crate) fn check_json_lines<F: OpenFiles, O: Write, E: Write>(
     ensures { AreCheckedLines (OnFile F.is_file F.File.remaining) path.now result (O.contents out.old) (O.contents out.new) }
 {
     match reader_of(alloc, files, path, err) {
-        Ok(mut input) => check_json_lines_over(alloc, true, &mut input, out, err),
+        Ok(mut input) => {
+            let status = check_json_lines_over(alloc, true, &mut input, out, err);
+            print_unfit(status, path, input.get_ref(), None, err);
+            status
+        }
         Err(status) => status,
     }
 }

@@ -46,6 +46,7 @@ mod system;
 mod task;
 mod telling;
 mod unsent;
+mod watched;
 mod whole_files;
 mod whole_reading;
 mod whole_writing;

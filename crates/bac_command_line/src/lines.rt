@@ -4,7 +4,7 @@ ghost use Rattle.bac_command_line.specs.Files.{OnFile};
 ghost use Rattle.bac_command_line.specs.Lines.{AreCheckedLines, AreDecodedLines, IsDecodedFrom};
 
 use crate::files::{OpenFiles, reader_of};
-use crate::reasons::{Digits, print_bad_digit};
+use crate::reasons::{Digits, print_bad_digit, print_unfit};
 use bac_text::{Status, check_lines_over, decode_lines_over, decode_text_over};
 use std::alloc::Global;
 use std::io::Write;
@@ -12,7 +12,7 @@ use std::io::Write;
 /// What stands for standard input in the place of a datagram.
 pub(crate) const STANDARD_INPUT: &str = "-";
 
-/// The layers of the datagrams in a file, one on each line, in words or not. A file that cannot be opened: `cannot read` on `err`.
+/// The layers of the datagrams in a file, one on each line, in words or not. A file that cannot be opened or read on: `cannot read` on `err`, and why.
 fn decode_lines<F: OpenFiles, O: Write, E: Write>(
     alloc: Global,
     files: &F,
@@ -24,7 +24,11 @@ fn decode_lines<F: OpenFiles, O: Write, E: Write>(
     ensures { AreDecodedLines (OnFile F.is_file F.File.remaining) in_words path.now result (O.contents out.old) (O.contents out.new) }
 {
     match reader_of(alloc, files, path, err) {
-        Ok(mut input) => decode_lines_over(alloc, in_words, &mut input, out, err),
+        Ok(mut input) => {
+            let status = decode_lines_over(alloc, in_words, &mut input, out, err);
+            print_unfit(status, path, input.get_ref(), None, err);
+            status
+        }
         Err(status) => status,
     }
 }
@@ -49,7 +53,7 @@ pub(crate) fn decode<F: OpenFiles, O: Write, E: Write>(
     }
 }
 
-/// Checks the capture of lines and notes in a file. A file that cannot be opened: `cannot read` on `err`.
+/// Checks the capture of lines and notes in a file. A file that cannot be opened or read on: `cannot read` on `err`, and why.
 pub(crate) fn check_lines<F: OpenFiles, O: Write, E: Write>(
     alloc: Global,
     files: &F,
@@ -60,7 +64,11 @@ pub(crate) fn check_lines<F: OpenFiles, O: Write, E: Write>(
     ensures { AreCheckedLines (OnFile F.is_file F.File.remaining) path.now result (O.contents out.old) (O.contents out.new) }
 {
     match reader_of(alloc, files, path, err) {
-        Ok(mut input) => check_lines_over(alloc, false, true, &mut input, out, err),
+        Ok(mut input) => {
+            let status = check_lines_over(alloc, false, true, &mut input, out, err);
+            print_unfit(status, path, input.get_ref(), None, err);
+            status
+        }
         Err(status) => status,
     }
 }

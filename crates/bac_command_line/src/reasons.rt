@@ -5,6 +5,7 @@ ghost use Rattle.bac_text.specs.declared.status.Status.TheVariants as status;
 
 use crate::seconds::{bad_pace, print_bad_pace};
 use crate::serving_words::{read_memory, remembers_in_vain};
+use crate::watched::Watched;
 use bac_commands::link_fault;
 use bac_forms::FORM_NAMES;
 use bac_lists::{EVERY_HOST, is_of_node, read_end, read_host, read_link, read_route};
@@ -54,10 +55,22 @@ pub(crate) fn print_no_link<E: Write>(
     status
 }
 
-/// Where the status of a command says that it could not read what a file has, tells which file, and that text.
-pub(crate) fn print_unfit<E: Write>(status: Status, path: &str, text: &str, err: &mut E) {
-    if status == Status::CommandLine {
-        // if that fails too, only the status is left
+/// Where the status of a command says that it could not read what a file has, tells which file, and why: the system's reason where a read failed, or else that
+/// text, if there is one.
+pub(crate) fn print_unfit<R, E: Write>(
+    status: Status,
+    path: &str,
+    file: &Watched<R>,
+    text: Option<&str>,
+    err: &mut E,
+) {
+    if status != Status::CommandLine {
+        return;
+    }
+    // if that fails too, only the status is left
+    if let Some(error) = &file.error {
+        let _ = writeln!(err, "{path}: {error}");
+    } else if let Some(text) = text {
         let _ = writeln!(err, "{path}: {text}");
     }
 }

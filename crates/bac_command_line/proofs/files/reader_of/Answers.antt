@@ -6,6 +6,6 @@ use Rattle.bac_command_line.proofs.files.reader_of.Goals as goal
 
 pub returns-in-Ok-clause-at : goal.returns-in-Ok-clause-at
 returns-in-Ok-clause-at g c =
-    let same : reader_remaining g.F.File.Read.remaining c.in-Ok.reader ≡ g.F.File.Read.remaining c.in_ok-file.file =
+    let same : reader_remaining (λ w. g.F.File.Read.remaining w.file) c.in-Ok.reader ≡ g.F.File.Read.remaining c.in_ok-file.file.file =
     rw (c.in-Ok.ensures.capacity, c.in-Ok.ensures.empty, c.in-Ok.ensures.inner) (prepend_nothing _) in
-    record { file = c.in_ok-file.file; opened = c.in_ok-file.ensures.opened; is = same }
+    record { file = c.in_ok-file.file.file; opened = c.in_ok-file.ensures.opened; is = same }

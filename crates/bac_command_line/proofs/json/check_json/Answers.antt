@@ -8,5 +8,5 @@ pub returns-in-Ok : goal.returns-in-Ok
 returns-in-Ok g c =
     printed_file _ c.args.capture.now.path.now _
     (λ (content : Option (List ℕ)). IsReportOf c.args.capture.now.port content (g.O.Write.contents c.args.out.now)
-    (g.O.Write.contents c.check_json_over.new.out) c.check_json_over.result)
-    c.check_json_over.result c.in-Ok.ensures.at c.check_json_over.ensures
+    (g.O.Write.contents c.check_json_over-status.new.out) c.check_json_over-status.result)
+    c.check_json_over-status.result c.in-Ok.ensures.at c.check_json_over-status.ensures

@@ -7,6 +7,6 @@ use Rattle.bac_command_line.proofs.json.check_json_lines.Goals as goal
 pub returns-in-Ok : goal.returns-in-Ok
 returns-in-Ok g c =
     printed_file _ c.args.path.now _
-    (λ (content : Option (List ℕ)). AreChecked true content (g.O.Write.contents c.args.out.now) (g.O.Write.contents c.check_json_lines_over.new.out)
-    c.check_json_lines_over.result)
-    c.check_json_lines_over.result c.in-Ok.ensures.at c.check_json_lines_over.ensures
+    (λ (content : Option (List ℕ)). AreChecked true content (g.O.Write.contents c.args.out.now) (g.O.Write.contents c.check_json_lines_over-status.new.out)
+    c.check_json_lines_over-status.result)
+    c.check_json_lines_over-status.result c.in-Ok.ensures.at c.check_json_lines_over-status.ensures

@@ -7,6 +7,6 @@ use Rattle.bac_command_line.proofs.json.decode_lines.Goals as goal
 pub returns-in-Ok : goal.returns-in-Ok
 returns-in-Ok g c =
     printed_file _ c.args.path.now _
-    (λ (content : Option (List ℕ)). AreDecoded content (g.O.Write.contents c.args.out.now) (g.O.Write.contents c.decode_json_lines_over.new.out)
-    c.decode_json_lines_over.result)
-    c.decode_json_lines_over.result c.in-Ok.ensures.at c.decode_json_lines_over.ensures
+    (λ (content : Option (List ℕ)). AreDecoded content (g.O.Write.contents c.args.out.now) (g.O.Write.contents c.decode_json_lines_over-status.new.out)
+    c.decode_json_lines_over-status.result)
+    c.decode_json_lines_over-status.result c.in-Ok.ensures.at c.decode_json_lines_over-status.ensures

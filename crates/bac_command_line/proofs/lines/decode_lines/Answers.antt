@@ -7,5 +7,5 @@ use Rattle.bac_command_line.proofs.lines.decode_lines.Goals as goal
 pub returns-in-Ok : goal.returns-in-Ok
 returns-in-Ok g c =
     printed_file _ c.args.path.now _
-    (λ (content : Option (List ℕ)). AreDecoded c.args.in_words content (g.O.Write.contents c.args.out.now) (g.O.Write.contents c.decode_lines_over.new.out) c.decode_lines_over.result)
-    c.decode_lines_over.result c.in-Ok.ensures.at c.decode_lines_over.ensures
+    (λ (content : Option (List ℕ)). AreDecoded c.args.in_words content (g.O.Write.contents c.args.out.now) (g.O.Write.contents c.decode_lines_over-status.new.out) c.decode_lines_over-status.result)
+    c.decode_lines_over-status.result c.in-Ok.ensures.at c.decode_lines_over-status.ensures
