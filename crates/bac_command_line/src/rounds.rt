@@ -15,14 +15,18 @@ use crate::asking_lines::{ask_each, ask_on, both};
 use crate::client::Client;
 use crate::online::Machine;
 use crate::pace::{is_behind, print_late};
+use crate::peer_file::part_in;
 use crate::recording::{Printer, print_ask, print_header, print_unasked_record};
 use crate::station::Station;
 use crate::unsent::tell_unsent_of;
 use crate::window::ask_ahead;
 use bac_commands::{CommandError, Style};
-use bac_driver::{Clock, Link, Question, RunLimit, WaitLimit};
+use bac_driver::{AskEnd, Clock, Link, Question, RunLimit, WaitLimit};
 use bac_lists::{LineQuestion, NO_LINE};
+use bac_service::AnyRequest;
 use bac_text::Status;
+use bac_value::ObjectIdentifier;
+use bac_value_text::object_text;
 use std::alloc::Global;
 use std::io;
 use std::io::Write;
@@ -74,8 +78,39 @@ fn print_stranded<O: Write>(
     }
 }
 
-/// A client asks; where its node has nothing left for that, the next one does. How that ended is printed as is wanted. Answers whether it succeeded. Where there
-/// is no link for the next node, the request says so.
+/// Says of a file that so many octets of it were read, and that it goes on behind them.
+fn print_going_on<E: Write>(
+    alloc: Global,
+    file: ObjectIdentifier,
+    count: usize,
+    err: &mut E,
+) -> io::Result<()> {
+    let mut line = object_text(alloc, file)?;
+    let said = format!(in alloc; ": not read to its end, after {count} octets\n")?;
+    line.extend_from_slice(said.as_bytes())?;
+    err.write_all(&line)
+}
+
+/// Where octets of a file are printed alone, and it goes on behind them, `err` says so.
+fn tell_going_on<E: Write>(printer: &Printer<'_>, question: &Question, end: &AskEnd, err: &mut E) {
+    if printer.asking.output_format.style != Style::Octets {
+        return;
+    }
+    let Some(part) = part_in(end) else {
+        return;
+    };
+    match question.request.as_request() {
+        AnyRequest::ReadFile(read) if !part.end_of_file => {
+            let count = part.content.octets.len();
+            // if that fails too, only the status is left
+            let _ = print_going_on(printer.alloc, read.file, count, err);
+        }
+        _ => (),
+    }
+}
+
+/// A client asks; where its node has nothing left for that, the next one does. How that ended is printed as is wanted; where octets of a
+/// file are printed alone, and it goes on behind them, `err` says so. Answers whether it succeeded. Where there is no link for the next node, the request says so.
 fn ask_one<M: Machine, O: Write, E: Write>(
     asking: &Asking,
     client: &mut Client<'_, M>,
@@ -104,7 +139,9 @@ fn ask_one<M: Machine, O: Write, E: Write>(
         asking,
         stamp: client.stamp(),
     };
-    print_ask(&printer, NO_LINE, question, &end, out, err)
+    let succeeded = print_ask(&printer, NO_LINE, question, &end, out, err)?;
+    tell_going_on(&printer, question, &end, err);
+    Ok(succeeded)
 }
 
 /// A node asks all that, once. Answers whether all succeeded.
