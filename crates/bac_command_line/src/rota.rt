@@ -41,7 +41,7 @@ impl Rota {
     pub(crate) fn after(&mut self, is_busy: bool, leaving: usize) -> Option<usize>
         ensures { IfSome result (λ at. at < leaving) }
     {
-        if is_busy && self.in_a_row < IN_A_ROW {
+        if is_busy && self.in_a_row < IN_A_ROW - 1 {
             self.in_a_row += 1;
             return None;
         }

@@ -298,7 +298,7 @@ fn go_on_here<M: Machine, E: Write>(
     note(node, own, turn, &mut traffic.flights, err)
 }
 
-/// The node at that place among those that leave takes turns as long as something comes of them, but at most so many in a row as any.
+/// The node at that place among those that leave takes turns as long as something comes of them, but at most 64 in a row.
 fn visit<M: Machine, E: Write>(
     client: &mut Client<'_, M>,
     traffic: &mut Traffic<M::Link>,
