@@ -542,7 +542,9 @@ pub fn document_findings(alloc: Global, text: &[u8]) -> Result<Vec<Finding>, NoM
         text,
         outline: Outline::of(alloc, text),
         is_described: is_described(&table),
-        is_whole: findings.is_empty(),
+        is_whole: findings
+            .iter()
+            .all(|finding| matches!(finding.wrong, Wrong::SingleObject)),
         has_device: false,
         ids: Vec::new(alloc),
         findings,

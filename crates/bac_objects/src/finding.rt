@@ -40,6 +40,8 @@ pub enum Wrong {
         object: usize,
         id: Option<ObjectIdentifier>,
     },
+    /// `[object]` in place of `[[object]]`, before the first head of an object.
+    SingleObject,
     /// What is no TOML: why, and what stands there up to the end of its line.
     NoToml {
         error: Error,
@@ -104,6 +106,7 @@ impl fmt::Display for Wrong {
             }
             Wrong::Refused(flaw) => write!(f, "{flaw}"),
             Wrong::SameName { object, id } => write_same_name(f, *object, *id),
+            Wrong::SingleObject => f.write_str("[[object]] wanted, [object] given"),
             Wrong::NoToml { error, there } => {
                 let message = error.message();
                 write!(f, "{message}: {there}")

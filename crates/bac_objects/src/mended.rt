@@ -7,8 +7,14 @@ use bac_value::NoMemory;
 use std::alloc::Global;
 use std::ops::Range;
 use std::str;
-use toml::Table;
 use toml::de::Error;
+use toml::{Table, Value};
+
+/// The head of an object.
+const HEAD: &str = "[[object]]";
+
+/// The same, one bracket short.
+const SINGLE: &str = "[object]";
 
 /// How many lines that are no TOML are told.
 const MOST_UNREAD: usize = 16;
@@ -43,6 +49,53 @@ fn words_at(alloc: Global, text: &str, place: usize) -> Result<String, NoMemory>
     Ok(format!(in alloc; "behind {before}")?)
 }
 
+/// Whether a text ends in the head of an object that is one bracket short, and is TOML with no object before.
+fn ends_in_single(alloc: Global, text: &str) -> Result<bool, NoMemory> {
+    match toml::table_from_str(alloc, text) {
+        Ok(table) => Ok(matches!(table.get("object"), Some(Value::Table(_)))),
+        Err(error) if error.span().is_none() => Err(NoMemory),
+        Err(_) => Ok(false),
+    }
+}
+
+/// The place of the first line that begins as the head of an object that is one bracket short, where the text up to it is TOML and has no object before.
+fn single_head(alloc: Global, text: &str) -> Result<Option<Range<usize>>, NoMemory> {
+    let mut end: usize = 0;
+    for line in text.split_inclusive('\n') {
+        let head = line.trim_start();
+        let begin = end.saturating_add(line.len().saturating_sub(head.len()));
+        end = end.saturating_add(line.len());
+        if head.starts_with(SINGLE) {
+            let is_single = ends_in_single(alloc, text.get(..end).unwrap_or(""))?;
+            let place = begin..begin.saturating_add(SINGLE.len());
+            return Ok(if is_single { Some(place) } else { None });
+        }
+    }
+    Ok(None)
+}
+
+/// The text with the head of an object at a place.
+fn with_head(alloc: Global, text: &str, place: &Range<usize>) -> Result<Vec<u8>, NoMemory> {
+    let octets = text.as_bytes();
+    let mut mended = Vec::from_slice(alloc, octets.get(..place.start).unwrap_or(&[]))?;
+    mended.extend_from_slice(HEAD.as_bytes())?;
+    mended.extend_from_slice(octets.get(place.end..).unwrap_or(&[]))?;
+    Ok(mended)
+}
+
+/// The finding of the head of an object at a place that is one bracket short.
+fn single_at(alloc: Global, text: &str, place: &Range<usize>) -> Finding {
+    Finding {
+        line: Some(line_behind(text.as_bytes(), place.start)),
+        place: Place {
+            object: 0,
+            id: None,
+            key: String::new(alloc),
+        },
+        wrong: Wrong::SingleObject,
+    }
+}
+
 /// The finding of a line that is no TOML.
 fn finding_of(alloc: Global, text: &str, start: usize, error: Error) -> Result<Finding, NoMemory> {
     let there = words_at(alloc, text, start)?;
@@ -60,8 +113,8 @@ fn finding_of(alloc: Global, text: &str, start: usize, error: Error) -> Result<F
 /// What stands for lines that cannot be read, or, as they say, again: what their beginning means. `[object]` is one bracket short. None where nothing behind them
 /// can be told.
 fn meant_by(lines: &str, is_again: bool) -> Option<&'static str> {
-    if lines.starts_with("[[") || lines.starts_with("[object]") {
-        Some("[[object]]")
+    if lines.starts_with("[[") || lines.starts_with(SINGLE) {
+        Some(HEAD)
     } else if lines.starts_with("[") {
         None
     } else if lines.starts_with("described") && !is_again {
@@ -137,6 +190,16 @@ pub(crate) fn read_mended(
         let Ok(text) = str::from_utf8(&octets) else {
             return Ok(None);
         };
+        let single = single_head(alloc, text)?;
+        if let Some(place) = single
+            && round < MOST_UNREAD
+        {
+            let finding = single_at(alloc, text, &place);
+            last = finding.line;
+            findings.push(finding)?;
+            octets = with_head(alloc, text, &place)?;
+            continue;
+        }
         let error = match toml::table_from_str(alloc, text) {
             Ok(table) => return Ok(Some(Mended { table, octets })),
             Err(error) => error,
