@@ -14,6 +14,7 @@ use crate::part_words::print_about;
 use bac_commands::CommandError;
 use bac_keep::KeepFault;
 use bac_keep_file::{Selection, forget};
+use bac_lists::bad_word_text;
 use bac_service_text::{BadWord, Wanted};
 use bac_text::{Status, complain, no_memory, output_failed};
 use bac_value_text::{object_in, property_in};
@@ -64,11 +65,11 @@ impl<'a> Forgetting<'a> {
     }
 }
 
-/// Complains of a word that names no object, or no property: `bad words`, and which.
+/// Complains of a word that names no object, or no property: `bad words`, and which, and the name that is like it, if there is one.
 pub(crate) fn print_bad_name<E: Write>(alloc: Global, word: BadWord<'_>, err: &mut E) -> Status
     ensures { IsStop result }
 {
-    let Ok(mut text) = word.text(alloc) else {
+    let Ok(mut text) = bad_word_text(alloc, word) else {
         return no_memory(err);
     };
     if text.push(b'\n').is_err() {

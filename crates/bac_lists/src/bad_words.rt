@@ -80,8 +80,8 @@ fn printed(alloc: Global, word: &[u8]) -> Result<Vec<u8>, AllocError> {
     Ok(printed)
 }
 
-/// Which word is bad, what was wanted, and what to write in its place.
-fn reason_of(alloc: Global, bad: BadWord<'_>) -> Result<Vec<u8>, AllocError> {
+/// Which word is bad, what was wanted, and what to write in its place. An Err says that memory was refused.
+pub fn bad_word_text(alloc: Global, bad: BadWord<'_>) -> Result<Vec<u8>, AllocError> {
     let Some(word) = bad.word else {
         return bad.text(alloc);
     };
@@ -108,7 +108,7 @@ fn bad_words_text(alloc: Global, style: Style, words: &[&[u8]]) -> Result<Vec<u8
     let mut text = Vec::from_slice(alloc, b"bad words")?;
     match bad_word(alloc, words)? {
         Some(bad) => {
-            let reason = reason_of(alloc, bad)?;
+            let reason = bad_word_text(alloc, bad)?;
             text.extend_from_slice(separator_of(style).as_bytes())?;
             text.extend_from_slice(reason.as_slice())?;
             if bad.word.is_none() && are_of_whole_file(words) {

@@ -17,5 +17,5 @@ pub use address::{
     read_link, read_route,
 };
 pub use asker::{Asker, NO_LINE};
-pub use bad_words::print_bad_words;
+pub use bad_words::{bad_word_text, print_bad_words};
 pub use question_lines::{LineQuestion, have_names, questions_in};
