@@ -138,7 +138,7 @@ fn refuse<E: Write>(form: Form, fault: FormFault, err: &mut E) -> Status
     }
 }
 
-/// Tells that a text has no datagram, where there is one of more than blanks.
+/// Tells that a text has no datagram, unless it has only blanks.
 fn tell_none<E: Write>(text: &[u8], datagrams: &[Vec<u8>], err: &mut E) {
     if datagrams.is_empty() && !text.iter().all(|octet| octet.is_ascii_whitespace()) {
         // if that fails too, only the status is left

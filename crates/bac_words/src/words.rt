@@ -437,7 +437,7 @@ const SERVE: &[Word] = &[
         form: WordForm::Flag,
         need: Need::Never,
         against: &[],
-        help: "Lets no client use an invoke ID again within 65 seconds: an equal request gets the old answer, another one is refused. --turns implies it",
+        help: "Lets no client use an invoke ID again within 65 seconds: an equal request gets the kept answer, another one is refused. --turns without --reuse implies it",
     },
     Word {
         name: "reuse",
@@ -451,7 +451,7 @@ const SERVE: &[Word] = &[
         form: WordForm::Number("S", 65),
         need: Need::Never,
         against: &["strict"],
-        help: "An equal write gets the old answer for S seconds, 1 to 65, and is then performed again: for clients that ask all under one invoke ID. 65 by default; with --turns only beside --reuse",
+        help: "An equal write gets the kept answer for S seconds, 1 to 65, and is then performed again: for clients that ask all under one invoke ID. 65 by default; with --turns only beside --reuse",
     },
     Word {
         name: "memory",
