@@ -355,3 +355,12 @@ few_found c d f e o n m l one few same =
 
 pub few_left : (c x o n m : ℕ) → c + digits x ≤ o + digits n → n ≡ m → c ≤ o + digits m
 few_left c x o n m few same = let grow = digits_grow n m (omega (arith, same)) in omega (arith, few, grow)
+
+-- the greater half of a part with more than one number
+pub few_upper : (c d n o m : ℕ) → 1 < n → d ≤ c + 1 → c + digits (n - 1) ≤ o + m → d + digits (n - n / 2 - 1) ≤ o + m
+few_upper c d n o m l one few =
+    let less = digits_halve (n - n / 2 - 1) (n - 1) (omega arith) (omega arith) in omega (arith, less, one, few)
+
+-- either half of a part, without the number that was compared
+pub few_half : (c d n k o m : ℕ) → 0 < n → k ≤ n / 2 → d ≤ c + 1 → c + digits n ≤ o + m → d + digits k ≤ o + m
+few_half c d n k o m l half one few = let less = digits_halve k n l half in omega (arith, less, one, few)

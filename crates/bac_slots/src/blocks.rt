@@ -76,9 +76,15 @@ impl Blocks {
     }
 
     /// The numbers of a block; none where there is no such block.
-    pub(crate) fn of_block(&self, block: usize) -> &[u32] {
+    pub(crate) fn of_block(&self, block: usize) -> &[u32]
+        ensures { length result.now ≤ 128 }
+    {
         match self.blocks.get(block) {
-            Some(block) => block.as_slice(),
+            Some(block) => {
+                // no block has more
+                let _len = block.len();
+                block.as_slice()
+            }
             None => &[],
         }
     }

@@ -1,6 +1,8 @@
 //! Where to look for a key in an index.
-ghost use Rattle.std.specs.Prelude.{◌≡◌, ℕ, ◌≤◌, [], length, IfOk};
+ghost use Rattle.std.specs.Prelude.{◌+◌, ◌≤◌, length};
+ghost use Rattle.bac_slots.specs.Slots.{digits};
 
+use crate::slot_table::Count;
 use std::alloc::{AllocError, Global};
 use std::cmp::Ordering;
 
@@ -12,13 +14,16 @@ pub(crate) struct Guide<K> {
 }
 
 impl<K: Ord> Guide<K> {
-    /// The last block whose first key is not greater than a key; the first block where there is none.
-    pub(crate) fn block_of(&self, key: &K) -> usize {
+    /// The last block whose first key is not greater than a key; the first block where there is none. Comparisons are counted.
+    pub(crate) fn block_of(&self, key: &K, compared: &mut Count) -> usize
+        ensures { compared.new.comparisons ≤ compared.old.comparisons + digits (length self.now.firsts.items) }
+    {
         let mut block = 0;
         let mut count = self.firsts.len();
         while count > 1 {
             let half = count / 2;
             let middle = block + half;
+            compared.add(1);
             let is_after = self.firsts[middle].cmp(key) == Ordering::Greater;
             block = if is_after { block } else { middle };
             count -= half;

@@ -346,14 +346,23 @@ fn is_before<K: Ord>(keys: &VecDeque<K>, place: usize, key: &K) -> bool {
     }
 }
 
-/// Where a key is or would be in a block, if it is one of its keys or between them: halves the part of the block in which it can be.
-fn place_in<K: Ord>(keys: &VecDeque<K>, places: &Places, block: usize, key: &K) -> Spot {
+/// Where a key is or would be in a block, if it is one of its keys or between them: halves the part of the block in which it can be. Comparisons are counted.
+fn place_in<K: Ord>(
+    keys: &VecDeque<K>,
+    places: &Places,
+    block: usize,
+    key: &K,
+    compared: &mut Count,
+) -> Spot
+    ensures { compared.new.comparisons ≤ compared.old.comparisons + 8 }
+{
     let numbers = places.numbers_of(block);
     let mut first = 0;
     let mut count = numbers.len();
     while count > 0 {
         let half = count / 2;
         let middle = first + half;
+        compared.add(1);
         let is_less = is_before(keys, places.place_of(numbers[middle]), key);
         first = if is_less { middle + 1 } else { first };
         count = if is_less { count - half - 1 } else { half };
@@ -388,7 +397,9 @@ fn locate<K: Ord>(
     requires index { IsIndex K.cmp places.now.0 (keyed keys.now.items) }
     ensures { IsSeen K.eq K.cmp key.now (keyed keys.now.items) places.now.2 result }
 {
-    let spot = place_in(keys, places, guide.block_of(key), key);
+    let mut compared = Count { comparisons: 0 };
+    let block = guide.block_of(key, &mut compared);
+    let spot = place_in(keys, places, block, key, &mut compared);
     match look_at(keys, places, spot, key) {
         Some(result) => result,
         None => search_all(keys, places, key),
@@ -439,13 +450,14 @@ fn look_up<K: Ord>(keys: &VecDeque<K>, places: &Places, guide: &Guide<K>, key: &
     ensures { MatchOption result (value_at K.eq key.now (keyed keys.now.items) ≡ None)
         (λ seen. IsSeen K.eq K.cmp key.now (keyed keys.now.items) places.now.2 (Ok seen)) }
 {
-    let block = guide.block_of(key);
+    let mut compared = Count { comparisons: 0 };
+    let block = guide.block_of(key, &mut compared);
     if let Some(at) = places.first_in(block) {
         if let Some(Ok(seen)) = look_at(keys, places, Spot { block, at }, key) {
             return Some(seen);
         }
     }
-    let near = place_in(keys, places, block, key);
+    let near = place_in(keys, places, block, key, &mut compared);
     match search_near(keys, places, guide, near, key) {
         Ok(seen) => Some(seen),
         Err(_) => None,

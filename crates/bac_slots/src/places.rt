@@ -61,7 +61,9 @@ impl Places {
     }
 
     /// The numbers of a block; none where there is no such block.
-    pub(crate) fn numbers_of(&self, block: usize) -> &[u32] {
+    pub(crate) fn numbers_of(&self, block: usize) -> &[u32]
+        ensures { length result.now ≤ 128 }
+    {
         self.numbers.of_block(block)
     }
 
