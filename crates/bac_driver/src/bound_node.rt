@@ -108,8 +108,8 @@ impl<L: Link> BoundNode<L> {
     }
 
     /// Sets how many octets of service data its server's end may keep, in place of [`MEMORY`](bac_node::MEMORY): 64 MiB. A datagram that might make it keep more
-    /// is lost as where memory runs out, and the turn has heard nothing ([`Node::hear_within`](bac_node::Node::hear_within)); each request needs room for 65,539
-    /// octets beside its own. What is kept already stays.
+    /// is lost as where memory runs out, and the turn has heard nothing ([`Node::hear_within`](bac_node::Node::hear_within)); a request that can make it keep more
+    /// needs room for 65,539 octets beside its own. What is kept already stays.
     pub fn set_memory(&mut self, memory: usize)
         ensures { self.new ≡ self.old }
     {

@@ -332,9 +332,9 @@ impl Node {
 
     /// As `on`, of a node that lets clients use an invoke ID again as soon as its transaction is over (clause 5.4). Call one of both for all datagrams.
     ///
-    /// ReadProperty and AtomicReadFile are performed each time that they come, from the store as it then is, unless a request of their peer and invoke ID still
-    /// goes on; they take a slot only where their reply goes in segments. A kept reply of another request goes again to that request alone: another one ends it
-    /// and is performed.
+    /// ReadProperty and AtomicReadFile without segments are performed each time that they come, from the store as it then is, unless a request of their peer and
+    /// invoke ID still goes on. They take a slot only where their reply goes in segments, until the SegmentACK that finishes it, or an Abort of their client. A
+    /// kept reply of another request goes again to that request alone: another one ends it and is performed.
     ///
     /// The faults are those of `on`.
     pub fn on_reusing(
@@ -373,7 +373,8 @@ impl Node {
 
     /// As `hear`, with another bound than [`MEMORY`](crate::MEMORY) on the octets of service data that the server's end keeps. `NoMemory` also where an APDU might
     /// make it keep more than `memory`: a request is taken to need room for its own octets, and for the longest reply and the place of a segment, 65,539 octets.
-    /// What is kept already stays, but for entries that are not live, whose place a new one takes.
+    /// A repeat of a request that was received whole needs none, in segments or not; nor, where invoke IDs may be used again, does a read without segments whose
+    /// reply is one APDU. What is kept already stays, but for entries that are not live, whose place a new one takes.
     pub fn hear_within(
         &mut self,
         reuse: bool,

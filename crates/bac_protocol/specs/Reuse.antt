@@ -19,7 +19,7 @@ is_transfer_over Transfer.Running = false
 is_transfer_over Transfer.Stopped = false
 is_transfer_over Transfer.Finished = true
 
--- an entry is over: the last of its reply was sent, or its request was given up
+-- an entry is over: its reply of one APDU was sent, its reply in segments was acknowledged or aborted, or its request was given up
 abbrev pub is_over : State → Bool
 is_over (State.SegmentedRequest inc since) = false
 is_over (State.Done kept) = true

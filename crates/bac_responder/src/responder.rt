@@ -218,8 +218,9 @@ impl<S: SlotTable<PeerKey, ServerTransaction> + Drop> Responder<S> {
     }
 
     /// Whether `on_reusing` of an APDU, with the same store, makes the end keep no more than before, however little room there is. Such are a request that has a
-    /// live entry and does not end it, and is no segment where that receives segments: the kept reply goes again, or an Abort; and a read without segments whose
-    /// reply is one APDU, where no entry goes on. The reply to a read is prepared for this, so ask it only where there is no room. An Err says that an allocation failed.
+    /// live entry and does not end it, and is no segment where that receives segments: the kept reply goes again, or an Abort, or a stopped reply goes on; and a
+    /// read without segments whose reply is one APDU, where no entry goes on. The reply to a read is prepared for this, so ask it only where there is no room. An
+    /// Err says that an allocation failed.
     pub fn keeps_no_more(
         &self,
         alloc: Global,
@@ -290,9 +291,9 @@ impl<S: SlotTable<PeerKey, ServerTransaction> + Drop> Responder<S> {
     /// As `on`, of a node that lets clients use an invoke ID again as soon as its transaction is over (clause 5.4). Call one of both for all APDUs.
     ///
     /// The entry of a read that came without segments ends at the SegmentACK that finishes its reply in segments, and at an Abort of its client. Another entry
-    /// is over once the last of its reply was sent, or its request was given up. Such an entry ends when a read comes without segments (ReadProperty,
-    /// AtomicReadFile), or another request than the kept one; segments end it only where it began without. The request is then performed, or begins to be
-    /// received; the kept one still gets the kept reply. Where no entry of its peer and invoke ID goes on, a read whose reply is one APDU is performed: it needs
+    /// is over once its reply of one APDU was sent, its reply in segments was acknowledged or aborted by its client, or its request was given up. Such an entry
+    /// ends when a read comes without segments (ReadProperty, AtomicReadFile), or another request than the kept one: without segments, or segment 0 of it. The
+    /// request is then performed, or begins to be received; the kept one still gets the kept reply. Where no entry of its peer and invoke ID goes on, a read whose reply is one APDU is performed: it needs
     /// no free slot, no entry is kept of it, and the end does not turn it away while it waits after a restart.
     ///
     /// An entry that is over ends also, whatever request begins, where it began more than `rules.remember` milliseconds ago: an equal one is then performed again.
