@@ -1,4 +1,6 @@
 pub mod Firsts
+pub mod Gathering
+pub mod Tables
 pub mod Machine
 pub mod Logs
 pub mod Kept

@@ -6,29 +6,32 @@ use Rattle.std.proofs.lemmas.Slice.Eq.{bytes_eq-Decides}
 use Rattle.std.specs.Prelude.{is_some}
 use Rattle.std.specs.Str.{bytes_eq}
 use Rattle.bac_apdu.specs.Apdu.{Apdu, Limits, Segment}
-use Rattle.bac_apdu.specs.Apdu.Apdu.{ConfirmedRequest}
+use Rattle.bac_apdu.specs.Apdu.Apdu.{Abort, ConfirmedRequest, SegmentAck}
 use Rattle.bac_protocol.specs.declared.times.TheConstants.{KEEP}
 use Rattle.bac_protocol.specs.Context.{Context}
-use Rattle.bac_protocol.specs.Reuse.{ends_entry, idle_on_read, idle_reusing, is_ended_by, is_other_first, is_over, left_on_apdu, server_hears}
+use Rattle.bac_protocol.specs.Reuse.{ends_entry, goes_in_segments, idle_on_read, idle_reusing, is_acknowledged_by, is_ended_by, is_of_whole_read}
+use Rattle.bac_protocol.specs.Reuse.{is_other_first, is_over, left_on_apdu, server_hears}
 use Rattle.bac_protocol.specs.Server.{Effect, Reaction, ServerTransaction, Service, State, Transfer, idle_on_request, is_kept, is_live, is_none_live, live_entry, server_on_apdu}
 use Rattle.bac_protocol.specs.Server.{server_ticks}
 use Rattle.bac_protocol.specs.Server as server
 use Rattle.bac_protocol.specs.Server.State.{Done, Dropped, SegmentedResponse}
 use Rattle.bac_protocol.specs.Service.{Octets}
-use Rattle.bac_protocol.specs.Steps.{BeginsWith, IsEffect, IsEntryFor, IsSegmentedRequest, KeepsReply, MayPerform, StateStays, StaysIn}
+use Rattle.bac_protocol.specs.Steps.{BeginsWith, IsEffect, IsEntryFor, IsSegmentedRequest, KeepsReply, MayPerform, StaysIn}
 use Rattle.bac_protocol.proofs.Reused.{goes_on_where, segment_stays}
 use Rattle.bac_protocol.proofs.Served.{effects_are_kept, live_stays_law}
 use Rattle.bac_transaction.specs.Reuse.{is_read}
 use Rattle.bac_transaction.proofs.ServerTables.{idle_is}
 use Rattle.bac_writes.specs.Writes.{IsNoOther, IsNoOtherThan, KeptOctets, kept_by}
 use Rattle.bac_writes.proofs.Firsts.{FirstIn, gets_first, ticks_first}
+use Rattle.bac_writes.proofs.Gathering.{NoneWholeIn, ended_so, gathers_none}
 
--- an entry of that beginning, choice and request, which gathers no segments: it keeps a reply, or was given up
+-- an entry of that beginning, choice and request, which gathers no segments: it keeps a reply, or was given up; it is none of a read that came without SEG
 pub record IsKeptEntry (begin choice : ℕ) (request : KeptOctets) (e : ServerTransaction) : Type 0 where
   pub begin_is : e.begin ≡ begin
   pub choice_is : e.choice ≡ choice
   pub request_is : kept_by e ≡ request
   pub gathered : IsSegmentedRequest e.state → ⊥
+  pub no_read : is_read choice && is_some request.request ≡ false
 
 -- Entries that are live.
 
@@ -48,15 +51,6 @@ from_live now (Some d) e is = go (is_live now d) is
 
 -- What an entry becomes.
 
-gathers_none : (old new : State) → (IsSegmentedRequest old → ⊥) → StateStays old new → IsSegmentedRequest new → ⊥
-gathers_none (State.SegmentedRequest inc since) new none stays more = none tt
-gathers_none (Done kept) new none stays more = subst IsSegmentedRequest stays more
-gathers_none (SegmentedResponse out transfer since) (State.SegmentedRequest inc t) none stays more = stays
-gathers_none (SegmentedResponse out transfer since) (Done kept) none stays more = more
-gathers_none (SegmentedResponse out transfer since) (SegmentedResponse next going t) none stays more = more
-gathers_none (SegmentedResponse out transfer since) Dropped none stays more = more
-gathers_none Dropped new none stays more = subst IsSegmentedRequest stays more
-
 same_kept : (e d : ServerTransaction) → d.request ≡ e.request → d.first ≡ e.first → kept_by d ≡ kept_by e
 same_kept e d request first = λ i. record { request = request i; first = first i }
 
@@ -74,6 +68,7 @@ module _ (begin choice : ℕ) (request : KeptOctets) where
       choice_is = stays.0.choice ∙ k.choice_is;
       request_is = same_kept e d stays.0.request one ∙ k.request_is;
       gathered = gathers_none e.state d.state k.gathered stays.1;
+      no_read = k.no_read;
     },
   )
 
@@ -87,30 +82,39 @@ and_false true = refl
 and_false false = refl
 
 module _ (choice : ℕ) where
-  unended_by : (e : ServerTransaction) (request first : Option Octets) → e.choice ≡ choice → e.request ≡ request → e.first ≡ first → (a : Apdu)
-      → IsNoOtherThan choice request first a → is_ended_by is_read e a ≡ false
-  unended_by e (Some kept) first asked is one (ConfirmedRequest limits id None c octets) same_as =
+  not_of_read : (e : ServerTransaction) (request : Option Octets) → e.choice ≡ choice → e.request ≡ request → is_read choice && is_some request ≡ false
+      → is_of_whole_read is_read e ≡ false
+  not_of_read e request asked is none =
+      ap (λ n. is_read n && is_some e.request) asked ∙ ap (λ (o : Option Octets). is_read choice && is_some o) is ∙ none
+
+  unended_by : (e : ServerTransaction) (request first : Option Octets) → e.choice ≡ choice → e.request ≡ request → e.first ≡ first
+      → is_read choice && is_some request ≡ false → (a : Apdu) → IsNoOtherThan choice request first a → is_ended_by is_read e a ≡ false
+  unended_by e (Some kept) first asked is one none (ConfirmedRequest limits id None c octets) same_as =
       let read : is_read c ≡ false = same_as.2 in
       let same : nat_eq c e.choice ≡ true = let eq : c ≡ e.choice = same_as.0 ∙ sym asked in grind (arith, nat_tests) in
       let own : is_kept e e.request c octets ≡ true =
       ap (λ r. is_kept e r c octets) is ∙ ap (λ b. b && bytes_eq octets kept) same ∙ (bytes_eq-Decides octets kept).1 same_as.1 in
       ap (λ b. is_over e.state && (b || not (is_kept e e.request c octets))) read ∙ ap (λ b. is_over e.state && not b) own ∙ and_false (is_over e.state)
-  unended_by e (Some kept) first asked is one (ConfirmedRequest limits id (Some g) c octets) same_as =
+  unended_by e (Some kept) first asked is one none (ConfirmedRequest limits id (Some g) c octets) same_as =
       let later : nat_eq g.number 0 ≡ false = go (nat_eq g.number 0) refl in
       ap (λ b. is_over e.state && (b && is_other_first e e.first c octets)) later ∙ and_false (is_over e.state)
     where
       go : (b : Bool) → nat_eq g.number 0 ≡ b → b ≡ false
       go true eq = absurd (same_as (grind (arith, nat_tests)))
       go false eq = refl
-  unended_by e None first asked is one (ConfirmedRequest limits id None c octets) same_as = absurd same_as
-  unended_by e None None asked is one (ConfirmedRequest limits id (Some g) c octets) same_as =
+  unended_by e None first asked is one none (ConfirmedRequest limits id None c octets) same_as = absurd same_as
+  unended_by e None None asked is one none (ConfirmedRequest limits id (Some g) c octets) same_as =
       segment_stays is_read e limits id c g octets (λ zero. ap (λ (o : Option Octets). is_other_first e o c octets) one ∙ ap is_some is)
-  unended_by e None (Some piece) asked is one (ConfirmedRequest limits id (Some g) c octets) same_as =
+  unended_by e None (Some piece) asked is one none (ConfirmedRequest limits id (Some g) c octets) same_as =
       segment_stays is_read e limits id c g octets (λ zero.
       let same : nat_eq c e.choice ≡ true = let eq : c ≡ e.choice = (same_as zero).0 ∙ sym asked in grind (arith, nat_tests) in
       ap (λ (o : Option Octets). is_other_first e o c octets) one ∙ ap (λ b. not (b && bytes_eq octets piece)) same
       ∙ ap not ((bytes_eq-Decides octets piece).1 (same_as zero).1))
-  unended_by e request first asked is one _ same_as = refl
+  unended_by e request first asked is one none (SegmentAck false id ack) same_as =
+      ap (λ b. b && is_acknowledged_by e.state ack.number) (not_of_read e request asked is none)
+  unended_by e request first asked is one none (Abort false id reason) same_as =
+      ap (λ b. b && goes_in_segments e.state) (not_of_read e request asked is none)
+  unended_by e request first asked is one none _ same_as = refl
 
   -- what a server that keeps such an entry makes of an APDU that is no other request
   pub record Rests (begin : ℕ) (request : KeptOctets) (v : Reaction) : Type 0 where
@@ -141,7 +145,7 @@ module _ (choice : ℕ) where
     hears_rests false same_as = goes_rests
     hears_rests true same_as = subst (λ (v : Reaction). Rests begin request v)
         (sym (goes_on_where c service is_read e free live a (unended_by e request.request request.first k.choice_is (ap (λ (r : KeptOctets). r.request) k.request_is)
-        (ap (λ (r : KeptOctets). r.first) k.request_is) a same_as))) goes_rests
+        (ap (λ (r : KeptOctets). r.first) k.request_is) k.no_read a same_as))) goes_rests
 
 -- A write that is performed.
 
@@ -166,6 +170,7 @@ pub record Performs (now : ℕ) (segment : Option Segment) (choice : ℕ) (octet
   pub entry_is : v.entry ≡ Some entry
   pub live : is_live now entry ≡ true
   pub gathered : IsSegmentedRequest entry.state → ⊥
+  pub no_read : is_of_whole_read is_read entry ≡ false
   pub begun : IsBegunBy now segment choice octets entry
 
 module _ (c : Context) (service : Service) (free : Bool) (limits : Limits) (id choice : ℕ) (octets : Octets) where
@@ -191,9 +196,10 @@ module _ (c : Context) (service : Service) (free : Bool) (limits : Limits) (id c
       go (SegmentedResponse out transfer since) same (inr more) = subst IsSegmentedRequest same more
       go Dropped same (inr more) = subst IsSegmentedRequest same more
 
-  whole_performs : (o : Option ServerTransaction) (x : Effect) → (server_on_apdu c service o free (ConfirmedRequest limits id None choice octets)).effect ≡ Some x
+  whole_performs : is_read choice ≡ false → (o : Option ServerTransaction) (x : Effect)
+      → (server_on_apdu c service o free (ConfirmedRequest limits id None choice octets)).effect ≡ Some x
       → Performs c.now None choice octets (server_on_apdu c service o free (ConfirmedRequest limits id None choice octets))
-  whole_performs o x is = go o x is (effects_are_kept.gets c service o free (ConfirmedRequest limits id None choice octets) x is)
+  whole_performs write o x is = go o x is (effects_are_kept.gets c service o free (ConfirmedRequest limits id None choice octets) x is)
     where
       a : Apdu
       a = ConfirmedRequest limits id None choice octets
@@ -204,6 +210,7 @@ module _ (c : Context) (service : Service) (free : Bool) (limits : Limits) (id c
         entry_is = after;
         live = begun_now d begun.begin;
         gathered = none;
+        no_read = ap (λ n. is_read n && is_some d.request) begun.said.0 ∙ ap (λ b. b && is_some d.request) write;
         begun = (begun.begin, begun.said.0, begun.request);
       }
 
@@ -237,10 +244,10 @@ module _ (c : Context) (service : Service) (free : Bool) (limits : Limits) (id c
       go true none = idle segment ∙ sym (idle_is c service o free (a segment) none)
       go false some = refl
 
-  segment_performs : (g : Segment) (o : Option ServerTransaction) (x : Effect)
+  segment_performs : (g : Segment) (o : Option ServerTransaction) → NoneWholeIn o → (x : Effect)
       → (server_on_apdu c service o free (ConfirmedRequest limits id (Some g) choice octets)).effect ≡ Some x
       → Performs c.now (Some g) choice octets (server_on_apdu c service o free (ConfirmedRequest limits id (Some g) choice octets))
-  segment_performs g o x is =
+  segment_performs g o was x is =
       let a : Apdu = ConfirmedRequest limits id (Some g) choice octets in
       let k = effects_are_kept.gets c service o free a x is in
       record {
@@ -248,9 +255,21 @@ module _ (c : Context) (service : Service) (free : Bool) (limits : Limits) (id c
         entry_is = k.after;
         live = alive o k.entry k.for;
         gathered = keeps_none c k.entry.choice x.reply k.entry.state k.kept;
+        no_read = ap (λ (r : Option Octets). is_read k.entry.choice && is_some r) (kept_none o was k.before k.entry k.for) ∙ and_false (is_read k.entry.choice);
         begun = tt;
       }
     where
+      kept_none : (o : Option ServerTransaction) → NoneWholeIn o → MayPerform c.now o → (d : ServerTransaction)
+          → IsEntryFor c.now (live_entry c.now o) (ConfirmedRequest limits id (Some g) choice octets) d → d.request ≡ None
+      kept_none None was may d for = for.request
+      kept_none (Some e) was may d for = go (is_live c.now e) refl for may
+        where
+          go : (b : Bool) → is_live c.now e ≡ b → IsEntryFor c.now (if b then Some e else None) (ConfirmedRequest limits id (Some g) choice octets) d
+              → (is_live c.now e ≡ false) ⊎ IsSegmentedRequest e.state → d.request ≡ None
+          go true live same (inl dead) = absurd (let no : true ≡ false = sym live ∙ dead in cc)
+          go true live same (inr gathers) = same.request ∙ was gathers
+          go false dead for may = for.request
+
       alive : (o : Option ServerTransaction) (d : ServerTransaction)
           → IsEntryFor c.now (live_entry c.now o) (ConfirmedRequest limits id (Some g) choice octets) d → is_live c.now d ≡ true
       alive None d for = begun_now d for.begin
@@ -261,18 +280,19 @@ module _ (c : Context) (service : Service) (free : Bool) (limits : Limits) (id c
           go true live same = ap (λ (m : ℕ). nat_le (c.now - m) KEEP) same.begin ∙ live
           go false dead for = begun_now d for.begin
 
-  goes_performs : (segment : Option Segment) (o : Option ServerTransaction) (x : Effect)
+  goes_performs : is_read choice ≡ false → (segment : Option Segment) (o : Option ServerTransaction) → NoneWholeIn o → (x : Effect)
       → (server_on_apdu c service o free (ConfirmedRequest limits id segment choice octets)).effect ≡ Some x
       → Performs c.now segment choice octets (server_on_apdu c service o free (ConfirmedRequest limits id segment choice octets))
-  goes_performs None o x is = whole_performs o x is
-  goes_performs (Some g) o x is = segment_performs g o x is
+  goes_performs write None o was x is = whole_performs write o x is
+  goes_performs write (Some g) o was x is = segment_performs g o was x is
 
-  pub hears_performs : (reuse : Bool) → is_read choice ≡ false → (segment : Option Segment) (o : Option ServerTransaction) (x : Effect)
+  pub hears_performs : (reuse : Bool) → is_read choice ≡ false → (segment : Option Segment) (o : Option ServerTransaction) → NoneWholeIn o → (x : Effect)
       → (server_hears reuse c service is_read o free (ConfirmedRequest limits id segment choice octets)).effect ≡ Some x
       → Performs c.now segment choice octets (server_hears reuse c service is_read o free (ConfirmedRequest limits id segment choice octets))
-  hears_performs false write segment o x is = goes_performs segment o x is
-  hears_performs true write segment o x is =
-      let y : Option ServerTransaction = if ends_entry is_read c.now o (ConfirmedRequest limits id segment choice octets) then None else o in
-      let same = left_is write y segment in
+  hears_performs false write segment o was x is = goes_performs write segment o was x is
+  hears_performs true write segment o was x is =
+      let ends : Bool = ends_entry is_read c.now o (ConfirmedRequest limits id segment choice octets) in
+      let left : Option ServerTransaction = if ends then None else o in
+      let same = left_is write left segment in
       subst (λ (v : Reaction). Performs c.now segment choice octets v) (sym same)
-      (goes_performs segment y x (sym (ap (λ (v : Reaction). v.effect) same) ∙ is))
+      (goes_performs write segment left (ended_so o was ends) x (sym (ap (λ (v : Reaction). v.effect) same) ∙ is))

@@ -32,10 +32,12 @@ use Rattle.bac_world.proofs.Heard.{IsHeardIn, IsHeardInBy, heard_in}
 use Rattle.bac_world.proofs.Settings.{end_heard}
 use Rattle.bac_world.proofs.Steps.{Over}
 use Rattle.bac_writes.specs.Writes.{AddsNothingFor, HearsNoOther, KeepsWrite, KeptOctets, PerformsWrite, WritesActOnce, kept_by}
+use Rattle.bac_writes.proofs.Gathering.{NoneWholeIn}
 use Rattle.bac_writes.proofs.Kept.{heard, performs_there}
 use Rattle.bac_writes.proofs.Logs.{adds_none, adds_then}
 use Rattle.bac_writes.proofs.Machine.{IsBegunBy, Performs, hears_performs}
 use Rattle.bac_writes.proofs.Steps.{KeptAt, step_later, step_went}
+use Rattle.bac_writes.proofs.Tables.{NoneWhole, fresh_none_whole, none_whole_at, run_none_whole}
 
 first_on : (i : ℕ) (e : Event) (es : List Event) → RunsOn i (e ∷ es) → RunsOn i (e ∷ []) × RunsOn i es
 first_on i (Ask client server limits r) es h = (tt, h)
@@ -102,7 +104,7 @@ module _ (links : ℕ → Option Octets) (apart : (i j : ℕ) (l : Octets) → l
 
 module _ (reuse : Bool) (now : ℕ) (key : PeerKey) (link datagram : Octets) (limits : Limits) (segment : Option Segment) (choice : ℕ) (octets : Octets)
     (a b : Node) (o : Outcome) (d : performed) (done : o.performed ≡ Some d) (distinct : IsDistinct same_key a.servers.slots)
-    (write : is_read choice ≡ false) where
+    (write : is_read choice ≡ false) (none_whole : NoneWholeIn (value_at same_key key a.servers.slots)) where
   abbrev apdu : Apdu
   apdu = ConfirmedRequest limits key.invoke_id segment choice octets
 
@@ -123,7 +125,7 @@ module _ (reuse : Bool) (now : ℕ) (key : PeerKey) (link datagram : Octets) (li
   turn_keeps turn =
       let x = effect_there (heard now reuse a.settings (service_of a.store) key apdu a.servers.slots distinct free).effect turn.performed in
       let p = hears_performs (context_of a.settings now key) (service_of a.store) free limits key.invoke_id choice octets reuse write segment
-      (value_at same_key key a.servers.slots) x.0 x.1 in
+      (value_at same_key key a.servers.slots) none_whole x.0 x.1 in
       record {
         reaction = heard now reuse a.settings (service_of a.store) key apdu a.servers.slots distinct free;
         performs = p;
@@ -162,12 +164,16 @@ module _ (W overtake : ℕ) (u : Reuses) (first old new : World) (fresh : IsFres
   after = one_event (link_at first.nodes) fresh.apart W (rules_of overtake first) (rules_bounded W overtake first bounded) refl u (stores_of first.nodes)
       (Stray node p.link p.datagram) old new before (inl (record { fit = p.stranger; hears = p.hears }))
 
+  none_whole : NoneWhole old.nodes
+  none_whole = run_none_whole overtake u events first old (fresh_none_whole first fresh) run
+
   abbrev apdu_of : Apdu
   apdu_of = ConfirmedRequest p.limits key.invoke_id segment choice octets
 
   abbrev Keeping : Type 0
   Keeping = Keeps (u node) (told old node) key p.link p.datagram p.limits segment choice octets p.hears.before p.hears.after p.hears.outcome p.performed p.is
       ((before.over.nodes node p.hears.before p.hears.at).servers).distinct p.write
+      (none_whole_at key p.hears.before.servers.slots (none_whole node p.hears.before p.hears.at))
 
   keeping : Keeping
   keeping = go (heard_in (told old node) p.link p.datagram p.hears.before p.hears.after p.hears.outcome (u node) p.hears.on)
@@ -179,6 +185,7 @@ module _ (W overtake : ℕ) (u : Reuses) (first old new : World) (fresh : IsFres
           let one = means_one SpellsApdu apdu_one p.link p.datagram d.peer key.peer d.apdu apdu_of d.means p.means in
           heard_keeps (u node) (told old node) key p.link p.datagram p.limits segment choice octets p.hears.before p.hears.after p.hears.outcome p.performed p.is
           ((before.over.nodes node p.hears.before p.hears.at).servers).distinct p.write
+          (none_whole_at key p.hears.before.servers.slots (none_whole node p.hears.before p.hears.at))
           (is_from_client d.apdu) d.peer d.apdu one.0 one.1 refl d.heard
 
   abbrev entry : ServerTransaction
@@ -191,7 +198,7 @@ module _ (W overtake : ℕ) (u : Reuses) (first old new : World) (fresh : IsFres
   kept a at = record {
     entry = entry;
     there = subst (λ (n : Node). value_at same_key key n.servers.slots ≡ Some entry) (is_after a at) keeping.there;
-    kept = record { begin_is = refl; choice_is = refl; request_is = refl; gathered = keeping.performs.gathered };
+    kept = record { begin_is = refl; choice_is = refl; request_is = refl; gathered = keeping.performs.gathered; no_read = keeping.performs.no_read };
   }
 
   -- the link of its key is the stranger's
