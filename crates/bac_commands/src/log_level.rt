@@ -1,7 +1,7 @@
 //! A log that tells of some turns, and how many requests were turned away since the table was full; it shows long octets by their first ones.
 ghost use Rattle.std.specs.Prelude.{⊤};
 
-use crate::event_text::print_event;
+use crate::event_text::event_text;
 use crate::lines::turn_lines;
 use crate::log::Tally;
 use crate::log_settings::LogSettings;
@@ -18,7 +18,7 @@ use std::io::Write;
 /// the table was full.
 #[derive(Clone, Copy, Debug, PartialEq, Eq)]
 pub enum LogLevel {
-    /// Those that changed the store.
+    /// Those that performed a write or an append.
     Changes,
     /// Those that performed a request.
     Requests,
@@ -62,9 +62,8 @@ pub struct LevelLog {
     tally: Tally,
 }
 
-/// The lines of a turn, with long octets as the log shows them.
-fn shown_lines(log: &LevelLog, node: &Node, buffer: &[u8], turn: &Turn) -> io::Result<Vec<u8>> {
-    let lines = turn_lines(log.alloc, log.settings, node, buffer, turn)?;
+/// Lines, with long octets as the log shows them.
+fn shown(log: &LevelLog, lines: Vec<u8>) -> io::Result<Vec<u8>> {
     match log.octet_style {
         OctetStyle::Whole => Ok(lines),
         OctetStyle::Short => Ok(shortened(log.alloc, log.settings.format, &lines)?),
@@ -74,7 +73,8 @@ fn shown_lines(log: &LevelLog, node: &Node, buffer: &[u8], turn: &Turn) -> io::R
 /// The lines of a turn, where the log tells of it, and then how many requests were turned away, where that is said.
 fn lines_of(log: &LevelLog, node: &Node, buffer: &[u8], turn: &Turn) -> io::Result<Vec<u8>> {
     let mut lines = if log.tells(turn) {
-        shown_lines(log, node, buffer, turn)?
+        let whole = turn_lines(log.alloc, log.settings, node, buffer, turn)?;
+        shown(log, whole)?
     } else {
         Vec::new(log.alloc)
     };
@@ -111,10 +111,11 @@ impl LevelLog {
         self.is_whole && self.level.is_some()
     }
 
-    /// Writes the line of an event that is of no turn, at a moment. None is written where nothing is told, or the log is no longer whole.
+    /// Writes the line of an event that is of no turn, at a moment, with long octets as the log shows them. None is written where nothing is told, or the log is
+    /// no longer whole.
     pub fn write_event<W: Write>(&mut self, at: u64, event: LogEvent<'_>, out: &mut W) {
         if self.is_on() {
-            self.is_whole = print_event(self.alloc, self.settings.format, at, event, out).is_ok();
+            self.is_whole = self.write_line(at, event, out).is_ok();
         }
     }
 
@@ -124,6 +125,13 @@ impl LevelLog {
             // if that fails too, nothing is printed
             let _ = out.writeln("log fault");
         }
+    }
+
+    /// Writes the line of an event that is of no turn.
+    fn write_line<W: Write>(&self, at: u64, event: LogEvent<'_>, out: &mut W) -> io::Result<()> {
+        let line = event_text(self.alloc, self.settings.format, at, event)?;
+        let shown = shown(self, line)?;
+        out.write_all(shown.as_slice())
     }
 
     /// Whether it tells of a turn.

@@ -430,7 +430,7 @@ const SERVE: &[Word] = &[
         form: WordForm::Flag,
         need: Need::Never,
         against: &[],
-        help: "The server ran before and has lost what it remembered: it refuses new requests for 65 seconds, until no repeat of an old one should arrive",
+        help: "The server ran before and has lost what it remembered: for 65 seconds, until no repeat of an old request should arrive, it refuses new ones, but (unless it is --strict) reads whose request and answer are one APDU each",
     },
     Word {
         name: "strict",
@@ -486,7 +486,7 @@ const SERVE: &[Word] = &[
         form: WordForm::Choice("LEVEL", &["changes", "requests", "all"]),
         need: Need::Never,
         against: &["log"],
-        help: "Logs on standard error what changed the store (changes), each request that was performed (requests), or each datagram (all); of more than 32 octets it shows the first 32, and how many they are",
+        help: "Logs on standard error each write that was performed (changes), each request that was performed (requests), or each datagram (all); of more than 32 octets it shows the first 32, and how many they are",
     },
     Word {
         name: "json",
@@ -667,7 +667,7 @@ const ASK: &[Word] = &[
         form: WordForm::Text("S"),
         need: Need::Never,
         against: &[],
-        help: "Repeats the requests in rounds: one begins S seconds, 0.001 to 1000000000, after the one before began, or at once if that took longer; then standard error says how late it is",
+        help: "Repeats the requests in rounds: one begins S seconds, 0.001 to 1000000000, after the one before was due, or at once if that took longer; then standard error says how late it is",
     },
     Word {
         name: "times",
