@@ -27,4 +27,10 @@ asked_members_view m = record {
 }
 
 abbrev pub end_members_view : EndMembers → plain.EndMembers
-end_members_view m = record { round = view m.round; status = view m.status; text = view m.text; time = view m.time }
+end_members_view m = record {
+  moment = view m.moment;
+  round = view m.round;
+  status = view m.status;
+  text = view m.text;
+  time = view m.time;
+}

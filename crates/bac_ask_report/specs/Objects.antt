@@ -71,6 +71,7 @@ asked_members r = record {
 }
 
 pub record EndMembers : Type 0 where
+  pub moment : Data
   pub round : Data
   pub status : Data
   pub text : Data
@@ -78,6 +79,7 @@ pub record EndMembers : Type 0 where
 
 abbrev pub end_members : AskRecord → (time : Option (List ℕ)) → EndMembers
 end_members r time = record {
+  moment = optional_number r.time;
   round = optional_number r.round;
   status = string (status_word r.outcome);
   text = text_form r.words;
@@ -98,7 +100,9 @@ with_name Without ms = put (codes "name") null ms
 with_name (Named name) ms = put (codes "name") (string name) ms
 
 abbrev pub with_end : EndMembers → Members → Members
-with_end e ms = put (codes "time") e.time (put (codes "text") e.text (put (codes "status") e.status (put (codes "round") e.round ms)))
+with_end e ms =
+    put (codes "time") e.time (put (codes "text") e.text (put (codes "status") e.status (put (codes "round") e.round
+    (put (codes "moment") e.moment ms))))
 
 abbrev pub with_answer : AnswerMembers → Members → Members
 with_answer m ms =

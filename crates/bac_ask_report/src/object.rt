@@ -117,6 +117,7 @@ fn with_name(name: LineName<'_>, object: Members) -> Members
 /// When it ended, and the words for how.
 #[derive(Drop)]
 pub(crate) struct EndMembers {
+    moment: Json,
     round: Json,
     status: Json,
     text: Json,
@@ -134,6 +135,7 @@ fn end_members(
     let text = text_json(alloc, ask.words)?;
     let time = time_or_null(alloc, time)?;
     Ok(EndMembers {
+        moment: number_or_null(ask.time),
         round: number_or_null(ask.round),
         status,
         text,
@@ -145,6 +147,7 @@ fn with_end(end: EndMembers, object: Members) -> Members
     ensures { Extends (with_end (end_members_view end)) object result }
 {
     object
+        .json("moment", end.moment)
         .json("round", end.round)
         .json("status", end.status)
         .json("text", end.text)
