@@ -23,5 +23,6 @@ abbrev pub IsDecodedFrom : (IsAt : (path : List ℕ) → (content : Option (List
 IsDecodedFrom IsAt in_words text s old new = IsDecodedBy IsAt in_words (bytes_eq text (codes "-")) text s old new
 
 -- the capture of lines and notes in the file was checked to its end
-abbrev pub AreCheckedLines : (IsAt : (path : List ℕ) → (content : Option (List ℕ)) → Type 0) → (path : List ℕ) → Status → (old new : Option (List ℕ)) → Type 0
-AreCheckedLines IsAt path s old new = IsPrintedFile IsAt path s (λ content. IsReportAs false true content old new s)
+abbrev pub AreCheckedLines : (IsAt : (path : List ℕ) → (content : Option (List ℕ)) → Type 0) → (in_words : Bool) → (path : List ℕ) → Status
+    → (old new : Option (List ℕ)) → Type 0
+AreCheckedLines IsAt in_words path s old new = IsPrintedFile IsAt path s (λ content. IsReportAs in_words true content old new s)

@@ -38,7 +38,7 @@ IsPerformed IsAt IsOn IsClock IsOnDatabase (task.DecodeJson datagram) s old new 
 IsPerformed IsAt IsOn IsClock IsOnDatabase (task.CheckJson capture) s old new = json.IsCheckedFile IsAt capture.path.now capture.port s old new
 IsPerformed IsAt IsOn IsClock IsOnDatabase (task.CheckJsonLines path) s old new = json.AreCheckedLines IsAt path.now s old new
 IsPerformed IsAt IsOn IsClock IsOnDatabase (task.Check in_words capture) s old new = IsCheckedFile IsAt in_words capture.path.now capture.port s old new
-IsPerformed IsAt IsOn IsClock IsOnDatabase (task.CheckLines path) s old new = AreCheckedLines IsAt path.now s old new
+IsPerformed IsAt IsOn IsClock IsOnDatabase (task.CheckLines in_words path) s old new = AreCheckedLines IsAt in_words path.now s old new
 IsPerformed IsAt IsOn IsClock IsOnDatabase (task.Explain options capture) s old new = IsExplainedFile IsAt options capture.path.now capture.port s old new
 IsPerformed IsAt IsOn IsClock IsOnDatabase (task.ExplainJson options capture) s old new = IsJsonFile IsAt options capture.path.now capture.port s old new
 IsPerformed IsAt IsOn IsClock IsOnDatabase (task.ExplainHtml options capture) s old new = IsPageFile IsAt options capture.path.now capture.port s old new

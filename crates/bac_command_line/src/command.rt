@@ -56,7 +56,9 @@ fn perform<F: OpenFiles, M: Machine, O: Write, E: Write>(
         Task::CheckJson(capture) => check_json(alloc, files, &capture, out, err),
         Task::CheckJsonLines(path) => check_json_lines(alloc, files, path, out, err),
         Task::Check { in_words, capture } => check(alloc, files, in_words, &capture, out, err),
-        Task::CheckLines(path) => check_lines(alloc, files, path, out, err),
+        Task::CheckLines { in_words, path } => {
+            check_lines(alloc, files, in_words, path, out, err)
+        }
         Task::Explain { options, capture } => { explain(alloc, files, options, &capture, out, err) }
         Task::ExplainJson { options, capture } => {
             explain_json(alloc, files, options, &capture, out, err)

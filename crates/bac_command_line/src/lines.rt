@@ -53,19 +53,20 @@ pub(crate) fn decode<F: OpenFiles, O: Write, E: Write>(
     }
 }
 
-/// Checks the capture of lines and notes in a file. A file that cannot be opened or read on: `cannot read` on `err`, and why.
+/// Checks the capture of lines and notes in a file, with faults in words or not. A file that cannot be opened or read on: `cannot read` on `err`, and why.
 pub(crate) fn check_lines<F: OpenFiles, O: Write, E: Write>(
     alloc: Global,
     files: &F,
+    in_words: bool,
     path: &str,
     out: &mut O,
     err: &mut E,
 ) -> Status
-    ensures { AreCheckedLines (OnFile F.is_file F.File.remaining) path.now result (O.contents out.old) (O.contents out.new) }
+    ensures { AreCheckedLines (OnFile F.is_file F.File.remaining) in_words path.now result (O.contents out.old) (O.contents out.new) }
 {
     match reader_of(alloc, files, path, err) {
         Ok(mut input) => {
-            let status = check_lines_over(alloc, false, true, &mut input, out, err);
+            let status = check_lines_over(alloc, in_words, true, &mut input, out, err);
             print_unfit(status, path, input.get_ref(), None, err);
             status
         }

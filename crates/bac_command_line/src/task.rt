@@ -40,7 +40,10 @@ pub(crate) enum Task<'m, 'a> {
         capture: CaptureFile<'a>,
     },
     /// The bad lines of the capture in this file, which has notes.
-    CheckLines(&'a str),
+    CheckLines {
+        in_words: bool,
+        path: &'a str,
+    },
     /// What is bad of this capture, as objects of JSON.
     CheckJson(CaptureFile<'a>),
     /// The bad lines of the capture in this file, which has notes, as objects of JSON.
@@ -193,7 +196,8 @@ pub(crate) fn task_of<'m, 'a>(
             if given.get_flag("json") {
                 return Some(Task::CheckJsonLines(path));
             }
-            Some(Task::CheckLines(path))
+            let in_words = given.get_flag("text");
+            Some(Task::CheckLines { in_words, path })
         }
         ("check", given) if given.get_flag("json") => Some(Task::CheckJson(capture_of(given)?)),
         ("check", given) => {

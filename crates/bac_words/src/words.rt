@@ -156,7 +156,7 @@ const CHECK: &[Word] = &[
         name: "text",
         form: WordForm::Flag,
         need: Need::Never,
-        against: &["notes"],
+        against: &[],
         help: "Prints faults in words; for pcap and pcapng also how many frames carry each other BVLC function, by name",
     },
     Word {
