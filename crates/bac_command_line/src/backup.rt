@@ -12,7 +12,7 @@ use crate::folder::{Folder, MANIFEST};
 use crate::listed_files::{listed_files, objects_in};
 use crate::online::Machine;
 use crate::peer_file::{PeerFile, end_words};
-use crate::reasons::{print_bad_manifest, print_empty_manifest};
+use crate::reasons::{print_bad_manifest, print_empty_manifest, print_no_files};
 use crate::whole_files::client_of;
 use crate::whole_reading::{Got, read_whole};
 use crate::whole_writing::write_whole;
@@ -424,6 +424,10 @@ pub(crate) fn back_up<F: OpenFiles, M: Machine, O: Write, E: Write>(
         ChosenFiles::Listed(device) => {
             let mut backup = backup_in(environment, task, path, err)?;
             match listed_files(&task.asking, &mut backup.client, task.peer, device, err)? {
+                Some(listed) if listed.is_empty() => {
+                    print_no_files(err);
+                    Ok(false)
+                }
                 Some(listed) => backup.save_all(&listed, out, err),
                 None => Ok(false),
             }

@@ -97,6 +97,12 @@ pub(crate) fn print_bad_manifest<E: Write>(folder: &str, number: usize, err: &mu
     Status::CommandLine
 }
 
+/// Tells that the object-list of a peer has no files.
+pub(crate) fn print_no_files<E: Write>(err: &mut E) {
+    // if that fails too, only the status is left
+    let _ = err.writeln("object-list: no files");
+}
+
 /// Tells that the manifest of a folder has no files.
 pub(crate) fn print_empty_manifest<E: Write>(folder: &str, err: &mut E) {
     // if that fails too, only the status is left
