@@ -27,6 +27,14 @@ use sqlite_trees::store::Store;
 use std::alloc::Global;
 use std::io::Write;
 
+/// Tells behind the fault of a file that can't be opened the system's reason, if it tells one.
+fn print_refusal<M: Machine, E: Write>(machine: &M, path: &str, err: &mut E) {
+    if let Some(error) = machine.refusal_of_database(path) {
+        // if that fails too, only the status is left
+        let _ = writeln!(err, "{path}: {error}");
+    }
+}
+
 /// The database of the file at a path, and whether it is new; where it can't be opened, `err` and the status say why.
 pub(crate) fn open_kept<M: Machine, E: Write>(
     machine: &M,
@@ -42,6 +50,9 @@ pub(crate) fn open_kept<M: Machine, E: Write>(
         Err(fault) => {
             // if that fails too, only the status is left
             let _ = writeln!(err, "{path}: {fault}");
+            if matches!(fault, OpenFault::CannotOpen) {
+                print_refusal(machine, path, err);
+            }
             Err(Status::CommandLine)
         }
     }

@@ -70,6 +70,11 @@ pub trait Machine {
     fn open_database(&self, path: &str) -> Result<(Self::Database, bool), OpenFault>
         ensures { IfOk result (λ r. Self.is_database path.now r.1 r.0) };
 
+    /// Why the system refuses to open the file at a path for reading and writing, or to make it if it is missing; None where it does neither, or tells no reason.
+    fn refusal_of_database(&self, _path: &str) -> Option<io::Error> {
+        None
+    }
+
     /// Whether standard input has ended, or cannot be read; it does not wait, and what is there is read and forgotten.
     fn has_input_ended(&self) -> bool;
 

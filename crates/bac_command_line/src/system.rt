@@ -14,7 +14,7 @@ use bac_keep_file::{KeptFile, OpenFault};
 use bac_npdu::LinkAddress;
 use mio::unix::SourceFd;
 use mio::{Events, Interest, Poll, Token};
-use std::fs::OpenFile;
+use std::fs::{OpenFile, OpenOptions};
 use std::io::{ErrorKind, Read, Write};
 use std::net::{Ipv4Addr, Net, SocketAddr, UdpSocket};
 use std::rt::Files;
@@ -192,6 +192,19 @@ impl<'a> Machine for System<'a, HostRuntime> {
 
     fn open_database(&self, path: &str) -> Result<(KeptFile, bool), OpenFault> {
         bac_keep_file::open(self.runtime, path)
+    }
+
+    /// That of opening it so.
+    fn refusal_of_database(&self, path: &str) -> Option<io::Error> {
+        let opened = OpenOptions::new()
+            .read(true)
+            .write(true)
+            .create(true)
+            .open(self.runtime, path);
+        match opened {
+            Ok(_) => None,
+            Err(error) => Some(error),
+        }
     }
 
     fn has_input_ended(&self) -> bool {

@@ -1,6 +1,7 @@
 pub mod Lines
 pub mod Faults
 pub mod TimeForms
+pub mod Names
 pub mod Datagrams
 pub mod LineReports
 pub mod Decoded

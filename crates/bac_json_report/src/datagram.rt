@@ -1,13 +1,16 @@
 //! A datagram as one object.
 ghost use Rattle.std.specs.Prelude.{◌≡◌, IfOk, OnOk};
 ghost use Rattle.bac_json.specs.Datagrams.{layers_view};
+ghost use Rattle.bac_json.specs.Forms.{string_or_null};
 ghost use Rattle.bac_json_report.specs.Datagrams.{IsDatagramForm, IsDatagramLine, IsDatagramText, bad_line_form, datagram_members, optional_fault};
 ghost use Rattle.bac_json_report.specs.Lines.{IsLineOf};
+ghost use Rattle.bac_json_report.specs.Names.{name_at};
 ghost use Rattle.bac_text.specs.Texts.{AppendsText};
 ghost use Rattle.serde_json.specs.View.{view};
 
 use crate::fault::{fault_json, outer_fault_json};
 use crate::line::print_json;
+use crate::names::name_of;
 use bac_json::{Layers, Members, datagram_layers};
 use bac_text::{LayerFault, check_datagram};
 use bac_value::NoMemory;
@@ -26,27 +29,39 @@ fn optional_fault(alloc: Global, fault: Option<LayerFault>) -> Result<Json, Allo
     }
 }
 
+/// The name of what a datagram is; Null where it has none.
+fn name_json(alloc: Global, datagram: &[u8]) -> Result<Json, AllocError>
+    ensures { IfOk result (λ v. view v ≡ string_or_null (name_at datagram.now)) }
+{
+    match name_of(datagram) {
+        Some(name) => Json::try_from_str(alloc, name),
+        None => Ok(Json::Null),
+    }
+}
+
 /// An object with these members.
 fn datagram_object(
     alloc: Global,
     line: u64,
     length: Json,
     fault: Json,
+    name: Json,
     layers: Layers,
 ) -> Result<Json, AllocError>
-    ensures { IfOk result (λ v. view v ≡ datagram_members line (view length) (view fault) (layers_view layers)) }
+    ensures { IfOk result (λ v. view v ≡ datagram_members line (view length) (view fault) (view name) (layers_view layers)) }
 {
     Members::new(alloc)
         .json("apdu", layers.apdu)
         .json("fault", fault)
         .json("length", length)
         .number("line", line)
+        .json("name", name)
         .json("npdu", layers.npdu)
         .json("service", layers.service)
         .end()
 }
 
-/// A datagram, with the number of its line: how many octets it has, its layers and its fault. An Err is out of memory.
+/// A datagram, with the number of its line: how many octets it has, its layers, the standard's name for what it is, and its fault. An Err is out of memory.
 pub fn datagram_json(
     alloc: Global,
     line: u64,
@@ -57,8 +72,9 @@ pub fn datagram_json(
 {
     let layers = datagram_layers(alloc, datagram)?;
     let fault = optional_fault(alloc, fault)?;
+    let name = name_json(alloc, datagram)?;
     let length = Json::from(datagram.len());
-    Ok(datagram_object(alloc, line, length, fault, layers)?)
+    Ok(datagram_object(alloc, line, length, fault, name, layers)?)
 }
 
 fn print_datagram<W: Write>(
@@ -107,7 +123,7 @@ fn bad_line_json(alloc: Global, line: u64) -> Result<Json, AllocError>
         apdu: Json::Null,
         service: Json::Null,
     };
-    datagram_object(alloc, line, Json::Null, fault, layers)
+    datagram_object(alloc, line, Json::Null, fault, Json::Null, layers)
 }
 
 /// Prints that a line is no hexadecimal.

@@ -11,6 +11,7 @@ mod line;
 mod line_check;
 mod line_report;
 mod moment;
+mod names;
 
 pub use check::check_json_over;
 pub use check_lines::check_json_lines_over;
