@@ -85,14 +85,14 @@ typedef struct bac_settings {
     bool reuse_invoke_ids; /* whether a client, of another make say, may use an invoke ID again as soon as its transaction is over (clause 5.4).
                               false: for 65,000 ms an equal request of the same peer under the same invoke ID gets the old answer and is not performed, a read
                               too; another one is answered by Abort 0. So a peer gets at most 256 new requests in 65,000 ms.
-                              true: a read whose reply is one APDU is performed each time that it comes, and takes no slot; another request ends the kept reply
-                              and is performed. A write that equals the last request under its invoke ID, within 65,000 ms, is a repeat: it gets the old answer
-                              and is not performed again. So is a request in segments, if the last one had the same service and first segment, or more
-                              than 256 segments */
+                              true: a read whose reply is one APDU is performed each time that it comes, and takes no slot; a longer reply holds its slot until
+                              its last segment is acknowledged, or the peer aborts it. Another request ends the kept reply and is performed. A write that
+                              equals the last request under its invoke ID, within 65,000 ms, is a repeat: it gets the old answer and is not performed again.
+                              So is a request in segments, if the last one had the same service and first segment, or more than 256 segments */
     uint8_t later[3];      /* 0: room for members of later versions */
-    uint32_t memory;       /* how many octets of requests and replies it keeps for those that ask it, 65,540 and more; 0: 67,108,864. A new request
-                              that can make it keep more, and any in segments, needs room for 65,539 octets beside its own: one for which there is none is
-                              not heard, and bac_on answers BAC_NO_MEMORY */
+    uint32_t memory;       /* how many octets of requests and replies it keeps for those that ask it, 65,540 and more; 0: 67,108,864. A request that can make
+                              it keep more, and each of its segments, needs room for 65,539 octets beside its own: what has none is not heard, and
+                              bac_on answers BAC_NO_MEMORY. A repeat of a request that was received whole needs none */
 } bac_settings;
 
 /* APDUs of 1476 octets, any number of segments, windows of 32, 64 slots at each end (64 asks in 135,000 ms, 64 requests in 65,000), at that link; clients may
