@@ -1,12 +1,13 @@
 //! A document that a server follows: it is read again, and where it changed the node gets the values that it changed.
 ghost use Rattle.bac_command_line.specs.Looking.{IsChanged};
 
+use crate::fault_lines::{FaultTime, print_fault_objects};
 use crate::files::OpenFiles;
 use crate::listing::kept_words;
 use crate::part_words::print_about;
 use crate::reasons::print_document_fault;
 use crate::station::Station;
-use bac_commands::LevelLog;
+use bac_commands::{LevelLog, LogFormat};
 use bac_driver::{BoundNode, Clock, Link};
 use bac_follow::{Documents, FollowFault, changes_between};
 use bac_keep_json::KeptPart;
@@ -22,6 +23,7 @@ use std::io::{ErrorKind, Read, Write};
 /// A document that a server follows.
 #[derive(Drop)]
 pub(crate) struct Followed<'p> {
+    alloc: Global,
     path: &'p str,
     /// The octets that were read last; None where the file could not be read.
     octets: Option<Vec<u8>>,
@@ -124,6 +126,22 @@ fn print_unfit<E: Write>(alloc: Global, path: &str, fault: FollowFault, err: &mu
     }
 }
 
+/// Tells why a document, whose octets those are, is not followed now.
+fn print_refusal<E: Write>(
+    alloc: Global,
+    path: &str,
+    octets: &[u8],
+    refusal: Refusal,
+    err: &mut E,
+) {
+    match refusal {
+        Refusal::Wrong(fault) => {
+            let _ = print_document_fault(alloc, path, octets, &fault, err);
+        }
+        Refusal::Unfit(fault) => print_unfit(alloc, path, fault, err),
+    }
+}
+
 /// What the document gave to a property or a file.
 fn part_of(change: &Change) -> KeptPart<'_> {
     match change {
@@ -177,6 +195,7 @@ impl<'p> Followed<'p> {
         let store = store.copy(alloc)?;
         let objects = objects_in(alloc, &octets)?;
         Ok(Followed {
+            alloc,
             path,
             octets: Some(octets),
             store,
@@ -223,43 +242,87 @@ impl<'p> Followed<'p> {
         Ok(())
     }
 
+    /// Tells why the document, whose octets those are, is not followed now: in the form of the log.
+    fn tell<C: Clock, E: Write>(
+        &self,
+        clock: &mut C,
+        octets: &[u8],
+        refusal: Refusal,
+        format: LogFormat,
+        err: &mut E,
+    ) {
+        match format {
+            LogFormat::Lines => print_refusal(self.alloc, self.path, octets, refusal, err),
+            LogFormat::Objects { epoch } => {
+                let mut text = Vec::new(self.alloc);
+                print_refusal(self.alloc, self.path, octets, refusal, &mut text);
+                let moment = clock.now();
+                print_fault_objects(self.alloc, FaultTime { moment, epoch }, &text, err);
+            }
+        }
+    }
+
     /// Takes the octets of the document that are new. An Err is out of memory: then they are tried again at the next look.
     fn take<L: Link, C: Clock, E: Write>(
         &mut self,
         station: &mut Station<L, C>,
         octets: &[u8],
+        format: LogFormat,
         log: &mut LevelLog,
         err: &mut E,
     ) -> Result<(), NoMemory>
         ensures { IsChanged station.old.bound_node station.new.bound_node }
     {
-        let alloc = station.alloc;
-        match news_in(alloc, &self.store, &self.objects, octets)? {
+        match news_in(station.alloc, &self.store, &self.objects, octets)? {
             Ok(news) => match self.make_all(station, news, log, err) {
                 Ok(()) => Ok(()),
                 Err(_) => Err(NoMemory),
             },
-            Err(Refusal::Wrong(fault)) => {
-                let _ = print_document_fault(alloc, self.path, octets, &fault, err);
-                Ok(())
-            }
-            Err(Refusal::Unfit(fault)) => {
-                print_unfit(alloc, self.path, fault, err);
+            Err(refusal) => {
+                self.tell(&mut station.clock, octets, refusal, format, err);
                 Ok(())
             }
         }
     }
 
+    /// Tells that the file cannot be read: in the form of the log.
+    fn tell_unread<C: Clock, E: Write>(
+        &self,
+        clock: &mut C,
+        error: &io::Error,
+        format: LogFormat,
+        err: &mut E,
+    ) {
+        let path = self.path;
+        // if that fails, nothing is printed
+        match format {
+            LogFormat::Lines => {
+                let _ = writeln!(err, "cannot read\n{path}: {error}");
+            }
+            LogFormat::Objects { epoch } => {
+                if let Ok(text) = format!(in self.alloc; "{path}: {error}") {
+                    let moment = clock.now();
+                    let at = FaultTime { moment, epoch };
+                    print_fault_objects(self.alloc, at, text.as_bytes(), err);
+                }
+            }
+        }
+    }
+
     /// Tells once that the file cannot be read.
-    fn print_unread<E: Write>(&mut self, error: &io::Error, err: &mut E) {
+    fn print_unread<C: Clock, E: Write>(
+        &mut self,
+        clock: &mut C,
+        error: &io::Error,
+        format: LogFormat,
+        err: &mut E,
+    ) {
         if error.kind() == ErrorKind::OutOfMemory {
             let _ = no_memory(err);
             return;
         }
         if self.octets.is_some() {
-            // if that fails too, nothing is printed
-            let path = self.path;
-            let _ = writeln!(err, "cannot read\n{path}: {error}");
+            self.tell_unread(clock, error, format, err);
         }
         self.octets = None;
     }
@@ -269,6 +332,7 @@ impl<'p> Followed<'p> {
         &mut self,
         files: &F,
         station: &mut Station<L, C>,
+        format: LogFormat,
         log: &mut LevelLog,
         err: &mut E,
     )
@@ -276,12 +340,12 @@ impl<'p> Followed<'p> {
     {
         let octets = match octets_at(station.alloc, files, self.path) {
             Ok(octets) => octets,
-            Err(error) => return self.print_unread(&error, err),
+            Err(error) => return self.print_unread(&mut station.clock, &error, format, err),
         };
         if self.has_read(&octets) {
             return;
         }
-        match self.take(station, &octets, log, err) {
+        match self.take(station, &octets, format, log, err) {
             Ok(()) => self.octets = Some(octets),
             Err(_) => {
                 let _ = no_memory(err);

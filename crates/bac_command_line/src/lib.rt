@@ -12,6 +12,7 @@ mod ends;
 mod environment;
 mod explaining;
 mod file_news;
+mod fault_lines;
 mod file_task;
 mod file_words;
 mod files;

@@ -20,7 +20,7 @@ use crate::objects::{document_of, octets_of, store_in};
 use crate::online::Machine;
 use crate::serving::{Serving, Start, epoch_of, print_listening, print_not_bound};
 use crate::station::Station;
-use bac_commands::{LevelLog, bound_server, clock_fault, print_served, serve_stretch};
+use bac_commands::{LevelLog, LogFormat, bound_server, clock_fault, print_served, serve_stretch};
 use bac_driver::{Clock, RunLimit, WaitLimit};
 use bac_node::NewNodeFault;
 use bac_store::Store;
@@ -60,6 +60,8 @@ struct Stretch {
 #[derive(Drop)]
 struct Looker<'p> {
     followed: Option<Followed<'p>>,
+    /// The form of what is told.
+    format: LogFormat,
     log: LevelLog,
 }
 
@@ -216,8 +218,9 @@ fn look<F: OpenFiles, M: Machine, E: Write>(
     if stop.with_input && environment.machine.has_input_ended() {
         return true;
     }
+    let format = looker.format;
     if let Some(followed) = &mut looker.followed {
-        followed.look(environment.files, station, &mut looker.log, err);
+        followed.look(environment.files, station, format, &mut looker.log, err);
     }
     false
 }
@@ -293,6 +296,7 @@ fn serve_store<F: OpenFiles, M: Machine, O: Write, E: Write>(
     let (mut station, start) = station_of(environment, serving, store, err)?;
     let mut looker = Looker {
         followed,
+        format: serving.log_format(start),
         log: serving.log_from(environment.alloc, start),
     };
     let stop = Stop::of(serving, start.moment);

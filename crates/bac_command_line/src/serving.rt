@@ -141,15 +141,19 @@ impl Serving {
         LevelLog::new(alloc, self.log_settings(start), level, octet_style)
     }
 
-    /// How its log is written, where it begins then.
-    fn log_settings(&self, start: Start) -> LogSettings {
-        let format = if self.json {
+    /// The form of its log, where it begins then.
+    pub(crate) fn log_format(&self, start: Start) -> LogFormat {
+        if self.json {
             LogFormat::Objects { epoch: start.epoch }
         } else {
             LogFormat::Lines
-        };
+        }
+    }
+
+    /// How its log is written, where it begins then.
+    fn log_settings(&self, start: Start) -> LogSettings {
         LogSettings {
-            format,
+            format: self.log_format(start),
             serves_from: self.serves_from(start.moment),
         }
     }
@@ -215,7 +219,7 @@ fn print_started<E: Write>(
         let event = LogEvent::Started {
             words: words.as_bytes(),
         };
-        let format = serving.log_settings(start).format;
+        let format = serving.log_format(start);
         let _ = print_event(alloc, format, start.moment, event, err);
     }
 }
