@@ -5,6 +5,7 @@ ghost use Rattle.std.specs.Io.KnownBytes.{Keeps};
 ghost use Rattle.bac_text.specs.Statuses.{IsStop};
 ghost use Rattle.bac_command_line.specs.Files.{IsChartedFile, IsCheckedFile, IsExplainedFile, IsShownFile, IsSimulatedFile, OnFile};
 
+use crate::digit_lines::DigitLines;
 use crate::reasons::{print_unfit, print_unread};
 use crate::watched::Watched;
 use bac_capture::{Ports, check_capture_over, signature_of};
@@ -60,17 +61,36 @@ pub(crate) fn opened<F: OpenFiles, E: Write>(
     }
 }
 
-/// A file, opened for reading, that remembers why a read failed. Where it cannot be opened, `err` and the status say so.
+/// A file, opened for reading, that remembers why a read failed, and looks at those lines, if there are any. Where it cannot be opened, `err` and the status say so.
 pub(crate) fn watched_of<F: OpenFiles, E: Write>(
     files: &F,
     path: &str,
+    lines: Option<DigitLines>,
     err: &mut E,
 ) -> Result<Watched<F::File>, Status>
     ensures opened { IfOk result (λ w. F.is_file path.now w.file) }
     ensures told { IfErr result IsStop }
 {
     let file = opened(files, path, err)?;
-    Ok(Watched::new(file))
+    Ok(Watched::new(file, lines))
+}
+
+/// The same with a buffer. Where memory is refused, `err` and the status say so too.
+fn buffered_of<F: OpenFiles, E: Write>(
+    alloc: Global,
+    files: &F,
+    path: &str,
+    lines: Option<DigitLines>,
+    err: &mut E,
+) -> Result<BufReader<Watched<F::File>>, Status>
+    ensures at { IfOk result (λ r. OnFile F.is_file F.File.remaining path.now (reader_remaining (λ w. F.File.remaining w.file) r)) }
+    ensures told { IfErr result IsStop }
+{
+    let file = watched_of(files, path, lines, err)?;
+    match BufReader::with_capacity(alloc, READ_AT_ONCE, file) {
+        Ok(reader) => Ok(reader),
+        Err(_) => Err(no_memory(err)),
+    }
 }
 
 /// A file, opened for reading, with a buffer; it remembers why a read failed. Where it cannot be opened, or memory is refused, `err` and the status say so.
@@ -83,11 +103,20 @@ pub(crate) fn reader_of<F: OpenFiles, E: Write>(
     ensures at { IfOk result (λ r. OnFile F.is_file F.File.remaining path.now (reader_remaining (λ w. F.File.remaining w.file) r)) }
     ensures told { IfErr result IsStop }
 {
-    let file = watched_of(files, path, err)?;
-    match BufReader::with_capacity(alloc, READ_AT_ONCE, file) {
-        Ok(reader) => Ok(reader),
-        Err(_) => Err(no_memory(err)),
-    }
+    buffered_of(alloc, files, path, None, err)
+}
+
+/// The same, which looks for the first line that is no hexadecimal.
+pub(crate) fn digits_of<F: OpenFiles, E: Write>(
+    alloc: Global,
+    files: &F,
+    path: &str,
+    err: &mut E,
+) -> Result<BufReader<Watched<F::File>>, Status>
+    ensures at { IfOk result (λ r. OnFile F.is_file F.File.remaining path.now (reader_remaining (λ w. F.File.remaining w.file) r)) }
+    ensures told { IfErr result IsStop }
+{
+    buffered_of(alloc, files, path, Some(DigitLines::new(alloc)), err)
 }
 
 /// What `explain` takes, and what charts take.
@@ -252,7 +281,7 @@ pub(crate) fn simulate<F: OpenFiles, O: Write, E: Write>(
 ) -> Status
     ensures { IsSimulatedFile (OnFile F.is_file F.File.remaining) script.now.notes script.now.path.now result (O.contents out.old) (O.contents out.new) }
 {
-    match watched_of(files, script.path, err) {
+    match watched_of(files, script.path, None, err) {
         Ok(mut file) => {
             let status = simulate_lines_over(
                 alloc,
@@ -285,7 +314,7 @@ pub(crate) fn show<F: OpenFiles, O: Write, E: Write>(
 ) -> Status
     ensures { IsShownFile (OnFile F.is_file F.File.remaining) view script.now.notes script.now.path.now result (O.contents out.old) (O.contents out.new) }
 {
-    match watched_of(files, script.path, err) {
+    match watched_of(files, script.path, None, err) {
         Ok(mut file) => {
             let status = show_over(alloc, view, script.notes, &mut file, out, err);
             print_unfit(status, script.path, &file, Some(NOTHING_HAPPENED), err);

@@ -2,9 +2,9 @@
 ghost use Rattle.bac_command_line.specs.Files.{OnFile};
 ghost use Rattle.bac_command_line.specs.Json.{AreDecodedLines, AreCheckedLines, IsCheckedFile, IsDecodedFrom};
 
-use crate::files::{CaptureFile, OpenFiles, reader_of};
+use crate::files::{CaptureFile, OpenFiles, digits_of, reader_of};
 use crate::lines::STANDARD_INPUT;
-use crate::reasons::{Digits, print_bad_digit, print_unfit};
+use crate::reasons::{Digits, print_bad_digit, print_bad_digits, print_unfit};
 use bac_capture::Ports;
 use bac_json_report::{
     check_json_lines_over, check_json_over, decode_json_lines_over, decode_json_over,
@@ -13,7 +13,8 @@ use bac_text::Status;
 use std::alloc::Global;
 use std::io::Write;
 
-/// The datagrams in a file, one on each line, as objects. A file that cannot be opened or read on: `cannot read` on `err`, and why.
+/// The datagrams in a file, one on each line, as objects. A file that cannot be opened or read on: `cannot read` on `err`, and why. Lines that are no hexadecimal: the
+/// first of them on `err`, and why.
 fn decode_lines<F: OpenFiles, O: Write, E: Write>(
     alloc: Global,
     files: &F,
@@ -23,10 +24,11 @@ fn decode_lines<F: OpenFiles, O: Write, E: Write>(
 ) -> Status
     ensures { AreDecodedLines (OnFile F.is_file F.File.remaining) path.now result (O.contents out.old) (O.contents out.new) }
 {
-    match reader_of(alloc, files, path, err) {
+    match digits_of(alloc, files, path, err) {
         Ok(mut input) => {
             let status = decode_json_lines_over(alloc, &mut input, out, err);
             print_unfit(status, path, input.get_ref(), None, err);
+            print_bad_digits(status, input.get_ref(), err);
             status
         }
         Err(status) => status,

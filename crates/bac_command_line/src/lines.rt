@@ -3,8 +3,8 @@ ghost use Rattle.std.specs.Str.{bytes_eq};
 ghost use Rattle.bac_command_line.specs.Files.{OnFile};
 ghost use Rattle.bac_command_line.specs.Lines.{AreCheckedLines, AreDecodedLines, IsDecodedFrom};
 
-use crate::files::{OpenFiles, reader_of};
-use crate::reasons::{Digits, print_bad_digit, print_unfit};
+use crate::files::{OpenFiles, digits_of, reader_of};
+use crate::reasons::{Digits, print_bad_digit, print_bad_digits, print_unfit};
 use bac_text::{Status, check_lines_over, decode_lines_over, decode_text_over};
 use std::alloc::Global;
 use std::io::Write;
@@ -12,7 +12,8 @@ use std::io::Write;
 /// What stands for standard input in the place of a datagram.
 pub(crate) const STANDARD_INPUT: &str = "-";
 
-/// The layers of the datagrams in a file, one on each line, in words or not. A file that cannot be opened or read on: `cannot read` on `err`, and why.
+/// The layers of the datagrams in a file, one on each line, in words or not. A file that cannot be opened or read on: `cannot read` on `err`, and why. Lines that are
+/// no hexadecimal: the first of them on `err`, and why.
 fn decode_lines<F: OpenFiles, O: Write, E: Write>(
     alloc: Global,
     files: &F,
@@ -23,10 +24,11 @@ fn decode_lines<F: OpenFiles, O: Write, E: Write>(
 ) -> Status
     ensures { AreDecodedLines (OnFile F.is_file F.File.remaining) in_words path.now result (O.contents out.old) (O.contents out.new) }
 {
-    match reader_of(alloc, files, path, err) {
+    match digits_of(alloc, files, path, err) {
         Ok(mut input) => {
             let status = decode_lines_over(alloc, in_words, &mut input, out, err);
             print_unfit(status, path, input.get_ref(), None, err);
+            print_bad_digits(status, input.get_ref(), err);
             status
         }
         Err(status) => status,

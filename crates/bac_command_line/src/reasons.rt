@@ -75,6 +75,16 @@ pub(crate) fn print_unfit<R, E: Write>(
     }
 }
 
+/// Where the status of a command says that some datagram has a fault, tells of lines that were to be hexadecimal the first that is none, and why.
+pub(crate) fn print_bad_digits<R, E: Write>(status: Status, file: &Watched<R>, err: &mut E) {
+    if status != Status::Faulty {
+        return;
+    }
+    if let Some(lines) = &file.lines {
+        lines.print_bad(err);
+    }
+}
+
 /// Complains of words that ask for no whole file, where one was to be written.
 pub(crate) fn print_no_whole_file<E: Write>(err: &mut E) -> Status
     ensures { result ≡ status.CommandLine }
@@ -281,7 +291,7 @@ impl Digits {
     }
 
     /// What is wanted of digits that are good one by one.
-    fn wanted(self) -> &'static str {
+    pub(crate) fn wanted(self) -> &'static str {
         match self {
             Digits::Alone => "the digits are no whole octets: an even number of them wanted",
             Digits::Grouped =>
@@ -291,7 +301,7 @@ impl Digits {
 }
 
 /// The first character that is no digit and may not be between digits, and its number from 1 on.
-fn no_digit(text: &str, digits: Digits) -> Option<(usize, char)> {
+pub(crate) fn no_digit(text: &str, digits: Digits) -> Option<(usize, char)> {
     let mut before = (' ', ' ');
     for (place, character) in text.chars().enumerate() {
         if !digits.takes(before, character) {

@@ -2,7 +2,7 @@
 use Rattle.std.proofs.Common.{◌≡◌, List, ℕ, Option}
 use Rattle.std.specs.Io.Buffered.{reader_remaining}
 use Rattle.bac_command_line.proofs.CheckedFiles.{prepend_nothing}
-use Rattle.bac_command_line.proofs.files.reader_of.Goals as goal
+use Rattle.bac_command_line.proofs.files.buffered_of.Goals as goal
 
 pub returns-in-Ok-clause-at : goal.returns-in-Ok-clause-at
 returns-in-Ok-clause-at g c =
