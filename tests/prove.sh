@@ -1,50 +1,15 @@
 #!/bin/sh
 # Proves the program `bac` and every crate below it, and builds it as crates/bac/out/bac:
 #     sh tests/prove.sh
-# Crates of tests, and libraries that the program does not use, are left out. As many crates are proved side by side as there are cores and 4 GB of free memory for
-# each; JOBS=N takes N at a time. What an earlier run proved is kept. A line for each crate says how far it is. The last line is
+# Crates of tests, and libraries that the program does not use, are left out. `rt` works on one crate of a checkout at a time, and gives it as many cores as the
+# free memory allows (all 4 take up to 12 GB). What an earlier run proved is kept. A line for each crate says how far it is. The last line is
 # `proved: crates/bac/out/bac, S seconds`. If a crate is not proved, the script prints the end of what `rt` said, and its status is 1.
 set -eu
 top=$(cd "$(dirname "$0")/.." && pwd)
-
-# The crates of the repository directly below one.
-below() {
-    for name in $(sed -n "s/^$1\( [^:]*\)\{0,1\}://p" "$top/crates.txt"); do
-        if [ -d "$top/crates/$name" ]; then echo "$name"; fi
-    done
-}
-
-# Proves one crate, once all below it are proved. The arguments behind its name are those of `rt`.
-prove() {
-    crate=$1
-    shift
-    for name in $(below "$crate"); do
-        while [ ! -e "$WORK/proved/$name" ]; do
-            if [ -e "$WORK/failed" ]; then exit 255; fi
-            sleep 1
-        done
-    done
-    begun=$(date +%s)
-    if ! (cd "$top/crates/$crate" && rt "$@") > "$WORK/$crate" 2>&1 < /dev/null; then
-        tail -n 40 "$WORK/$crate"
-        echo "$crate: not proved"
-        : > "$WORK/failed"
-        exit 255 # so that xargs begins no other crate
-    fi
-    echo "[$(($(ls "$WORK/proved" | wc -l) + 1))/$COUNT] $crate: $(($(date +%s) - begun)) seconds"
-    : > "$WORK/proved/$crate"
-}
-
-if [ "${1:-}" = --one ]; then
-    prove "$2" lib --jobs 1
-    exit 0
-fi
-
+work=$(mktemp -d)
+trap 'rm -rf "$work"' EXIT
+trap 'exit 1' HUP INT TERM
 begun_all=$(date +%s)
-rooms=$(awk '/^MemAvailable:/ { print int($2 / 4000000) }' /proc/meminfo)
-jobs=$(nproc)
-if [ "$rooms" -lt "$jobs" ]; then jobs=$rooms; fi
-if [ "$jobs" -lt 1 ]; then jobs=1; fi
 
 # The program and all below it, each crate after those below it.
 crates=$(awk '
@@ -57,19 +22,27 @@ crates=$(awk '
     }
     /^[^#]/ { split($0, sides, ":"); split(sides[1], words, " "); below[words[1]] = sides[2] }
     END { visit("bac") }' "$top/crates.txt")
-COUNT=$(echo "$crates" | wc -l)
-WORK=$(mktemp -d)
-trap 'rm -rf "$WORK"' EXIT
-trap 'exit 1' HUP INT TERM
-mkdir "$WORK/proved"
-export WORK COUNT
+count=$(echo "$crates" | wc -l)
+number=0
 
-# Nearly everything stands on these two, so each is proved with all cores.
-(prove bac_value lib) || exit 1
-(prove bac_service lib) || exit 1
-# A crate that waits for others holds a place, so one place more keeps the cores at work.
-echo "$crates" | grep -vx -e bac_value -e bac_service -e bac | xargs -P "${JOBS:-$((jobs + 1))}" -n 1 sh "$0" --one || exit 1
+# Proves a crate. The arguments behind its name are those of `rt`.
+prove() {
+    crate=$1
+    shift
+    begun=$(date +%s)
+    if ! (cd "$top/crates/$crate" && rt "$@") > "$work/out" 2> "$work/err" < /dev/null; then
+        cat "$work/out" "$work/err" | tail -n 40
+        echo "$crate: not proved"
+        exit 1
+    fi
+    number=$((number + 1))
+    echo "[$number/$count] $crate: $(($(date +%s) - begun)) seconds"
+}
+
+for crate in $crates; do
+    if [ "$crate" != bac ]; then prove "$crate" lib; fi
+done
 # shellcheck disable=SC2046 # a word a line
-(prove bac run -- $(cat "$top/crates/bac/args")) || exit 1
-cmp "$WORK/bac" "$top/crates/bac/stdout"
+prove bac run -- $(cat "$top/crates/bac/args")
+cmp "$work/out" "$top/crates/bac/stdout"
 echo "proved: crates/bac/out/bac, $(($(date +%s) - begun_all)) seconds"

@@ -1,7 +1,6 @@
 -- What is printed of cells, one after the other, and of the database that has them.
-use Rattle.std.proofs.Common.{◌≡◌, ◌∙◌, ◌+◌, ◌≤◌, ℕ, Bool, zero, suc, List, [], ◌∷◌, length, drop, Option, Some, None, Result, Ok, Err, OnOk, ap, arith, refl, subst, sym}
-use Rattle.std.proofs.Common.{slice_get}
-use Rattle.std.proofs.lemmas.List.{drop_all}
+use Rattle.std.proofs.Common.{◌≡◌, ◌-◌, ◌<◌, ◌≤◌, ℕ, Bool, List, [], ◌∷◌, drop, get_or, length, take, Option, Result, Ok, Err, OnOk, arith, refl, subst}
+use Rattle.std.proofs.lemmas.List.{take_all}
 use Rattle.std.proofs.KnownBytes.{Appends-kept, Appends-nil, Appends-trans}
 use Rattle.std.specs.Io.KnownBytes.{Keeps}
 use Rattle.sqlite_trees.specs.View.{IsClean, View, doubt}
@@ -12,31 +11,24 @@ use Rattle.bac_command_line.specs.Listing.{AreListed, IsCellText, Lines, OnListe
 use Rattle.bac_command_line.specs.declared.listing.ListForm.{ListForm}
 use Rattle.bac_command_line.proofs.Opened.{clean_before}
 
--- the cell at a place, and those after it
-drop_suc : {A : Type 0} (xs : List A) (i : ℕ) (x : A) → slice_get xs i ≡ Some x → drop i xs ≡ x ∷ drop (suc i) xs
-drop_suc [] i x e = absurd cc
-drop_suc (y ∷ xs) zero x e = ap (λ z. z ∷ xs) (let same : Some y ≡ Some x = e in cc)
-drop_suc (y ∷ xs) (suc i) x e = drop_suc xs i x e
+-- the first cell of some, and the others
+pub cell_more : (IsLine : Lines) (rest : List Cell) (c : Cell) → 1 ≤ length rest → c ≡ get_or rest 0 c → (a b d : Option (List ℕ))
+    → AppendsText a b (IsCellText IsLine c (take (length rest - 1) (drop 1 rest))) → AppendsText b d (AreListed IsLine (take (length rest - 1) (drop 1 rest)))
+    → AppendsText a d (AreListed IsLine rest)
+cell_more IsLine [] c some is a b d p q = absurd (omega (arith, some))
+cell_more IsLine (x ∷ xs) c some is a b d p q =
+    let all : take (length (x ∷ xs) - 1) xs ≡ xs = take_all (length (x ∷ xs) - 1) xs (omega arith) in
+    let first : AppendsText a b (IsCellText IsLine x xs)
+    = subst (λ (y : Cell). AppendsText a b (IsCellText IsLine y xs)) is (subst (λ (l : List Cell). AppendsText a b (IsCellText IsLine c l)) all p) in
+    let others : AppendsText b d (AreListed IsLine xs) = subst (λ (l : List Cell). AppendsText b d (AreListed IsLine l)) all q in
+    (_, (record { first = first.0; rest = others.0; told = first.1.0; others = others.1.0; is = refl }, Appends-trans a b d first.0 others.0 first.1.1 others.1.1))
 
-drop_at : {A : Type 0} (xs : List A) (i : ℕ) (x : A) → slice_get xs i ≡ Some x → drop i xs ≡ x ∷ drop (i + 1) xs
-drop_at xs i x e = drop_suc xs i x e ∙ (let next : suc i ≡ i + 1 = omega arith in ap (λ (n : ℕ). x ∷ drop n xs) next)
-
-pub cell_more : (IsLine : Lines) (cells : List Cell) (i : ℕ) (c : Cell) → slice_get cells i ≡ Some c → (a b d : Option (List ℕ))
-    → AppendsText a b (IsCellText IsLine c) → AppendsText b d (AreListed IsLine (drop (i + 1) cells)) → AppendsText a d (AreListed IsLine (drop i cells))
-cell_more IsLine cells i c at a b d p q =
-    subst (λ (l : List Cell). AppendsText a d (AreListed IsLine l)) (sym (drop_at cells i c at))
-    (_, (record { first = p.0; rest = q.0; told = p.1.0; others = q.1.0; is = refl }, Appends-trans a b d p.0 q.0 p.1.1 q.1.1))
-
-no_cell_more : (IsLine : Lines) (cells : List Cell) (i : ℕ) → length cells ≤ i → (a b : Option (List ℕ)) → Keeps a b
-    → AppendsText a b (AreListed IsLine (drop i cells))
-no_cell_more IsLine cells i h a b keeps =
-    subst (λ (l : List Cell). AppendsText a b (AreListed IsLine l)) (sym (drop_all i cells h)) ([], (refl, Appends-kept a a b [] (Appends-nil a) keeps))
-
-pub cells_listed : {T E : Type 0} (r : Result T E) (IsLine : Lines) (cells : List Cell) (i : ℕ) (a b d : Option (List ℕ)) → length cells ≤ i → Keeps b d
-    → ((end : Option (List ℕ)) → AppendsText b end (AreListed IsLine (drop i cells)) → AppendsText a end (AreListed IsLine cells))
+pub cells_listed : {T E : Type 0} (r : Result T E) (IsLine : Lines) (cells rest : List Cell) (a b d : Option (List ℕ)) → length rest < 1 → Keeps b d
+    → ((end : Option (List ℕ)) → AppendsText b end (AreListed IsLine rest) → AppendsText a end (AreListed IsLine cells))
     → OnOk r (AppendsText a d (AreListed IsLine cells))
-cells_listed (Err e) IsLine cells i a b d h keeps so_far = tt
-cells_listed (Ok t) IsLine cells i a b d h keeps so_far = so_far d (no_cell_more IsLine cells i h b d keeps)
+cells_listed (Err e) IsLine cells rest a b d few keeps so_far = tt
+cells_listed (Ok t) IsLine cells [] a b d few keeps so_far = so_far d ([], (refl, Appends-kept b b d [] (Appends-nil b) keeps))
+cells_listed (Ok t) IsLine cells (x ∷ xs) a b d few keeps so_far = absurd (omega (arith, few))
 
 pub listed_so : {D : Type 0} (IsDatabase : (path : List ℕ) → (is_new : Bool) → D → Type 0) (view : D → View) (f : ListForm) (path : List ℕ) (is_new : Bool)
     → (opened ended : D) (cells run : List Cell) (a b : Option (List ℕ)) → IsDatabase path is_new opened → doubt (view opened).is_clean ≤ doubt (view ended).is_clean

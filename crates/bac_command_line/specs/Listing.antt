@@ -1,5 +1,5 @@
 -- What `keep` prints of the cells of a database: a line for each property and each file.
-use Rattle.std.specs.Prelude.{◌≡◌, ◌⊎◌, ⊤, ℕ, suc, Bool, List, [], ◌∷◌, ◌++◌, codes, decimal, take, Option, None, Some}
+use Rattle.std.specs.Prelude.{◌≡◌, ◌⊎◌, ⊤, ℕ, suc, ◌+◌, ◌-◌, min, nat_lt, nat_le, Bool, ◌&&◌, if◌then◌else◌, List, [], ◌∷◌, ◌++◌, length, codes, decimal, take, Option, None, Some}
 use Rattle.std.specs.Io.KnownBytes.{Keeps}
 use Rattle.hex.specs.Hex.{encode_upper}
 use Rattle.sqlite_trees.specs.View.{IsClean, View}
@@ -7,6 +7,7 @@ use Rattle.bac_value.specs.Data.{IsDataFront}
 use Rattle.bac_value.specs.Value.{ObjectId}
 use Rattle.bac_value_text.specs.DataTexts.{IsDataText}
 use Rattle.bac_value_text.specs.Texts.{object_text, property_text}
+use Rattle.bac_driver.specs.Waits.{MOST}
 use Rattle.bac_keep.specs.Cells.{file_place, value_place}
 use Rattle.bac_keep.specs.Parts.{IsForNothing}
 use Rattle.bac_keep.specs.Rows.{AreCells}
@@ -54,18 +55,33 @@ pub record IsWordsLine (part : KeptPart) (line : List ℕ) : Type 0 where
 
 -- ---- what the cells begin
 
--- the values of a property, or a file, whose chunks follow
-abbrev pub Begins : Cell → KeptPart → Type 0
-Begins c (Values id property octets) = (c.place ≡ value_place id property) × (octets ≡ c.octets.items)
-Begins c (File id len) = c.place ≡ file_place id 0
+-- of how many chunks a cell says that a file has them
+abbrev pub count_in : (octets : List ℕ) → ℕ
+count_in (count ∷ []) = count
+count_in octets = 0
+
+-- the place is that of one of so many chunks of a file, whose number of chunks is at the place before them
+abbrev pub is_chunk : (before count place : ℕ) → Bool
+is_chunk before count place = nat_lt 0 (place - before) && nat_le (place - before) count
+
+-- so many octets, and those of the chunks that stand first among cells
+abbrev pub octets_with : (octets before count : ℕ) → List Cell → ℕ
+octets_with octets before count [] = octets
+octets_with octets before count (c ∷ cs) =
+    if is_chunk before count c.place then octets_with (min (octets + length c.octets.items) MOST) before count cs else octets
+
+-- the values of a property; or a file with as many octets as the chunks have that stand first among the cells behind it, of those that it counts
+abbrev pub Begins : Cell → (more : List Cell) → KeptPart → Type 0
+Begins c more (Values id property octets) = (c.place ≡ value_place id property) × (octets ≡ c.octets.items)
+Begins c more (File id len) = (c.place ≡ file_place id 0) × (len ≡ octets_with 0 c.place (count_in c.octets.items) more)
 
 -- the chunk of a file, or at a place that no write uses
 abbrev pub IsWithin : Cell → Type 0
 IsWithin c = ((id : ObjectId) × (k : ℕ) × (c.place ≡ file_place id (suc k))) ⊎ IsForNothing c.place
 
-abbrev pub IsPartOf : Cell → Option KeptPart → Type 0
-IsPartOf c None = IsWithin c
-IsPartOf c (Some part) = Begins c part
+abbrev pub IsPartOf : Cell → (more : List Cell) → Option KeptPart → Type 0
+IsPartOf c more None = IsWithin c
+IsPartOf c more (Some part) = Begins c more part
 
 -- what is printed of a part
 abbrev pub Lines : Type 1
@@ -80,22 +96,22 @@ IsOptionalLine IsLine None text = text ≡ []
 IsOptionalLine IsLine (Some part) text = IsLine part text
 
 -- a line for what begins with a cell, and nothing for what does not
-pub record IsCellText (IsLine : Lines) (c : Cell) (text : List ℕ) : Type 0 where
+pub record IsCellText (IsLine : Lines) (c : Cell) (more : List Cell) (text : List ℕ) : Type 0 where
   pub part : Option KeptPart
-  pub is_part : IsPartOf c part
+  pub is_part : IsPartOf c more part
   pub told : IsOptionalLine IsLine part text
 
 -- the text of the first cell, followed by those of the others
-pub record IsFirstText (IsLine : Lines) (c : Cell) (AreOthers : (text : List ℕ) → Type 0) (text : List ℕ) : Type 0 where
+pub record IsFirstText (IsLine : Lines) (c : Cell) (more : List Cell) (AreOthers : (text : List ℕ) → Type 0) (text : List ℕ) : Type 0 where
   pub first : List ℕ
   pub rest : List ℕ
-  pub told : IsCellText IsLine c first
+  pub told : IsCellText IsLine c more first
   pub others : AreOthers rest
   pub is : text ≡ first ++ rest
 
 abbrev pub AreListed : Lines → List Cell → (text : List ℕ) → Type 0
 AreListed IsLine [] text = text ≡ []
-AreListed IsLine (c ∷ cs) text = IsFirstText IsLine c (AreListed IsLine cs) text
+AreListed IsLine (c ∷ cs) text = IsFirstText IsLine c cs (AreListed IsLine cs) text
 
 -- ---- the database
 

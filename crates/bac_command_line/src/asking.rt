@@ -37,6 +37,11 @@ impl Rounds {
         }
     }
 
+    /// Whether a round follows that one, by its number.
+    fn go_on_after(&self, number: u64) -> bool {
+        number < self.most()
+    }
+
     /// When the next round may begin, after one that might begin from a moment on and began at another: rounds do not drift, but after one that began a
     /// whole interval late, or later, the next begins an interval after it.
     pub(crate) fn next_from(&self, from: u64, began: u64) -> u64
@@ -92,6 +97,22 @@ impl Asking {
             host,
             has_names,
             ..self
+        }
+    }
+
+    /// When the round behind that one, by its number, is due, which might begin from a moment on and began at another; None where none follows, or it is late.
+    pub(crate) fn due_after(
+        &self,
+        number: u64,
+        from: u64,
+        began: u64,
+        is_late: bool,
+    ) -> Option<u64> {
+        match self.rounds {
+            Some(rounds) if !is_late && rounds.go_on_after(number) => {
+                Some(rounds.next_from(from, began))
+            }
+            _ => None,
         }
     }
 

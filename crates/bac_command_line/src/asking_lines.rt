@@ -157,11 +157,8 @@ fn ask_line<M: Machine, O: Write, E: Write>(
             return Err(status);
         }
     };
-    let printer = Printer {
-        alloc: client.station.alloc,
-        asking,
-        stamp: client.stamp(),
-    };
+    client.tell_overdue(!others.is_empty(), err);
+    let printer = client.printer(asking);
     let asker = line.asker(asking.has_names);
     print_ask(&printer, asker, &line.question, &end, out, err)
 }

@@ -8,11 +8,12 @@ ghost use Rattle.bac_command_line.specs.Online.{IsClient, OnClock, OnPort};
 use crate::asking::Asking;
 use crate::client_pair::ClientPair;
 use crate::online::Machine;
+use crate::pace::print_overdue;
 use crate::past_ports::PastPorts;
 use crate::reasons::print_no_link;
 use crate::recording::{Printer, Stamp};
 use crate::station::Station;
-use bac_commands::{bound_client, clock_fault, link_fault};
+use bac_commands::{bound_client, clock_unread, link_fault};
 use bac_driver::BoundNode;
 use bac_npdu::LinkAddress;
 use bac_text::{Status, no_memory};
@@ -51,7 +52,7 @@ impl NoLink {
         ensures { IsFailure result }
     {
         match self {
-            NoLink::NoClock => clock_fault(err),
+            NoLink::NoClock => clock_unread(err),
             NoLink::NotBound(Some(unbound)) => {
                 print_no_link(unbound.host, unbound.port, &unbound.error, err)
             }
@@ -145,6 +146,8 @@ pub(crate) struct Client<'m, M: Machine> {
     pub is_stranded: bool,
     /// How many rounds have begun.
     pub rounds: u64,
+    /// When the next round is due; None where none follows, or it is said already that the pace is not kept.
+    pub due: Option<u64>,
 }
 
 impl<'m, M: Machine> Client<'m, M> {
@@ -166,7 +169,7 @@ impl<'m, M: Machine> Client<'m, M> {
             Err(none) => return Err(none.report(err)),
         };
         let Some(clock) = machine.timer() else {
-            return Err(clock_fault(err));
+            return Err(clock_unread(err));
         };
         let first_id = bound.pair.first_id;
         let Ok(bound_node) = bound_client(alloc, bound.link, bound.address, first_id) else {
@@ -183,29 +186,36 @@ impl<'m, M: Machine> Client<'m, M> {
             past,
             is_stranded: false,
             rounds: 0,
+            due: None,
         })
     }
 
-    /// How the ends of asks are printed now.
-    pub(crate) fn printer<'a>(&self, asking: &'a Asking) -> Printer<'a> {
-        Printer {
-            alloc: self.station.alloc,
-            asking,
-            stamp: self.stamp(),
+    /// Where a round goes on, and the next one is late already, `err` says so, once.
+    pub(crate) fn tell_overdue<E: Write>(&mut self, goes_on: bool, err: &mut E)
+        ensures same { self.new.station ≡ self.old.station }
+    {
+        let Some(due) = self.due else {
+            return;
+        };
+        let latest = self.station.bound_node.node().latest();
+        if goes_on && latest > due {
+            print_overdue(self.rounds, latest.saturating_sub(due), err);
+            self.due = None;
         }
     }
 
-    /// The time of day, in milliseconds since 1970 began in UTC; None where it cannot be read.
-    pub(crate) fn time_of_day(&self) -> Option<u64> {
-        self.machine.time_of_day()
+    /// How the ends of asks are printed now.
+    pub(crate) fn printer<'a>(&self, asking: &'a Asking) -> Printer<'a>
+        ensures { result.asking.now ≡ asking.now }
+    {
+        Printer {
+            alloc: self.station.alloc,
+            asking,
+            stamp: self.stamp_at(self.time_of_day()),
+        }
     }
 
-    /// What the ends of asks are stamped with now.
-    pub(crate) fn stamp(&self) -> Stamp {
-        self.stamp_at(self.time_of_day())
-    }
-
-    /// What the ends of asks are stamped with at a time of day.
+    /// What the end of an ask is stamped with that came at a time of day.
     pub(crate) fn stamp_at(&self, time: Option<u64>) -> Stamp {
         let round = if self.rounds == 0 {
             None
@@ -213,6 +223,11 @@ impl<'m, M: Machine> Client<'m, M> {
             Some(self.rounds)
         };
         Stamp { time, round }
+    }
+
+    /// The time of day, in milliseconds since 1970 began in UTC; None where it cannot be read.
+    pub(crate) fn time_of_day(&self) -> Option<u64> {
+        self.machine.time_of_day()
     }
 
     /// The next node, on a link of its own at another port, asks in the place of the one before. Answers that one. Where there is none, `err` and the status say

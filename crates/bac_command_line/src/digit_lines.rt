@@ -70,28 +70,28 @@ impl DigitLines {
         }
     }
 
-    /// Tells the line that is no hexadecimal, if there is one, and its first character that does not fit.
-    pub(crate) fn print_bad<E: Write>(&self, err: &mut E) {
+    /// Tells the line that is no hexadecimal, if there is one, and its first character that does not fit, with a hint behind it.
+    pub(crate) fn print_bad<E: Write>(&self, hint: &str, err: &mut E) {
         if self.is_bad {
             // if that fails too, only the status is left
-            let _ = print_bad_line(self.number, &self.line, err);
+            let _ = print_bad_line(self.number, &self.line, hint, err);
         }
     }
 }
 
-fn print_bad_line<E: Write>(number: u64, line: &[u8], err: &mut E) -> io::Result<()> {
+fn print_bad_line<E: Write>(number: u64, line: &[u8], hint: &str, err: &mut E) -> io::Result<()> {
     if line.len() > LINE_LIMIT {
         return writeln!(err, "line {number}: more than {LINE_LIMIT} octets");
     }
     let text = read_of(true, line).unwrap_or(line);
     let Ok(text) = str::from_utf8(text) else {
-        return writeln!(err, "line {number}: no text of UTF-8");
+        return writeln!(err, "line {number}: not UTF-8");
     };
     match no_digit(text, Digits::Grouped) {
         Some((column, character)) => {
             writeln!(
                 err,
-                "line {number}, column {column}: '{character}' does not fit"
+                "line {number}, column {column}: '{character}' does not fit{hint}"
             )
         }
         None => {

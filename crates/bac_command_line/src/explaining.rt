@@ -3,7 +3,6 @@ ghost use Rattle.bac_command_line.specs.Explaining.{IsJsonFile, IsPageFile};
 ghost use Rattle.bac_command_line.specs.Files.{OnFile};
 
 use crate::files::{CAPTURES_TAKEN, CaptureFile, OpenFiles, reader_of};
-use crate::reasons::print_unfit;
 use bac_capture::Ports;
 use bac_explain_html::explain_html_over;
 use bac_explain_json::explain_json_over;
@@ -27,13 +26,7 @@ pub(crate) fn explain_json<F: OpenFiles, O: Write, E: Write>(
         Ok(mut input) => {
             let ports = Ports { also: capture.port };
             let status = explain_json_over(alloc, options, &mut input, ports, out, err);
-            print_unfit(
-                status,
-                capture.path,
-                input.get_ref(),
-                Some(CAPTURES_TAKEN),
-                err,
-            );
+            capture.tell_unfit(status, &input, CAPTURES_TAKEN, err);
             status
         }
         Err(status) => status,
@@ -55,13 +48,7 @@ pub(crate) fn explain_html<F: OpenFiles, O: Write, E: Write>(
         Ok(mut input) => {
             let ports = Ports { also: capture.port };
             let status = explain_html_over(alloc, options, &mut input, ports, out, err);
-            print_unfit(
-                status,
-                capture.path,
-                input.get_ref(),
-                Some(CAPTURES_TAKEN),
-                err,
-            );
+            capture.tell_unfit(status, &input, CAPTURES_TAKEN, err);
             status
         }
         Err(status) => status,

@@ -22,7 +22,7 @@ pub(crate) enum FileNews<'a> {
     Longer(usize, usize),
     /// So many octets were put, and the peer has so many others.
     Differs(usize, usize),
-    /// The file of that name in the folder has not the octets of the manifest.
+    /// The file of that name in the folder does not have the octets of the manifest.
     Damaged(&'a str),
     /// So many octets were read, and not all, for that reason.
     NotRead(usize, &'a [u8]),
@@ -42,7 +42,7 @@ fn write_news<O: Write>(news: &FileNews<'_>, out: &mut O) -> io::Result<()> {
         FileNews::Differs(count, there) => {
             write!(out, "differs: {count} octets put, {there} there")
         }
-        FileNews::Damaged(name) => write!(out, "{name} has not the octets of the manifest"),
+        FileNews::Damaged(name) => write!(out, "{name} does not have the octets of the manifest"),
         FileNews::NotRead(count, _) => {
             write!(out, "not read to its end, after {count} octets: ")
         }

@@ -136,6 +136,19 @@ pub(crate) struct CaptureFile<'a> {
     pub port: Option<u16>,
 }
 
+impl CaptureFile<'_> {
+    /// Where the status of a command says that it could not read the capture, tells which file, and why: the system's reason, or else what the command takes.
+    pub(crate) fn tell_unfit<R: Read, E: Write>(
+        &self,
+        status: Status,
+        input: &BufReader<Watched<R>>,
+        taken: &str,
+        err: &mut E,
+    ) {
+        print_unfit(status, self.path, input.get_ref(), Some(taken), err);
+    }
+}
+
 /// The file of a script.
 #[derive(Clone, Copy)]
 pub(crate) struct ScriptFile<'a> {
@@ -230,13 +243,7 @@ pub(crate) fn explain<F: OpenFiles, O: Write, E: Write>(
         Ok(mut input) => {
             let ports = Ports { also: capture.port };
             let status = explain_over(alloc, options, &mut input, ports, out, err);
-            print_unfit(
-                status,
-                capture.path,
-                input.get_ref(),
-                Some(CAPTURES_TAKEN),
-                err,
-            );
+            capture.tell_unfit(status, &input, CAPTURES_TAKEN, err);
             status
         }
         Err(status) => status,
@@ -258,13 +265,7 @@ pub(crate) fn chart<F: OpenFiles, O: Write, E: Write>(
         Ok(mut input) => {
             let ports = Ports { also: capture.port };
             let status = chart_over(alloc, options, &mut input, ports, out, err);
-            print_unfit(
-                status,
-                capture.path,
-                input.get_ref(),
-                Some(CHARTS_TAKEN),
-                err,
-            );
+            capture.tell_unfit(status, &input, CHARTS_TAKEN, err);
             status
         }
         Err(status) => status,

@@ -28,7 +28,7 @@ fn decode_lines<F: OpenFiles, O: Write, E: Write>(
         Ok(mut input) => {
             let status = decode_json_lines_over(alloc, &mut input, out, err);
             print_unfit(status, path, input.get_ref(), None, err);
-            print_bad_digits(status, input.get_ref(), err);
+            print_bad_digits(status, input.get_ref(), "", err);
             status
         }
         Err(status) => status,

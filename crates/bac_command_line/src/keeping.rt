@@ -16,7 +16,7 @@ use crate::objects::document_of;
 use crate::online::Machine;
 use crate::part_words::print_about;
 use crate::serving::{Serving, Start, epoch_of, print_listening, print_not_bound, serve_kept_from};
-use bac_commands::{KeptServer, bound_server, clock_fault};
+use bac_commands::{KeptServer, bound_server, clock_unread};
 use bac_driver::{Clock, Round};
 use bac_keep::{CellKeeper, KeepFault, Keeper, Part};
 use bac_keep_file::OpenFault;
@@ -182,7 +182,7 @@ fn serve_round<M: Machine, K: Keeper, O: Write, E: Write>(
         Err(error) => return print_not_bound(serving, &error, err),
     };
     let Some(mut timer) = machine.timer() else {
-        return clock_fault(err);
+        return clock_unread(err);
     };
     let start = timer.now();
     let objects = store.object_count();

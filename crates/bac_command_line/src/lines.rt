@@ -12,6 +12,9 @@ use std::io::Write;
 /// What stands for standard input in the place of a datagram.
 pub(crate) const STANDARD_INPUT: &str = "-";
 
+/// What follows a line that is no hexadecimal, where `decode` takes other forms too.
+const OTHER_FORMS: &str = "; --form reads hex dumps and other forms";
+
 /// The layers of the datagrams in a file, one on each line, in words or not. A file that cannot be opened or read on: `cannot read` on `err`, and why. Lines that are
 /// no hexadecimal: the first of them on `err`, and why.
 fn decode_lines<F: OpenFiles, O: Write, E: Write>(
@@ -28,7 +31,7 @@ fn decode_lines<F: OpenFiles, O: Write, E: Write>(
         Ok(mut input) => {
             let status = decode_lines_over(alloc, in_words, &mut input, out, err);
             print_unfit(status, path, input.get_ref(), None, err);
-            print_bad_digits(status, input.get_ref(), err);
+            print_bad_digits(status, input.get_ref(), OTHER_FORMS, err);
             status
         }
         Err(status) => status,

@@ -1,12 +1,13 @@
 //! `keep`: what the file of a server keeps.
-ghost use Rattle.std.specs.Prelude.{◌≡◌, ◌++◌, codes, decimal, None, Some, IfOk, OnOk};
+ghost use Rattle.std.specs.Prelude.{◌≡◌, ◌++◌, ◌+◌, codes, decimal, length, min, None, Some, IfOk, OnOk};
 ghost use Rattle.std.specs.Option.{option_map};
 ghost use Rattle.bac_value.specs.Views.{object_identifier_view};
+ghost use Rattle.bac_driver.specs.Waits.{MOST};
 ghost use Rattle.bac_keep_json.specs.Cells.{part_view};
 ghost use Rattle.bac_text.specs.Texts.{AppendsText};
 ghost use Rattle.bac_command_line.specs.Keeping.{IsListed};
 ghost use Rattle.bac_command_line.specs.Listing.{AreListed, AreValues, IsCellText, IsKeptWords, IsPartOf, IsValuesWords, IsWordsLine, Lists, OnListed};
-ghost use Rattle.bac_command_line.specs.Listing.{line_in, part_words as words_of};
+ghost use Rattle.bac_command_line.specs.Listing.{count_in, is_chunk, line_in, octets_with, part_words as words_of};
 
 use crate::environment::Environment;
 use crate::files::{OpenFiles, opened};
@@ -22,18 +23,45 @@ use std::alloc::Global;
 use std::io;
 use std::io::{ErrorKind, Write};
 
-/// How many octets the chunks of a file have that stand first, at most so many chunks.
-fn octets_in(cells: &[Cell], object: ObjectIdentifier, count: u8) -> u64 {
-    let mut octets = 0u64;
-    for cell in cells {
-        match cell.part() {
-            Some(Part::Chunk { object: of, at }) if of == object && at < count => {
-                octets = octets.saturating_add(cell.octets.len() as u64);
-            }
-            _ => return octets,
+/// Whether a place is that of one of so many chunks of a file, whose number of chunks is at the place before them.
+fn is_chunk(before: u64, count: u8, place: u64) -> bool
+    ensures { result ≡ is_chunk before count place }
+{
+    let number = place.saturating_sub(before);
+    number > 0 && number <= u64::from(count)
+}
+
+/// How many octets the chunks of a file have that stand first among cells: of at most so many chunks, whose number is at the place before them.
+fn octets_in(cells: &[Cell], before: u64, count: u8) -> u64
+    ensures { result ≡ octets_with 0 before count cells.now }
+{
+    let mut octets = 0;
+    let mut rest = cells;
+    while let [cell, more @ ..] = rest {
+        if !is_chunk(before, count, cell.place) {
+            return octets;
         }
+        octets = with_octets(octets, cell);
+        rest = more;
     }
     octets
+}
+
+/// So many octets, and those of a cell.
+fn with_octets(octets: u64, cell: &Cell) -> u64
+    ensures { result ≡ min (octets + length cell.now.octets.items) MOST }
+{
+    octets.saturating_add(cell.octets.len() as u64)
+}
+
+/// How many chunks a cell says that a file has.
+fn count_in(octets: &[u8]) -> u8
+    ensures { result ≡ count_in octets.now }
+{
+    match octets {
+        [count] => *count,
+        _ => 0,
+    }
 }
 
 /// Values by their kinds; in hexadecimal where they are no values.
@@ -88,7 +116,7 @@ pub(crate) fn kept_words(alloc: Global, part: KeptPart<'_>) -> Result<Vec<u8>, N
 
 /// What a cell begins: the values of a property, or a file, whose chunks come first of the cells behind it; None of a chunk.
 fn part_at<'a>(cell: &'a Cell, more: &[Cell]) -> Option<KeptPart<'a>>
-    ensures { IsPartOf cell.now (option_map part_view result) }
+    ensures { IsPartOf cell.now more.now (option_map part_view result) }
 {
     match cell.part()? {
         Part::Values { object, property } => Some(KeptPart::Values {
@@ -97,11 +125,8 @@ fn part_at<'a>(cell: &'a Cell, more: &[Cell]) -> Option<KeptPart<'a>>
             octets: &cell.octets,
         }),
         Part::Count { object } => {
-            let count = match cell.octets.as_slice() {
-                [count] => *count,
-                _ => 0,
-            };
-            let length = octets_in(more, object, count);
+            let count = count_in(&cell.octets);
+            let length = octets_in(more, cell.place, count);
             Some(KeptPart::File { object, length })
         }
         Part::Chunk { .. } => None,
@@ -157,7 +182,7 @@ fn print_cell<O: Write>(
     more: &[Cell],
     out: &mut O,
 ) -> io::Result<()>
-    ensures { OnOk result (AppendsText (O.contents out.old) (O.contents out.new) (IsCellText (line_in form) cell.now)) }
+    ensures { OnOk result (AppendsText (O.contents out.old) (O.contents out.new) (IsCellText (line_in form) cell.now more.now)) }
 {
     match part_at(cell, more) {
         Some(part) => print_part(alloc, form, part, out),
@@ -174,8 +199,10 @@ pub(crate) fn print_cells<O: Write>(
 ) -> io::Result<()>
     ensures { OnOk result (AppendsText (O.contents out.old) (O.contents out.new) (AreListed (line_in form) cells.now)) }
 {
-    for at in 0..cells.len() {
-        print_cell(alloc, form, &cells[at], &cells[at + 1..], out)?;
+    let mut rest = cells;
+    while let [cell, more @ ..] = rest {
+        print_cell(alloc, form, cell, more, out)?;
+        rest = more;
     }
     out.flush()
 }

@@ -20,7 +20,7 @@ use crate::objects::{document_of, octets_of, store_in};
 use crate::online::Machine;
 use crate::serving::{Serving, Start, epoch_of, print_listening, print_not_bound};
 use crate::station::Station;
-use bac_commands::{LevelLog, LogFormat, bound_server, clock_fault, print_served, serve_stretch};
+use bac_commands::{LevelLog, LogFormat, bound_server, clock_unread, print_served, serve_stretch};
 use bac_driver::{Clock, RunLimit, WaitLimit};
 use bac_node::NewNodeFault;
 use bac_store::Store;
@@ -177,7 +177,7 @@ fn station_of<F: OpenFiles, M: Machine, E: Write>(
         Err(error) => return Err(print_not_bound(serving, &error, err)),
     };
     let Some(mut clock) = environment.machine.timer() else {
-        return Err(clock_fault(err));
+        return Err(clock_unread(err));
     };
     let start = clock.now();
     let objects = store.object_count();

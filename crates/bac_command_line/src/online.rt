@@ -15,7 +15,7 @@ use crate::reasons::print_no_link;
 use crate::rounds::{Asked, ask_by_client};
 use crate::serving::{Serving, Start, epoch_of, print_listening, print_not_bound, serve_from};
 use crate::station::Station;
-use bac_commands::{Style, bound_house, bound_server, clock_fault, read_question};
+use bac_commands::{Style, bound_house, bound_server, clock_unread, read_question};
 use bac_driver::{Clock, Link, Question};
 use bac_keep_file::OpenFault;
 use bac_lists::{LOCAL_HOST, print_bad_words};
@@ -99,7 +99,7 @@ pub(crate) fn serve<M: Machine, O: Write, E: Write>(
         Err(error) => return print_not_bound(serving, &error, err),
     };
     let Some(mut timer) = machine.timer() else {
-        return clock_fault(err);
+        return clock_unread(err);
     };
     let address = bound.1;
     let start = timer.now();
@@ -215,7 +215,7 @@ pub(crate) fn pair<M: Machine, O: Write, E: Write>(
         Err(error) => return print_no_link(LOCAL_HOST, 0, &error, err),
     };
     let Some(mut timer) = machine.timer() else {
-        return clock_fault(err);
+        return clock_unread(err);
     };
     let address = bound.1;
     let Ok(mut bound_node) = bound_house(alloc, bound.0, address, 0) else {

@@ -75,13 +75,18 @@ pub(crate) fn print_unfit<R, E: Write>(
     }
 }
 
-/// Where the status of a command says that some datagram has a fault, tells of lines that were to be hexadecimal the first that is none, and why.
-pub(crate) fn print_bad_digits<R, E: Write>(status: Status, file: &Watched<R>, err: &mut E) {
+/// Where the status of a command says that some datagram has a fault, tells of lines that were to be hexadecimal the first that is none, and why, with a hint.
+pub(crate) fn print_bad_digits<R, E: Write>(
+    status: Status,
+    file: &Watched<R>,
+    hint: &str,
+    err: &mut E,
+) {
     if status != Status::Faulty {
         return;
     }
     if let Some(lines) = &file.lines {
-        lines.print_bad(err);
+        lines.print_bad(hint, err);
     }
 }
 

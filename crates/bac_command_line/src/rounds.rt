@@ -14,7 +14,7 @@ use crate::asking::{Asking, Rounds};
 use crate::asking_lines::{ask_each, ask_on, both};
 use crate::client::Client;
 use crate::online::Machine;
-use crate::pace::{is_behind, print_late};
+use crate::pace::tell_late;
 use crate::peer_file::part_in;
 use crate::recording::{Printer, print_ask, print_header, print_unasked_record};
 use crate::station::Station;
@@ -134,11 +134,7 @@ fn ask_one<M: Machine, O: Write, E: Write>(
             return Err(status);
         }
     };
-    let printer = Printer {
-        alloc: client.station.alloc,
-        asking,
-        stamp: client.stamp(),
-    };
+    let printer = client.printer(asking);
     let succeeded = print_ask(&printer, NO_LINE, question, &end, out, err)?;
     tell_going_on(&printer, question, &end, err);
     Ok(succeeded)
@@ -199,7 +195,8 @@ struct RoundEnd {
     succeeded: bool,
 }
 
-/// Once a moment has come, a round begins, in which a node asks all that. Where the round before took longer than that, `err` says how late this one is.
+/// Once a moment has come, a round begins, in which a node asks all that. Where the round before took longer than that, `err` says how late this one is. Where
+/// this one begins in time, and the next one is due before it has ended, `err` says so at once.
 fn ask_round<M: Machine, O: Write, E: Write>(
     asking: &Asking,
     client: &mut Client<'_, M>,
@@ -220,9 +217,8 @@ fn ask_round<M: Machine, O: Write, E: Write>(
     let has_rested = client.station.bound_node.node().latest() > ended;
     let began = client.station.clock.now();
     let late = began.saturating_sub(from);
-    if client.rounds > 1 && is_behind(late, has_rested) {
-        print_late(client.rounds, late, err);
-    }
+    let is_late = tell_late(client.rounds, late, has_rested, err);
+    client.due = asking.due_after(client.rounds, from, began, is_late);
     let succeeded = ask_all(asking, client, asked, out, err)?;
     Ok(RoundEnd { began, succeeded })
 }

@@ -225,7 +225,7 @@ pub(crate) fn task_of<'m, 'a>(
             let script = ScriptFile {
                 path,
                 notes,
-                reasons: is_terminal,
+                reasons: is_terminal || notes,
             };
             match view_of(given) {
                 Some(view) => Some(Task::Show { view, script }),

@@ -19,7 +19,7 @@ use crate::peers::share_of;
 use crate::recording::Printer;
 use crate::rota::{IN_A_ROW, Rota};
 use crate::station::Station;
-use bac_commands::{CommandError, clock_fault, link_fault};
+use bac_commands::{CommandError, clock_back, link_fault};
 use bac_driver::{AskEnd, Clock, Link, Question, Turn, TurnFault, WaitLimit};
 use bac_lists::LineQuestion;
 use bac_npdu::LinkAddress;
@@ -67,7 +67,7 @@ fn begin<L: Link, C: Clock, E: Write>(
     let wait_limit = asking.wait_limit(station.clock.now());
     match station.bound_node.begin_by(&mut station.clock, question) {
         Ok(ticket) => Ok(Begun::Accepted { ticket, wait_limit }),
-        Err(AskFault::ClockBack) => Err(clock_fault(err)),
+        Err(AskFault::ClockBack) => Err(clock_back(err)),
         Err(fault) => Ok(Begun::Refused(fault)),
     }
 }
@@ -321,7 +321,7 @@ fn visit<M: Machine, E: Write>(
 }
 
 /// The node that asks goes on, and then one of those that leave, where it is the turn of one.
-fn go_on<M: Machine, E: Write>(
+fn take_turns<M: Machine, E: Write>(
     client: &mut Client<'_, M>,
     traffic: &mut Traffic<M::Link>,
     err: &mut E,
@@ -337,6 +337,22 @@ fn go_on<M: Machine, E: Write>(
         Some(at) => visit(client, traffic, at, err),
         None => Ok(()),
     }
+}
+
+/// Nodes go on. Where the next round is due while asks are under way, `err` says so.
+fn go_on<M: Machine, E: Write>(
+    client: &mut Client<'_, M>,
+    traffic: &mut Traffic<M::Link>,
+    err: &mut E,
+) -> Result<(), Status>
+    ensures went { IfOk result (λ _. NodesGo (OnPort M.is_bound M.Link.failures M.Link.calls)
+        (aloft (timed client.old.station.bound_node (M.Timer.told client.old.station.clock)) traffic.old.fleet (sky traffic.old.flights))
+        (aloft (timed client.new.station.bound_node (M.Timer.told client.new.station.clock)) traffic.new.fleet (sky traffic.new.flights))) }
+    ensures failed { IfErr result IsFailure }
+{
+    take_turns(client, traffic, err)?;
+    client.tell_overdue(!traffic.flights.is_empty(), err);
+    Ok(())
 }
 
 /// A client asks until the ask of the line at that place among all has ended. Answers how it did.

@@ -34,7 +34,7 @@ pub use log_level::{LevelLog, LogLevel, OctetStyle};
 pub use log_settings::{LogFormat, LogSettings};
 pub use online::{
     AskCommand, CommandError, KeptServer, OutputFormat, Style, TURNS, ask, ask_unprinted,
-    bound_client, bound_house, bound_server, clock_fault, is_spent, link_fault, pair,
+    bound_client, bound_house, bound_server, clock_back, clock_unread, is_spent, link_fault, pair,
     print_ask_end, read_question, serve, serve_kept,
 };
 pub use serving::{Logged, ServeCommand, serve_kept_logged, serve_logged};

@@ -15,7 +15,7 @@ mod success;
 pub use ask_end::print_ask_end;
 pub use asking::{AskCommand, TURNS, ask, ask_unprinted, is_spent};
 pub use bound_node::{bound_client, bound_house, bound_server};
-pub use command_error::{CommandError, clock_fault, link_fault};
+pub use command_error::{CommandError, clock_back, clock_unread, link_fault};
 pub use keeping::{KeptServer, serve_kept};
 pub use output_format::{OutputFormat, Style};
 pub use pairing::pair;

@@ -2,9 +2,9 @@
 ghost use Rattle.bac_text.specs.Statuses.{IsStop};
 
 use crate::address::{read_end, read_link};
-use crate::near_names::name_like;
+use crate::near_names::{add_meant, name_like};
 use crate::source::{LinePlace, Source};
-use crate::value_forms::wanted_form;
+use crate::value_forms::add_value_advice;
 use bac_commands::Style;
 use bac_service_text::{BadWord, Wanted, bad_word};
 use bac_text::{Status, no_memory};
@@ -35,11 +35,10 @@ fn add_name_like(
     word: &[u8],
     reason: &mut Vec<u8>,
 ) -> Result<(), AllocError> {
-    if let Some(name) = name_like(alloc, wanted, word)? {
-        reason.extend_from_slice(b", did you mean ")?;
-        reason.extend_from_slice(name.as_bytes())?;
+    match name_like(alloc, wanted, word)? {
+        Some(name) => add_meant(name, reason),
+        None => Ok(()),
     }
-    Ok(())
 }
 
 /// What to write in place of a word that was wanted to be something: of a value the form of its kind, of an object or a property the name that is like it; of
@@ -51,10 +50,7 @@ fn add_advice(
     reason: &mut Vec<u8>,
 ) -> Result<(), AllocError> {
     match wanted {
-        Wanted::Value => {
-            reason.extend_from_slice(b": ")?;
-            reason.extend_from_slice(wanted_form(word).as_bytes())
-        }
+        Wanted::Value => add_value_advice(alloc, word, reason),
         Wanted::Data => reason.extend_from_slice(
             b": whole values in hexadecimal wanted, or each by its kind, as real:72.5",
         ),

@@ -1,4 +1,4 @@
-//! The standard's name of an object type or a property that is most like a misspelled one.
+//! The name of an object type, a property or a kind of values that is most like a misspelled one.
 use bac_service_text::Wanted;
 use bac_value_text::{object_type_name, property_name};
 use std::alloc::{AllocError, Global};
@@ -20,11 +20,35 @@ struct Near {
     edits: usize,
 }
 
-/// The name of that number, where an object or a property was wanted.
+/// The name of a kind of values, by its place among all.
+fn kind_name(place: u32) -> Option<&'static str> {
+    match place {
+        0 => Some("null"),
+        1 => Some("boolean"),
+        2 => Some("unsigned"),
+        3 => Some("signed"),
+        4 => Some("enumerated"),
+        5 => Some("real"),
+        6 => Some("double"),
+        7 => Some("text"),
+        8 => Some("characters"),
+        9 => Some("octets"),
+        10 => Some("bits"),
+        11 => Some("date"),
+        12 => Some("time"),
+        13 => Some("object"),
+        14 => Some("real-octets"),
+        15 => Some("double-octets"),
+        _ => None,
+    }
+}
+
+/// The name of that number, where an object, a property or a value was wanted.
 fn name_of(wanted: Wanted, number: u32) -> Option<&'static str> {
     match wanted {
         Wanted::Object => object_type_name(number),
         Wanted::Property => property_name(number),
+        Wanted::Value => kind_name(number),
         _ => None,
     }
 }
@@ -60,7 +84,7 @@ fn nearer(
     }
 }
 
-/// The name that is most like that of a word, where that is misspelled and one is like it. An Err is out of memory.
+/// The name that is most like that of a word, where that is misspelled and one is like it; capitals count as small letters. An Err is out of memory.
 pub(crate) fn name_like(
     alloc: Global,
     wanted: Wanted,
@@ -69,14 +93,21 @@ pub(crate) fn name_like(
     let Some(text) = name_in(word) else {
         return Ok(None);
     };
+    let small = text.to_ascii_lowercase(alloc)?;
     let mut near = None;
     for number in 0..=MOST_NUMBER {
         if let Some(name) = name_of(wanted, number) {
-            near = nearer(alloc, text, near, name)?;
+            near = nearer(alloc, &small, near, name)?;
         }
     }
     match near {
-        Some(near) if near.edits > 0 => Ok(Some(near.name)),
+        Some(near) if near.name != text => Ok(Some(near.name)),
         _ => Ok(None),
     }
+}
+
+/// Adds the name that is meant.
+pub(crate) fn add_meant(name: &str, reason: &mut Vec<u8>) -> Result<(), AllocError> {
+    reason.extend_from_slice(b", did you mean ")?;
+    reason.extend_from_slice(name.as_bytes())
 }

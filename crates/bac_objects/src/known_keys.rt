@@ -75,11 +75,30 @@ pub(crate) fn nearest(
     Ok(best)
 }
 
-/// The known key of the table of a value that is most like a key: a word for a kind, or another key.
+/// The word for a kind of values that goes by another name elsewhere.
+fn usual_form(key: &str) -> Option<&'static str> {
+    match key {
+        "bool" => Some("boolean"),
+        "uint" => Some("unsigned"),
+        "int" | "integer" => Some("signed"),
+        "enum" => Some("enumerated"),
+        "float" => Some("real"),
+        "string" | "character-string" => Some("text"),
+        "octet-string" => Some("octets"),
+        "bit-string" => Some("bits"),
+        "object-identifier" => Some("object"),
+        _ => None,
+    }
+}
+
+/// The known key of the table of a value that is most like a key, or that goes by this name elsewhere: a word for a kind, or another key.
 pub(crate) fn nearest_of_value(
     alloc: Global,
     key: &str,
 ) -> Result<Option<&'static str>, AllocError> {
+    if let Some(word) = usual_form(key) {
+        return Ok(Some(word));
+    }
     if let Some(near) = nearest(alloc, key, VALUE_KEYS)? {
         return Ok(Some(near));
     }

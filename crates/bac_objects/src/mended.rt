@@ -16,6 +16,15 @@ const HEAD: &str = "[[object]]";
 /// The same, one bracket short.
 const SINGLE: &str = "[object]";
 
+/// How that begins.
+const OPEN: &str = "[object";
+
+/// How the head of a table in an object begins.
+const MEMBER: &str = "[object.";
+
+/// What is said of a key or a table that stands there already.
+const DUPLICATE: &str = "duplicate key";
+
 /// How many lines that are no TOML are told.
 const MOST_UNREAD: usize = 16;
 
@@ -83,37 +92,43 @@ fn with_head(alloc: Global, text: &str, place: &Range<usize>) -> Result<Vec<u8>,
     Ok(mended)
 }
 
-/// The finding of the head of an object at a place that is one bracket short.
-fn single_at(alloc: Global, text: &str, place: &Range<usize>) -> Finding {
+/// The finding of what is wrong at a place.
+fn finding_at(alloc: Global, text: &str, start: usize, wrong: Wrong) -> Finding {
     Finding {
-        line: Some(line_behind(text.as_bytes(), place.start)),
-        place: Place {
-            object: 0,
-            id: None,
-            key: String::new(alloc),
-        },
-        wrong: Wrong::SingleObject,
-    }
-}
-
-/// The finding of a line that is no TOML.
-fn finding_of(alloc: Global, text: &str, start: usize, error: Error) -> Result<Finding, NoMemory> {
-    let there = words_at(alloc, text, start)?;
-    Ok(Finding {
         line: Some(line_behind(text.as_bytes(), start)),
         place: Place {
             object: 0,
             id: None,
             key: String::new(alloc),
         },
-        wrong: Wrong::NoToml { error, there },
-    })
+        wrong,
+    }
 }
 
-/// What stands for lines that cannot be read, or, as they say, again: what their beginning means. `[object]` is one bracket short. None where nothing behind them
-/// can be told.
+/// Whether the fault at a place is that of the head of a further object that is one bracket short.
+fn is_single_again(text: &str, start: usize, error: &Error) -> bool {
+    let lines = text.get(start..).unwrap_or("");
+    error.message() == DUPLICATE && lines.starts_with(SINGLE)
+}
+
+/// The finding of a line that is no TOML.
+fn finding_of(alloc: Global, text: &str, start: usize, error: Error) -> Result<Finding, NoMemory> {
+    if is_single_again(text, start, &error) {
+        return Ok(finding_at(alloc, text, start, Wrong::SingleObject));
+    }
+    let there = words_at(alloc, text, start)?;
+    let wrong = Wrong::NoToml { error, there };
+    Ok(finding_at(alloc, text, start, wrong))
+}
+
+/// Whether lines begin as the head of an object does, with one bracket or two: its end may be missing.
+fn begin_object(lines: &str) -> bool {
+    lines.starts_with("[[") || (lines.starts_with(OPEN) && !lines.starts_with(MEMBER))
+}
+
+/// What stands for lines that cannot be read, or, as they say, again: what their beginning means. None where nothing behind them can be told.
 fn meant_by(lines: &str, is_again: bool) -> Option<&'static str> {
-    if lines.starts_with("[[") || lines.starts_with(SINGLE) {
+    if begin_object(lines) {
         Some(HEAD)
     } else if lines.starts_with("[") {
         None
@@ -194,7 +209,7 @@ pub(crate) fn read_mended(
         if let Some(place) = single
             && round < MOST_UNREAD
         {
-            let finding = single_at(alloc, text, &place);
+            let finding = finding_at(alloc, text, place.start, Wrong::SingleObject);
             last = finding.line;
             findings.push(finding)?;
             octets = with_head(alloc, text, &place)?;
@@ -218,7 +233,7 @@ pub(crate) fn read_mended(
         }
         last = finding.line;
         findings.push(finding)?;
-        let is_again = error.message() == "duplicate key";
+        let is_again = error.message() == DUPLICATE;
         let Some(mended) = without(alloc, text, &span, is_again)? else {
             return Ok(None);
         };

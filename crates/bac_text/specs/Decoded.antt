@@ -77,13 +77,13 @@ fault_line in_words datagram fault = printed_fault in_words (function_in datagra
 
 -- ---- in words, what a BVLL with another function is
 
-abbrev pub IsCarriedBy : BvlcFunction → (datagram : List ℕ) → NpduView → List ℕ → Type 0
-IsCarriedBy f datagram n = Is (function_line f datagram) ⨾ AreNpduLines true n
+abbrev pub IsCarriedBy : BvlcFunction → (datagram octets : List ℕ) → List ℕ → Type 0
+IsCarriedBy f datagram octets = Is (function_line f datagram) ⨾ IsLayer SpellsNpdu (AreNpduLines true) octets
 
--- the function, and the layers of what it carries; nothing where that is no NPDU
+-- the function, and the layers of what it carries, where that is an NPDU
 abbrev pub AreCarriedLines : BvlcFunction → (datagram : List ℕ) → Option ℕ → List ℕ → Type 0
 AreCarriedLines f datagram None = Is (function_line f datagram)
-AreCarriedLines f datagram (Some place) = IsLayer SpellsNpdu (IsCarriedBy f datagram) (drop place datagram)
+AreCarriedLines f datagram (Some place) = IsCarriedBy f datagram (drop place datagram)
 
 abbrev pub AreFunctionLines : BvlcFunction → (datagram : List ℕ) → List ℕ → Type 0
 AreFunctionLines f datagram = AreCarriedLines f datagram (carried_at f)

@@ -8,17 +8,17 @@ use Rattle.bac_service_text.specs.Members.{line_end}
 use Rattle.bac_value_text.specs.Names.{name_in}
 use Rattle.bac_text.specs.ServiceNames.{CONFIRMED_SERVICES, NETWORK_MESSAGES, UNCONFIRMED_SERVICES}
 
--- a confirmed service other than the four, which have lines of their own
+-- a confirmed service other than the four, whose requests and answers have lines of their own
 abbrev pub other_name : (choice : ℕ) → Option (List ℕ)
 other_name choice = if is_served choice then None else name_in CONFIRMED_SERVICES choice
 
 abbrev pub service_name : Apdu → Option (List ℕ)
 service_name (ConfirmedRequest limits invoke_id segment choice service) = other_name choice
 service_name (UnconfirmedRequest choice service) = name_in UNCONFIRMED_SERVICES choice
-service_name (SimpleAck invoke_id choice) = other_name choice
+service_name (SimpleAck invoke_id choice) = name_in CONFIRMED_SERVICES choice
 service_name (ComplexAck invoke_id segment choice service) = other_name choice
 service_name (SegmentAck server invoke_id k) = None
-service_name (Error invoke_id choice class code) = other_name choice
+service_name (Error invoke_id choice class code) = name_in CONFIRMED_SERVICES choice
 service_name (Reject invoke_id reason) = None
 service_name (Abort server invoke_id reason) = None
 

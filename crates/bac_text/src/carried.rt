@@ -1,15 +1,13 @@
 //! What a BVLL with another function than Original-Unicast-NPDU is, and the NPDU that it carries: only in words.
 ghost use Rattle.std.specs.Prelude.{◌≡◌, drop, IfOk, OnOk, string_bytes};
 ghost use Rattle.std.specs.Io.KnownBytes.{Appends};
-ghost use Rattle.bac_npdu.specs.Npdu.{SpellsNpdu};
 ghost use Rattle.bac_text.specs.Carried.{carried_at, function_line, is_forwarded, sender_text};
-ghost use Rattle.bac_text.specs.Decoded.{AreFunctionLines, AreOtherLines, IsCarriedBy, IsLayer};
+ghost use Rattle.bac_text.specs.Decoded.{AreFunctionLines, AreOtherLines, IsCarriedBy};
 ghost use Rattle.bac_text.specs.Texts.{AppendsText};
 
 use crate::bvlc::{BvlcFunction, OtherBvll};
-use crate::decode::print_npdu_layer;
+use crate::decode::print_npdu_lines;
 use crate::peers::link_text;
-use bac_npdu::read_npdu;
 use std::alloc::{AllocError, Global};
 use std::io;
 use std::io::Write;
@@ -71,7 +69,7 @@ fn rest_from(datagram: &[u8], place: usize) -> &[u8]
     &datagram[place.min(datagram.len())..]
 }
 
-/// Prints the function and the layers of the NPDU that some octets are, if they are one.
+/// Prints the function, and the layers of the NPDU that some octets are, if they are one.
 fn print_carried<W: Write>(
     alloc: Global,
     function: BvlcFunction,
@@ -79,13 +77,10 @@ fn print_carried<W: Write>(
     octets: &[u8],
     out: &mut W,
 ) -> io::Result<()>
-    ensures { OnOk result (AppendsText (W.contents out.old) (W.contents out.new) (IsLayer SpellsNpdu (IsCarriedBy function datagram.now) octets.now)) }
+    ensures { OnOk result (AppendsText (W.contents out.old) (W.contents out.new) (IsCarriedBy function datagram.now octets.now)) }
 {
-    let Ok(npdu) = read_npdu(octets) else {
-        return Ok(());
-    };
     print_function(alloc, function, datagram, out)?;
-    print_npdu_layer(alloc, true, npdu, out)
+    print_npdu_lines(alloc, true, octets, out)
 }
 
 /// Prints what a BVLL with that function is, and what it carries.
@@ -106,8 +101,7 @@ fn print_function_lines<W: Write>(
     }
 }
 
-/// Prints in words what another BVLL over IPv4 is: the name of its function, and the layers of the NPDU that it carries. Of a function that carries one
-/// nothing is printed where there is none.
+/// Prints in words what another BVLL over IPv4 is: the name of its function, and the layers of the NPDU that it carries, if there is one.
 pub(crate) fn print_other<W: Write>(
     alloc: Global,
     in_words: bool,

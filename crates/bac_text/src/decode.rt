@@ -116,7 +116,7 @@ fn print_contents<W: Write>(
 }
 
 /// Prints the lines of an NPDU and of what it carries.
-pub(crate) fn print_npdu_layer<W: Write>(
+fn print_npdu_layer<W: Write>(
     alloc: Global,
     in_words: bool,
     npdu: Npdu<'_>,
@@ -129,7 +129,7 @@ pub(crate) fn print_npdu_layer<W: Write>(
 }
 
 /// Prints the lines of an NPDU and of what it carries, if the octets are one.
-fn print_npdu_lines<W: Write>(
+pub(crate) fn print_npdu_lines<W: Write>(
     alloc: Global,
     in_words: bool,
     octets: &[u8],
@@ -201,7 +201,7 @@ fn decode_datagram<W: Write>(
 }
 
 /// Prints the layers of a datagram given in hexadecimal, one a line, up to the first that has a fault: in words objects, properties, values, an
-/// Error, and the reasons of a Reject, an Abort and a fault. In words a line more names a service other than the four, a message of the network layer, or the
+/// Error, and the reasons of a Reject, an Abort and a fault. In words a line more names a service that no other line says, a message of the network layer, or the
 /// function of another BVLL over IPv4; the layers of an NPDU that such a BVLL carries follow it.
 ///
 /// The digits may stand in groups of whole octets with spaces, tabs or colons between them, and `0x` before a group. A layer with a fault prints

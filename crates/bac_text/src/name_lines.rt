@@ -15,7 +15,7 @@ use bac_npdu::Message;
 use std::io;
 use std::io::Write;
 
-/// The name of a confirmed service other than the four, which have lines of their own.
+/// The name of a confirmed service other than the four, whose requests and answers have lines of their own.
 fn other_name(choice: u8) -> Option<&'static str>
     ensures { option_map (λ s. s.now) result ≡ other_name choice }
 {
@@ -25,16 +25,18 @@ fn other_name(choice: u8) -> Option<&'static str>
     confirmed_service_name(choice)
 }
 
-/// The name of the service of an APDU, if it has one, and not one of the four.
+/// The name of the service of an APDU, if it has one, and no line that says it.
 fn service_name(apdu: Apdu<'_>) -> Option<&'static str>
     ensures { option_map (λ s. s.now) result ≡ service_name (apdu_view apdu.entry) }
 {
     match apdu {
         Apdu::UnconfirmedRequest { choice, .. } => unconfirmed_service_name(choice),
-        Apdu::ConfirmedRequest { choice, .. }
-        | Apdu::SimpleAck { choice, .. }
-        | Apdu::ComplexAck { choice, .. }
-        | Apdu::Error { choice, .. } => other_name(choice),
+        Apdu::ConfirmedRequest { choice, .. } | Apdu::ComplexAck { choice, .. } => other_name(
+            choice,
+        ),
+        Apdu::SimpleAck { choice, .. } | Apdu::Error { choice, .. } => confirmed_service_name(
+            choice,
+        ),
         Apdu::SegmentAck { .. } | Apdu::Reject { .. } | Apdu::Abort { .. } => None,
     }
 }
@@ -49,7 +51,7 @@ fn print_name<W: Write>(what: &str, name: Option<&'static str>, out: &mut W) -> 
     writeln!(out, "{what} {name}")
 }
 
-/// Prints the name of the service of an APDU in words, as `service who-is`, unless it is one of the four or has none.
+/// Prints the name of the service of an APDU in words, as `service who-is`, unless it has none or a line says it.
 pub(crate) fn print_service<W: Write>(in_words: bool, apdu: Apdu<'_>, out: &mut W) -> io::Result<()>
     ensures { OnOk result (Appends (W.contents out.old) (W.contents out.new) (service_lines in_words (apdu_view apdu.entry))) }
 {

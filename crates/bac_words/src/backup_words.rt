@@ -55,7 +55,7 @@ const BACKUP: &[Word] = &[
         form: WordForm::Index("N", 4_194_302),
         need: Need::Never,
         against: &["OBJECTS"],
-        help: "Saves all files of the object-list of this device, by its instance, 0 to 4194302; by default that of device 4194303, which stands for any instance, and for which not every device answers",
+        help: "Saves all files of the object-list of this device, by its instance, 0 to 4194302; by default that of device 4194303, which stands for any instance, and to which not every device answers",
     },
     Word {
         name: "OBJECTS",
@@ -91,7 +91,7 @@ const BACKUPS: &[Grammar] = &[
     },
     Grammar {
         name: "restore",
-        about: "Writes the files of such a folder back to a device, and compares what it then has by their digests",
+        about: "Writes the files of a folder of `bac backup` back to a device, and compares what it then has by their digests",
         after: "Example: bac restore --port 47808 --folder saved\nExample: bac restore --to 192.168.1.20 --folder saved",
         words: RESTORE,
     },

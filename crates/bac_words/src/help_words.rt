@@ -16,7 +16,7 @@ const HELP: &[Word] = &[
         form: WordForm::Flag,
         need: Need::Never,
         against: &[],
-        help: "Prints the page of the manual, for `man`",
+        help: "Prints the manual page, for `man`",
     },
 ];
 

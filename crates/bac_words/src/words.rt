@@ -113,14 +113,14 @@ const DECODE: &[Word] = &[
         form: WordForm::Flag,
         need: Need::Never,
         against: &["json"],
-        help: "Takes whole frames of Ethernet, as Wireshark copies packets, and prints the datagram that each carries from or to UDP port 47808 to 47823",
+        help: "Takes whole Ethernet frames, as Wireshark copies packets, and prints the datagram that each carries from or to UDP port 47808 to 47823",
     },
     Word {
         name: "json",
         form: WordForm::Flag,
         need: Need::Never,
         against: &["text"],
-        help: "Prints each datagram as an object of JSON, one a line",
+        help: "Prints each datagram as a JSON object, one per line",
     },
 ];
 
@@ -164,7 +164,7 @@ const CHECK: &[Word] = &[
         form: WordForm::Flag,
         need: Need::Never,
         against: &["text"],
-        help: "Prints each bad frame or line, and the counts, as an object of JSON, one a line",
+        help: "Prints each bad frame or line, and the counts, as a JSON object, one per line",
     },
 ];
 
@@ -269,28 +269,28 @@ const EXPLAIN: &[Word] = &[
         form: WordForm::Flag,
         need: Need::Never,
         against: &["chart", "mermaid"],
-        help: "Prints each transaction, and the counts, as an object of JSON, one a line",
+        help: "Prints each transaction, and the counts, as a JSON object, one per line",
     },
     Word {
         name: "html",
         form: WordForm::Flag,
         need: Need::Never,
         against: &["chart", "mermaid", "json"],
-        help: "Prints a page of HTML: the transactions as a table that sorts and filters, with a picture of each",
+        help: "Prints an HTML page: the transactions as a table that sorts and filters, with a picture of each",
     },
     Word {
         name: "values",
         form: WordForm::Flag,
         need: Need::Never,
         against: TRANSACTIONS,
-        help: "Draws a chart, with --mermaid that of Mermaid, in which an answer that is whole in one APDU has its values",
+        help: "Draws a chart (with --mermaid a Mermaid one) with the values of each answer that is whole in one APDU",
     },
     Word {
         name: "pairs",
         form: WordForm::Flag,
         need: Need::Never,
         against: TRANSACTIONS,
-        help: "Draws a chart for each client and server, one after the other, of any number; with --mermaid as sections of Markdown",
+        help: "Draws a chart for each client and server, one after the other, however many there are; with --mermaid as sections of Markdown",
     },
     Word {
         name: "frames",
@@ -375,7 +375,7 @@ const SIMULATE: &[Word] = &[
         form: WordForm::Flag,
         need: Need::Never,
         against: &["chart", "mermaid", "pcap", "text"],
-        help: "Prints each line as an object of JSON",
+        help: "Prints each line as a JSON object",
     },
 ];
 
@@ -430,7 +430,7 @@ const SERVE: &[Word] = &[
         form: WordForm::Flag,
         need: Need::Never,
         against: &[],
-        help: "The server ran before and has lost what it remembered: for 65 seconds, until no repeat of an old request should arrive, it refuses new ones, but (unless it is --strict) reads whose request and answer are one APDU each",
+        help: "The server ran before and has lost what it remembered: for 65 seconds, until no repeat of an old request should arrive, it refuses new ones, except (unless it is --strict) reads whose request and answer are one APDU each",
     },
     Word {
         name: "strict",
@@ -451,7 +451,7 @@ const SERVE: &[Word] = &[
         form: WordForm::Number("S", 65),
         need: Need::Never,
         against: &["strict"],
-        help: "An equal write gets the kept answer for S seconds, 1 to 65, and is then performed again: for clients that ask all under one invoke ID. 65 by default; with --turns only beside --reuse",
+        help: "An equal write gets the kept answer for S seconds, 1 to 65, and is then performed again: for clients that use one invoke ID for all requests. 65 by default; with --turns only beside --reuse",
     },
     Word {
         name: "memory",
@@ -493,14 +493,14 @@ const SERVE: &[Word] = &[
         form: WordForm::Flag,
         need: Need::Never,
         against: &[],
-        help: "Each line of the log is an object of JSON, and each one that is printed at the start",
+        help: "Prints each line of the log, and what is printed at the start, as a JSON object",
     },
     Word {
         name: "follow",
         form: WordForm::Flag,
         need: Need::Beside("objects"),
         against: &["keep", "turns"],
-        help: "Reads the document of --objects again when it changes, at most once a second, and gives the objects the values that it changed; what clients wrote elsewhere stays",
+        help: "Reads the document of --objects again when it changes, at most once a second, and gives the objects the values that it changed; other values that clients wrote stay",
     },
     Word {
         name: "until-eof",
@@ -546,7 +546,7 @@ const KEEP: &[Word] = &[
         form: WordForm::Flag,
         need: Need::Never,
         against: &["forget"],
-        help: "Prints each property and each file as an object of JSON, one a line",
+        help: "Prints each property and each file as a JSON object, one per line",
     },
 ];
 
@@ -557,7 +557,7 @@ const WORDS_HELP: &str =
 /// The parts of a request, and examples for `ask`.
 const ASK_EXAMPLES: &str = "\
 T:I is an object by type and instance, P a property, each by number or name; HEX is octets in hexadecimal
-VALUE is a value by its kind, such as real:72.5, null, boolean:true, enumerated:1 or text:Room, or encoded data in HEX
+VALUE is a value by its kind: null, boolean:true, unsigned:7, signed:-7, enumerated:1, real:72.5, double:72.5, text:Room, characters:4:0041, octets:0AFF, bits:0100, date:1991-1-24-4, time:17:35:45.17 or object:device:7; or encoded data in HEX
 `priority N` (1 to 16) may follow the last VALUE
 POS is a position in a file, COUNT the number of octets to get
 `@FILE` in place of the last HEX means the octets of that file
@@ -639,14 +639,14 @@ const ASK: &[Word] = &[
         form: WordForm::Flag,
         need: Need::Never,
         against: &["text", "raw"],
-        help: "Prints each ask as an object of JSON, one a line",
+        help: "Prints each ask as a JSON object, one per line",
     },
     Word {
         name: "csv",
         form: WordForm::Flag,
         need: Need::Never,
         against: &["text", "raw", "json"],
-        help: "Prints each ask as a row of CSV, below one with the names of the columns: time,peer,object,property,kind,value,status",
+        help: "Prints each ask as a CSV row, below one with the names of the columns: time,peer,object,property,kind,value,status",
     },
     Word {
         name: "lines",
@@ -667,7 +667,7 @@ const ASK: &[Word] = &[
         form: WordForm::Text("S"),
         need: Need::Never,
         against: &[],
-        help: "Repeats the requests in rounds: one begins S seconds, 0.001 to 1000000000, after the one before was due, or at once if that took longer; then standard error says how late it is",
+        help: "Repeats the requests in rounds: one begins S seconds, 0.001 to 1000000000, after the one before was due, or at once if that took longer. Then standard error says how late it is, and of a list also, before the round ends, that it falls behind",
     },
     Word {
         name: "times",
@@ -729,7 +729,7 @@ pub(crate) const SERVING: &[Grammar] = &[
     },
     Grammar {
         name: "keep",
-        about: "Prints what the file of a server keeps, a property or a file a line",
+        about: "Prints what the file of a server keeps, one property or file per line",
         after: KEEP_EXAMPLES,
         words: KEEP,
     },

@@ -18,7 +18,7 @@ use std::io::Write;
 pub enum CommandError {
     /// The link can't be made, or can't receive.
     Link,
-    /// The clock can't be read, or goes back.
+    /// The clock goes back.
     Clock,
     /// What was written could not be kept, for that reason.
     Keep(KeepFault),
@@ -35,11 +35,28 @@ pub fn link_fault<E: Write>(err: &mut E) -> Status
     complain(err, "link fault", Status::Output)
 }
 
-/// Complains of a clock that can't be read, or goes back. The status is that of all that is outside of the program.
-pub fn clock_fault<E: Write>(err: &mut E) -> Status
+/// Complains of the clock, and says why. The status is that of all that is outside of the program.
+fn print_clock_fault<E: Write>(why: &str, err: &mut E) -> Status
     ensures { result ≡ status.Output }
 {
-    complain(err, "clock fault", Status::Output)
+    let status = complain(err, "clock fault", Status::Output);
+    // if that fails too, only the status is left
+    let _ = err.writeln(why);
+    status
+}
+
+/// Complains of a clock that can't be read. The status is that of all that is outside of the program.
+pub fn clock_unread<E: Write>(err: &mut E) -> Status
+    ensures { result ≡ status.Output }
+{
+    print_clock_fault("the machine's clock cannot be read", err)
+}
+
+/// Complains of a clock that goes back. The status is that of all that is outside of the program.
+pub fn clock_back<E: Write>(err: &mut E) -> Status
+    ensures { result ≡ status.Output }
+{
+    print_clock_fault("the machine's clock went back", err)
 }
 
 /// Complains that what was written could not be kept. The status is that of all that is outside of the program.
@@ -65,7 +82,7 @@ impl CommandError {
     {
         match self {
             CommandError::Link => link_fault(err),
-            CommandError::Clock => clock_fault(err),
+            CommandError::Clock => clock_back(err),
             CommandError::Keep(_) => keep_fault(err),
             CommandError::Memory => no_memory(err),
             CommandError::Output(error) => output_failed(err, &error),

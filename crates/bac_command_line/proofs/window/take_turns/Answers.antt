@@ -1,7 +1,7 @@
 -- The node that asks went on, and then one of those that leave.
 use Rattle.bac_command_line.specs.Online.{OnPort}
 use Rattle.bac_command_line.proofs.InFlight.{both_nodes, if_ok}
-use Rattle.bac_command_line.proofs.window.go_on.Goals as goal
+use Rattle.bac_command_line.proofs.window.take_turns.Goals as goal
 
 pub returns-in-Some-clause-went : goal.returns-in-Some-clause-went
 returns-in-Some-clause-went g c =
