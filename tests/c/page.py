@@ -1,8 +1,8 @@
 #!/usr/bin/env python3
-"""The examples of docs/C.md as they stand there: page.py TOP OUT LIB
+"""The programs that docs/C.md names, and what it says of them: page.py TOP OUT LIB
 
-Its program boiler.c is compiled as strictly as the rest, and asked by OUT/ask as the page asks; the line has to be the page's. A free port stands for the
-page's. Its program with a fan is compiled so too, and run. And the page has to be right about the size of the archive and its code, to 10 %.
+examples/c/boiler.c is compiled as strictly as the rest, and asked by OUT/ask as the page asks; the line has to be the page's. A free port stands for the
+program's. examples/c/fan.c is compiled so too, and run. And the page has to be right about the size of the archive and its code, to 10 %.
 """
 import re
 import subprocess
@@ -24,8 +24,7 @@ wrong = []
 
 def program(port):
     """boiler.c, at that port."""
-    lines = re.search(r"Put this into `boiler\.c`.*?\n\n(.*?)\n\d\. ", page, flags=re.S)[1].splitlines()
-    text = "\n".join(line.removeprefix("       ") for line in lines) + "\n"
+    text = (top / "examples/c/boiler.c").read_text()
     for theirs, ours in (("htons(47808)", f"htons({port})"), ("0xBA, 0xC0", f"{port >> 8}, {port & 255}")):
         if theirs not in text:
             wrong.append(f"boiler.c has no {theirs}")
@@ -56,10 +55,9 @@ def sizes():
 
 
 def started():
-    """The line that the page's program with objects of any type prints, and the one that it should."""
-    lines, wanted = re.search(r"This program lists .*?\n\n(.*?)\n\nIt prints `(.*?)`", page, flags=re.S).groups()
-    (out / "fan.c").write_text("\n".join(line.removeprefix("    ") for line in lines.splitlines()) + "\n")
-    subprocess.run(["cc", *STRICT, f"-I{top}/include", "-o", out / "fan", out / "fan.c", top / "examples/c/heap.c", lib], check=True)
+    """The line that the program with objects of any type prints, and the one that it should."""
+    wanted = re.search(r"examples/c/fan\.c\) lists .*? it prints `(.*?)`", page)[1]
+    subprocess.run(["cc", *STRICT, f"-I{top}/include", "-o", out / "fan", top / "examples/c/fan.c", top / "examples/c/heap.c", lib], check=True)
     return subprocess.run([out / "fan"], capture_output=True, text=True, timeout=120).stdout.rstrip("\n"), wanted
 
 
