@@ -12,6 +12,7 @@ use crate::npdu::{FIRST_HOPS, VERSION};
 use crate::peer::Peer;
 use crate::route::Route;
 use bac_value::NoMemory;
+use byteorder::{BigEndian, ByteOrder};
 
 /// How many octets of the NPDU for a peer precede its contents.
 #[tactic(auto, unfolding(crate::specs::Npdu::npdu_spelling, crate::specs::Npdu::members_spelling))]
@@ -33,7 +34,9 @@ fn put_address(route: &Route, out: &mut Vec<u8>) -> Result<(), NoMemory>
     ensures grows { vec_capacity out.old ≤ vec_capacity out.new }
 {
     let address = route.address.octets();
-    out.extend_from_slice(&route.network.to_be_bytes())?;
+    let mut network = [0; 2];
+    BigEndian::write_u16(&mut network, route.network);
+    out.extend_from_slice(&network)?;
     out.push(address.len() as u8)?;
     out.extend_from_slice(address)?;
     Ok(())
@@ -86,7 +89,9 @@ pub fn write_frame_head(
 {
     let len = 4 + head_len(peer) + apdu_len;
     out.reserve_exact(len)?;
-    let [high, low] = (len as u16).to_be_bytes();
+    let mut total = [0; 2];
+    BigEndian::write_u16(&mut total, len as u16);
+    let [high, low] = total;
     let control = control_to(peer, expecting);
     out.extend_from_slice(&[TYPE, ORIGINAL_UNICAST_NPDU, high, low, VERSION, control])?;
     put_members(peer, out)?;

@@ -7,6 +7,7 @@ ghost use Rattle.bac_value.specs.Views.{tag_view};
 
 use crate::memory::NoMemory;
 use crate::tag::{Class, Form, Tag};
+use byteorder::{BigEndian, ByteOrder};
 
 fn bits_of(form: Form) -> u8
     ensures value { result ≡ form_bits form }
@@ -34,11 +35,15 @@ fn put_length(len: u32, out: &mut Vec<u8>) -> Result<(), NoMemory>
     if len < 254 {
         out.push(len as u8)?;
     } else if len < 65536 {
+        let mut octets = [0; 2];
+        BigEndian::write_u16(&mut octets, len as u16);
         out.push(254)?;
-        out.extend_from_slice(&(len as u16).to_be_bytes())?;
+        out.extend_from_slice(&octets)?;
     } else {
+        let mut octets = [0; 4];
+        BigEndian::write_u32(&mut octets, len);
         out.push(255)?;
-        out.extend_from_slice(&len.to_be_bytes())?;
+        out.extend_from_slice(&octets)?;
     }
     Ok(())
 }

@@ -124,7 +124,7 @@ fn put_object_identifier(
     ensures grows { vec_capacity out.old ≤ vec_capacity out.new }
 {
     let number = u32::from(id.kind) * 0x40_0000 + id.instance;
-    put_primitive(class, tag, &number.to_be_bytes(), out)
+    put_number(class, tag, 4, u64::from(number), out)
 }
 
 /// Appends an application Boolean, whose value is part of its tag (clause 20.2.3).

@@ -54,6 +54,6 @@ returns-clause-room c =
 pub returns-clause-ok : goal.returns-clause-ok
 returns-clause-ok c =
     head_written (peer_view c.args.peer.now) c.args.expecting c.args.out.now.items c.reserve_exact.new.self.items c.extend_from_slice.new.self.items
-    c.put_members.new.out.items c.to_be_bytes.result c.head_len.result c.args.apdu_len c.control_to-control.result
-    c.head_len.ensures.head c.to_be_bytes.ensures c.control_to-control.ensures
+    c.put_members.new.out.items c.write_u16.new.buf c.head_len.result c.args.apdu_len c.control_to-control.result
+    c.head_len.ensures.head c.write_u16.ensures c.control_to-control.ensures
     c.in_ok-reserve_exact.ensures.items c.in_ok-extend_from_slice.ensures.items c.in_ok-put_members.ensures.ok
