@@ -1,6 +1,5 @@
 -- The nodes of a client that asks lines several at once.
-use Rattle.std.proofs.Common.{◌≡◌, ℕ, List, [], ◌∷◌, Option, Some, None, Result, Ok, Err, refl, ap, sym, ◌∙◌, slice_get, slice_set}
-use Rattle.std.specs.Option.{option_map}
+use Rattle.std.proofs.Common.{◌≡◌, ℕ, [], ◌∷◌, Option, Some, Result, Ok, Err, ◌∙◌, slice_get, slice_set}
 use Rattle.std.specs.Prelude.{IfOk}
 use Rattle.bac_driver.specs.BoundNodes.{BoundNode}
 use Rattle.bac_driver.specs.Moments.{Told}

@@ -1,5 +1,5 @@
 -- Rounds, one after the other.
-use Rattle.std.proofs.Common.{◌≡◌, ℕ, zero, suc, ◌&&◌, Bool, true, false, List, Option, refl, sym, ap, subst, ◌∙◌}
+use Rattle.std.proofs.Common.{◌≡◌, ℕ, suc, ◌&&◌, Bool, true, false, List, Option, refl, sym, ap, subst, ◌∙◌}
 use Rattle.bac_driver.specs.Moments.{Told, with_moment}
 use Rattle.bac_driver.specs.Runs.{Timed, timed}
 use Rattle.bac_command_line.specs.Rounds.{AreRoundsFrom, BeginsRound, DoesNothing, Doing, Rests, next_from}

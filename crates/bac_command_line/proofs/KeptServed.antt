@@ -1,15 +1,7 @@
 -- What a server whose store is kept printed, and what is kept.
-use Rattle.std.proofs.Common.{◌≡◌, ℕ, Bool, List, Option, subst, sym, ap, ◌∙◌}
-use Rattle.std.specs.Prelude.{IsTrue}
-use Rattle.std.specs.Io.KnownBytes.{Keeps}
-use Rattle.sqlite_trees.specs.Tree.{Trees}
-use Rattle.sqlite_trees.specs.View.{IsClean, View}
+use Rattle.std.proofs.Common.{◌≡◌, ℕ, List, Option, subst, ◌∙◌}
 use Rattle.bac_protocol.specs.Service.{Octets}
 use Rattle.bac_store.specs.Stores.{Store}
-use Rattle.bac_keep.specs.Overlay.{overlay}
-use Rattle.bac_keep.specs.Rows.{cells_of}
-use Rattle.bac_keep.specs.Settling.{MayFind, settles}
-use Rattle.bac_keep.specs.Steps.{IsReady}
 use Rattle.bac_text.specs.declared.status.Status.{Status}
 use Rattle.bac_text.specs.declared.status.Status.TheVariants as status
 use Rattle.bac_driver.specs.Observed.{Observed}

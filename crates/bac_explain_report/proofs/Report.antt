@@ -1,6 +1,5 @@
 -- What is printed below the frames of a file: the transactions that were open, and then what comes last.
 use Rattle.std.proofs.Common.{◌≡◌, ℕ, List, ◌++◌, Option, refl}
-use Rattle.std.specs.Io.KnownBytes.{Appends}
 use Rattle.std.proofs.KnownBytes.{Appends-trans}
 use Rattle.bac_capture.specs.FileReports.{IsEnding}
 use Rattle.bac_text.specs.Texts.{AppendsText}

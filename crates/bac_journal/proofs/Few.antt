@@ -19,7 +19,7 @@ use Rattle.bac_protocol.specs.Wire.{is_from_server, is_from_client, pieces_from}
 use Rattle.bac_protocol.specs.Client as client
 use Rattle.bac_protocol.specs.Client.{Ask, Phase, ClientTransaction}
 use Rattle.bac_protocol.specs.Client.Phase.{AwaitConfirmation, SegmentedConf, Idle}
-use Rattle.bac_protocol.specs.Client.Reaction.{Stays, GoesOn, Repeats, Ends}
+use Rattle.bac_protocol.specs.Client.Reaction.{Stays, GoesOn, Ends}
 use Rattle.bac_protocol.specs.Server as server
 use Rattle.bac_protocol.specs.Server.{Transfer, State, ServerTransaction, Service, is_live, is_none_live}
 use Rattle.bac_protocol.specs.Sizes.{Way, reply_way_of}

@@ -11,7 +11,7 @@ use Rattle.bac_protocol.specs.Transaction.{Key}
 use Rattle.bac_protocol.specs.World.{same_key}
 use Rattle.bac_protocol.proofs.Keys.{decide_key, same_key_self, set_other}
 use Rattle.bac_world.specs.World as world
-use Rattle.bac_world.specs.World.{Note, newest, ask_of, count_of}
+use Rattle.bac_world.specs.World.{Note, newest, count_of}
 use Rattle.bac_world.proofs.Steps.{decide_number}
 use Rattle.bac_journal.specs.declared.asks.Cell.{Cell}
 use Rattle.bac_journal.specs.declared.asks.Row.{Row}

@@ -11,7 +11,7 @@ use Rattle.bac_transaction.specs.Sends.{Datagram}
 use Rattle.bac_world.specs.Laws.{IsMeaningless}
 use Rattle.bac_world.specs.Node.{Node}
 use Rattle.bac_world.specs.World as world
-use Rattle.bac_world.specs.World.{Note, link_at, transaction_of, IsCopied, IsOfNone, IsOfTransaction}
+use Rattle.bac_world.specs.World.{Note, link_at, transaction_of, IsCopied, IsOfNone}
 use Rattle.bac_journal.specs.declared.asks.Cell.{Cell}
 use Rattle.bac_journal.specs.declared.asks.Row.{Row}
 use Rattle.bac_journal.specs.declared.copies.Copy.{Copy}

@@ -1,5 +1,5 @@
 -- The JSON of elements, one element at a time.
-use Rattle.std.proofs.Common.{◌≡◌, ◌<◌, ℕ, List, [], ◌∷◌, ◌++◌, length, arith, ap, refl, sym, subst, append_assoc, append-nil, length-append}
+use Rattle.std.proofs.Common.{◌≡◌, ◌<◌, ℕ, List, [], ◌∷◌, ◌++◌, length, arith, ap, sym, subst, append_assoc, append-nil, length-append}
 use Rattle.bac_value.specs.Element.{Part, part_spelling, SpellsElement}
 use Rattle.bac_value.specs.Spelling.{tag_spelling}
 use Rattle.serde_json.specs.Data.{Data}

@@ -18,7 +18,7 @@ use Rattle.bac_protocol.specs.Client as client
 use Rattle.bac_protocol.specs.Client.{Ask, ClientTransaction, is_idle, ending_of, request_of}
 use Rattle.bac_protocol.specs.Client.Phase.{AwaitConfirmation}
 use Rattle.bac_protocol.specs.Server as server
-use Rattle.bac_protocol.specs.Server.{Effect, Service, is_none_live, live_entry, server_on_apdu}
+use Rattle.bac_protocol.specs.Server.{Service, is_none_live, server_on_apdu}
 use Rattle.bac_protocol.specs.Log as octets
 use Rattle.bac_protocol.specs.Transaction.{Key, Rules, client_context, server_context, ended}
 use Rattle.bac_protocol.specs.World.{Net, Post, post_of, asked_at, client_acts, client_now, server_now, is_lost, is_room}

@@ -11,7 +11,6 @@ use Rattle.bac_protocol.specs.Service.Ending.{Answered}
 use Rattle.bac_protocol.specs.Client as client
 use Rattle.bac_protocol.specs.Client.{Ask, ClientTransaction, is_idle, request_of}
 use Rattle.bac_protocol.specs.Client.Phase.{AwaitConfirmation}
-use Rattle.bac_protocol.specs.Client.Reaction.{Repeats}
 use Rattle.bac_protocol.specs.Server.{ServerTransaction, is_live, is_none_live}
 use Rattle.bac_protocol.specs.Log.{Fact, Has, StoreModel}
 use Rattle.bac_protocol.specs.Log.Fact.{Asked, Performed, Ended}

@@ -8,7 +8,7 @@ use Rattle.bac_protocol.specs.Client as client
 use Rattle.bac_protocol.specs.Client.{Ask, ClientTransaction, after, sends_of}
 use Rattle.bac_protocol.specs.Client.Reaction.{Stays, Repeats}
 use Rattle.bac_protocol.specs.Server as server
-use Rattle.bac_protocol.specs.Server.{State, ServerTransaction, is_live, is_none_live}
+use Rattle.bac_protocol.specs.Server.{State, ServerTransaction, is_live}
 use Rattle.bac_protocol.specs.Log.{Fact, StoreModel}
 use Rattle.bac_protocol.specs.Transaction.{Key, Rules, Copy, client_context, server_context}
 use Rattle.bac_protocol.specs.World.{World, copies_of, reacts, serves, happens, ticks_ticket, ticks_as_client, ticks_as_server, client_now, server_now}

@@ -11,7 +11,7 @@ use Rattle.bac_protocol.specs.Service.Outcome.{Replies}
 use Rattle.bac_protocol.specs.Service.Ending.{Answered, TimedOut, Expired}
 use Rattle.bac_protocol.specs.Wire.{Each, is_from_client}
 use Rattle.bac_protocol.specs.Client as client
-use Rattle.bac_protocol.specs.Client.{Ask, Phase, ClientTransaction, is_idle, is_held, is_expired, after, sends_of, ending_of, request_of}
+use Rattle.bac_protocol.specs.Client.{Ask, Phase, ClientTransaction, is_idle, is_expired, after, sends_of, ending_of, request_of}
 use Rattle.bac_protocol.specs.Client.Phase.{AwaitConfirmation, Idle}
 use Rattle.bac_protocol.specs.Client.Reaction.{Stays, Repeats, Ends}
 use Rattle.bac_protocol.specs.Server as server

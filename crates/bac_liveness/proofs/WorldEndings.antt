@@ -12,7 +12,7 @@ use Rattle.bac_protocol.specs.Service.{Octets, Ending}
 use Rattle.bac_protocol.specs.Wire.{is_from_client, is_from_server}
 use Rattle.bac_protocol.specs.Client as client
 use Rattle.bac_protocol.specs.Client.{Ask, ClientTransaction, Reaction, is_idle, is_expired}
-use Rattle.bac_protocol.specs.Client.Reaction.{Stays, GoesOn, Repeats, Ends}
+use Rattle.bac_protocol.specs.Client.Reaction.{Stays, Ends}
 use Rattle.bac_protocol.specs.Log as octets
 use Rattle.bac_protocol.specs.Transaction.{Key, Rules, client_context, ended}
 use Rattle.bac_protocol.specs.World.{Net, net_start, later, client_acts, client_now, is_lost}

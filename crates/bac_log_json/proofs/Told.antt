@@ -1,5 +1,5 @@
 -- What is printed of a line of the log, and of a line of what came of an event.
-use Rattle.std.proofs.Common.{◌≡◌, ◌∙◌, ap, ℕ, List, Option}
+use Rattle.std.proofs.Common.{◌≡◌, ◌∙◌, ap, ℕ, List}
 use Rattle.serde_json.specs.Data.{Data}
 use Rattle.bac_json_report.specs.TimeForms.{IsTimeForm}
 use Rattle.bac_log_json.specs.Logs.{AreEventMembers, EventMembers, IsLogForm, LogRecord, kind_word, log_form}

@@ -11,7 +11,6 @@ use Rattle.bac_world.specs.Node.{Node}
 use Rattle.bac_world.specs.World.{World, IsFresh, IsFreshNode, IsBounded, link_at, stores_of}
 use Rattle.bac_world.proofs.Steps.{decide_number}
 use Rattle.bac_journal.specs.Entering.{Every}
-use Rattle.bac_journal.specs.Journals.{JournalView}
 use Rattle.bac_journal.specs.Views.{AreLinks}
 use Rattle.bac_network.specs.Fresh.{Maker, fresh_at, greatest_window, links_of, nodes_of, opening_of}
 use Rattle.bac_network.specs.Fresh.{HasBadSlotsWithin, HasBadWindow, HaveSameLink, IsGood, IsRightWithin, IsTaken}

@@ -2,7 +2,7 @@
 use Rattle.std.proofs.Common.{◌≡◌, ℕ, zero, suc, Bool, true, false, Some, None, if◌then◌else◌, nat_eq, refl, inl}
 use Rattle.bac_world.specs.AnsweredRun.{OPENING, link}
 use Rattle.bac_world.specs.Examples.{STORE, STORES}
-use Rattle.bac_world.specs.World.{IsOfNone, link_at}
+use Rattle.bac_world.specs.World.{IsOfNone}
 use Rattle.bac_network.specs.StrangerLogs.{RightStrangers, WrongStrangers}
 
 -- a request that reads leaves the store

@@ -1,6 +1,6 @@
 -- A node that remembers a request as long as an entry is live makes of a datagram what each node does that lets invoke IDs be used again.
 use Rattle.std.proofs.Common.{◌≡◌, ◌≤◌, ◌-◌, ◌↔◌, ◌⊎◌, inl, inr, ℕ, Bool, true, false, ◌&&◌, ◌||◌, Option, Some, None, Result, Ok, Err, refl, ap, sym, subst, ◌∙◌, arith}
-use Rattle.std.proofs.Common.{if◌then◌else◌, nat_eq, nat_le, nat_lt}
+use Rattle.std.proofs.Common.{if◌then◌else◌, nat_eq, nat_lt}
 use Rattle.std.specs.Prelude.{IfOk}
 use Rattle.std.proofs.lemmas.Bool.Decides.{nat_tests}
 use Rattle.bac_apdu.specs.Apdu.{Apdu}
@@ -18,13 +18,13 @@ use Rattle.bac_transaction.specs.Keys.{PeerKey, same_key}
 use Rattle.bac_transaction.specs.Remembering.{ends_it, is_forgotten, responder_remembering}
 use Rattle.bac_transaction.specs.Reuse.{is_read, responder_reusing, slots_left}
 use Rattle.bac_transaction.specs.Services.{service_of}
-use Rattle.bac_world.specs.Node.{IsHeardBy, IsServerTurn, Node, Outcome}
-use Rattle.bac_world.specs.ReusingNodes.{IsHeardReusing, IsHeardReusingBy, NodeHears, NodeReusing}
+use Rattle.bac_world.specs.Node.{IsServerTurn, Node, Outcome}
+use Rattle.bac_world.specs.ReusingNodes.{IsHeardReusingBy, NodeHears, NodeReusing}
 use Rattle.bac_node.specs.Views.{outcome_view}
 use Rattle.bac_node.specs.declared.fault.NodeFault.{NodeFault}
 use Rattle.bac_node.specs.declared.outcome.Outcome as code
 use Rattle.bac_node.specs.declared.reuse.Reuse.{Reuse}
-use Rattle.bac_node.specs.Remembering.{HearsAsLong, IsHeardRemembering, IsHeardRememberingBy, NodeHearsBy, NodeRemembering, as_ever}
+use Rattle.bac_node.specs.Remembering.{HearsAsLong, IsHeardRememberingBy, NodeHearsBy, NodeRemembering, as_ever}
 
 -- A live entry is not forgotten.
 

@@ -8,7 +8,7 @@ use Rattle.bac_segment.specs.Numbers.{ahead}
 use Rattle.bac_segment.specs.Limits.{N_RETRY}
 use Rattle.bac_segment.specs.Window.{Outgoing, in_window, is_finished}
 use Rattle.bac_protocol.specs.Context.{Context}
-use Rattle.bac_protocol.specs.Reuse.{Reads, ends_entry, ends_with_reply, entry_left, goes_in_segments, idle_on_read, idle_reusing, is_acknowledged_by, is_all_acknowledged}
+use Rattle.bac_protocol.specs.Reuse.{Reads, ends_entry, ends_with_reply, goes_in_segments, idle_on_read, idle_reusing, is_acknowledged_by, is_all_acknowledged}
 use Rattle.bac_protocol.specs.Reuse.{is_ended_by, is_of_whole_read, is_other_first, is_over, left_on_apdu, reads_so, reusing_on_apdu}
 use Rattle.bac_protocol.specs.ReuseLaws.{EndsWithReply, GoesOnAsEver, PerformsWhereEnded, ReadsAreFresh, fresh_read}
 use Rattle.bac_protocol.specs.Server as server

@@ -8,7 +8,7 @@ use Rattle.bac_protocol.specs.Pace.{Clock, clock_at, goes_on}
 use Rattle.bac_protocol.specs.Context.{Context}
 use Rattle.bac_protocol.specs.Service.{Octets, Request, Reply, Ending}
 use Rattle.bac_protocol.specs.Client as client
-use Rattle.bac_protocol.specs.Client.{Ask, request_of, ClientTransaction, is_idle}
+use Rattle.bac_protocol.specs.Client.{ClientTransaction, is_idle}
 use Rattle.bac_protocol.specs.Client.Reaction.{Stays, GoesOn, Repeats, Ends}
 use Rattle.bac_protocol.specs.Server as server
 use Rattle.bac_protocol.specs.Server.{State, ServerTransaction, Effect, Service, is_live, live_entry}

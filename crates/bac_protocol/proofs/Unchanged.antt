@@ -7,7 +7,7 @@ use Rattle.bac_apdu.specs.Apdu.{Apdu}
 use Rattle.bac_protocol.specs.Service.{Octets, Request, Reply, Ending}
 use Rattle.bac_protocol.specs.Wire.{is_from_client}
 use Rattle.bac_protocol.specs.Client as client
-use Rattle.bac_protocol.specs.Client.{Ask, ClientTransaction, request_of, is_held}
+use Rattle.bac_protocol.specs.Client.{Ask, ClientTransaction, request_of}
 use Rattle.bac_protocol.specs.Server as server
 use Rattle.bac_protocol.specs.Server.{Effect}
 use Rattle.bac_protocol.specs.Log.{Fact, StoreModel, HasNoChange, HasNoRestart, HasNoStranger}

@@ -1,6 +1,6 @@
 -- By how many octets an APDU makes one entry keep more.
-use Rattle.std.proofs.Common.{◌≡◌, ℕ, ◌+◌, ◌*◌, ◌-◌, ◌≤◌, Bool, true, false, not, ◌&&◌, List, [], ◌∷◌, ◌++◌, length, take, min, Option, Some, None}
-use Rattle.std.proofs.Common.{if◌then◌else◌, nat_eq, nat_lt, nat_le, refl, ap, sym, ◌∙◌, arith, length-append}
+use Rattle.std.proofs.Common.{◌≡◌, ℕ, ◌+◌, ◌*◌, ◌-◌, ◌≤◌, Bool, true, false, not, ◌&&◌, List, [], ◌∷◌, ◌++◌, length, min, Option, Some, None}
+use Rattle.std.proofs.Common.{if◌then◌else◌, nat_eq, nat_lt, nat_le, refl, ap, ◌∙◌, arith, length-append}
 use Rattle.std.specs.Prelude.{is_some}
 use Rattle.std.proofs.lemmas.List.{length-take}
 use Rattle.bac_apdu.specs.Apdu.{Apdu, Limits, Segment}
@@ -8,7 +8,7 @@ use Rattle.bac_apdu.specs.Apdu.Apdu.{ConfirmedRequest, SegmentAck, Abort}
 use Rattle.bac_segment.specs.Numbers.{ahead}
 use Rattle.bac_segment.specs.Pieces.{count_of, join, piece_at, pieces_of}
 use Rattle.bac_segment.specs.Limits.{N_RETRY}
-use Rattle.bac_segment.specs.Window.{Incoming, Outgoing, Taking, again, in_window, incoming, is_acknowledged, is_expected, is_finished, is_too_long, resume, takes}
+use Rattle.bac_segment.specs.Window.{Incoming, Outgoing, Taking, again, in_window, incoming, is_acknowledged, is_expected, is_finished, is_too_long, takes}
 use Rattle.bac_segment.specs.Window.{takes_expected}
 use Rattle.bac_segment.proofs.Cut.{join-cut}
 use Rattle.bac_store.specs.ReplyLengths.{DATA_LIMIT}

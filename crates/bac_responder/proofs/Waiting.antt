@@ -11,7 +11,7 @@ use Rattle.bac_transaction.specs.Ends.{ServerEnd, ServerSlot, ServerTurn, contex
 use Rattle.bac_transaction.specs.Tables.{AreLive}
 use Rattle.bac_transaction.specs.Sends.{Send, to_all}
 use Rattle.bac_slots.specs.declared.slot.Slot.{Slot}
-use Rattle.bac_slots.specs.Ages.{AreInOrderIf, AreQuiet, HasBegun, first_due}
+use Rattle.bac_slots.specs.Ages.{AreInOrderIf, HasBegun, first_due}
 use Rattle.bac_slots.proofs.Fronts.{all_rest, one_moves}
 use Rattle.bac_transaction.proofs.ServerTables.{ticks_leave_live}
 use Rattle.bac_transaction.proofs.Telling.{none_told}

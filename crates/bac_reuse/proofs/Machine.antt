@@ -18,7 +18,7 @@ use Rattle.bac_protocol.specs.Sizes.Way.{InOne, InSegments, Refused}
 use Rattle.bac_protocol.specs.Claims.{IsPieceOf}
 use Rattle.bac_protocol.specs.Client.{Ask}
 use Rattle.bac_protocol.specs.Server as server
-use Rattle.bac_protocol.specs.Server.{Effect, Reaction, ServerTransaction, Service, State, Transfer, is_kept, is_live, is_none_live, server_on_apdu, server_ticks}
+use Rattle.bac_protocol.specs.Server.{Effect, Reaction, ServerTransaction, Service, State, Transfer, is_kept, is_live, server_on_apdu, server_ticks}
 use Rattle.bac_protocol.specs.Server.State.{Done, SegmentedResponse, Dropped}
 use Rattle.bac_protocol.specs.Server.Transfer.{Running, Stopped, Finished}
 use Rattle.bac_protocol.specs.Reuse.{Reads, goes_in_segments, idle_on_read, idle_reusing, is_acknowledged_by, is_ended_by, is_of_whole_read, is_other_first}

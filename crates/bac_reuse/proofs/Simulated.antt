@@ -13,7 +13,7 @@ use Rattle.bac_protocol.specs.Wire.{Each, is_from_client}
 use Rattle.bac_protocol.specs.Client as client
 use Rattle.bac_protocol.specs.Client.{Ask, ClientTransaction, Phase, after, is_idle, request_of}
 use Rattle.bac_protocol.specs.Client.Phase.{AwaitConfirmation, Idle, SegmentedConf}
-use Rattle.bac_protocol.specs.Client.Reaction.{Ends, GoesOn, Repeats, Stays}
+use Rattle.bac_protocol.specs.Client.Reaction.{Ends, Stays}
 use Rattle.bac_protocol.specs.Server as server
 use Rattle.bac_protocol.specs.Server.{Effect, ServerTransaction, Service, State, Transfer, is_live, server_on_apdu}
 use Rattle.bac_protocol.specs.Log.{Fact, Has, IsOrderly, IsUnperformed, MayEnd}

@@ -2,7 +2,6 @@
 use Rattle.std.proofs.Common.{◌≡◌, ◌≢◌, ℕ, zero, suc, ◌+◌, ◌-◌, ◌*◌, ◌<◌, ◌≤◌, ◌||◌, List, [], ◌∷◌, ◌++◌, length, map, drop, Some}
 use Rattle.std.proofs.Common.{refl, sym, ap, ◌∙◌, arith, append_assoc, slice_get}
 use Rattle.std.specs.List.{list_any}
-use Rattle.bac_apdu.specs.Apdu as plain
 use Rattle.bac_apdu.specs.Views.{limits_view}
 use Rattle.bac_apdu.specs.declared.limits.Limits.{Limits}
 use Rattle.bac_journal.specs.Clocks.{fresh_clocks, own_pace}
@@ -12,7 +11,7 @@ use Rattle.bac_network.specs.declared.fault.NewClocksFault.{NewClocksFault}
 use Rattle.bac_network.specs.declared.fault.NewClocksFault.TheVariants as clocks_fault
 use Rattle.bac_network.specs.declared.fault.NewWorldFault.TheVariants as fault
 use Rattle.bac_protocol.specs.Pace.{IsTimely, most, least}
-use Rattle.bac_simulate.specs.Houses.{clock_world_set, is_of_clock, makers_from, start_after, start_by, starts_from, world_set}
+use Rattle.bac_simulate.specs.Houses.{clock_world_set, is_of_clock, makers_from, start_after, start_by, starts_from}
 use Rattle.bac_simulate.specs.Lines.{Setting}
 use Rattle.bac_simulate.specs.Scripts.{ScriptLine, most_limits}
 use Rattle.bac_simulate.specs.Views.{line_view}

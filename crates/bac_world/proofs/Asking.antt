@@ -35,7 +35,7 @@ use Rattle.bac_world.specs.ReusingLogs.{IsOnceSo}
 use Rattle.bac_world.specs.World.{World, Time, Note, Copy, stores_of, newest, ask_of, peer_at, IsCopied, IsAsked}
 use Rattle.bac_transaction.proofs.KeyedSlots.{slot, passing, passing_value, passing_distinct, put_same, put_other, put_distinct}
 use Rattle.bac_transaction.proofs.KeyedSlots.{each_at, each_so, each_passing, each_put}
-use Rattle.bac_protocol.specs.World.{client_now, server_now, is_lost, is_key_held}
+use Rattle.bac_protocol.specs.World.{client_now, is_lost, is_key_held}
 use Rattle.bac_world.specs.World.{told}
 use Rattle.bac_world.proofs.Bridge.{here_at, there_at}
 use Rattle.bac_protocol.specs.Pace.{Clock}

@@ -33,7 +33,7 @@ use Rattle.bac_world.specs.World.{World, Time, passes, Event, Copy, Note, link_a
 use Rattle.bac_world.specs.Laws.{IsMeaningless}
 use Rattle.bac_world.specs.World.Event.{Ask, AskAway, Deliver, Noise, Stray, Tick, Advance, Change, Restart}
 use Rattle.bac_transaction.proofs.KeyedSlots.{EachSlot}
-use Rattle.bac_protocol.specs.World.{client_now, server_now, is_lost, is_key_held}
+use Rattle.bac_protocol.specs.World.{is_lost}
 use Rattle.bac_world.specs.World.{told}
 use Rattle.bac_world.proofs.Bridge.{here_at, there_at}
 use Rattle.bac_protocol.specs.Pace.{Pace, IsTimely, clock_at, goes_on}

@@ -36,7 +36,6 @@ use Rattle.bac_world.proofs.Bridge.{NodeFits, IsStranger, IsCopyOf, TicketFits, 
 use Rattle.bac_world.proofs.Numbers.{number_one}
 use Rattle.bac_protocol.specs.World.{client_acts_away}
 use Rattle.bac_protocol.specs.Transaction.{ended_away}
-use Rattle.bac_protocol.specs.Client.{Ask}
 use Rattle.bac_world.specs.World.{is_away, ending_fact}
 use Rattle.bac_world.proofs.Steps.{Over}
 use Rattle.bac_world.proofs.Settings.{Setting, reuses_in, reusing_in}

@@ -36,7 +36,7 @@ use Rattle.bac_world.specs.Once.{Fact, Has, IsUnperformed, Stores}
 use Rattle.bac_world.specs.ReusingLogs.{IsOnceSo, MayPerformSo}
 use Rattle.bac_world.specs.ReusingWorlds.{ActsSo, AreLoggedSo}
 use Rattle.bac_world.specs.World.{World, Note, Copy, stores_of, IsOfNone, IsWithNode, IsLogged, AreEnded, newest, peer_at, AreCopied}
-use Rattle.bac_protocol.specs.World.{client_now, server_now, is_lost, is_key_held}
+use Rattle.bac_protocol.specs.World.{server_now}
 use Rattle.bac_world.specs.World.{told}
 use Rattle.bac_world.proofs.Bridge.{here_at, there_at}
 use Rattle.bac_protocol.specs.Pace.{Clock}

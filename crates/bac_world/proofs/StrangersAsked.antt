@@ -9,7 +9,7 @@ use Rattle.bac_protocol.specs.Context.{Settings}
 use Rattle.bac_protocol.specs.Service.{Octets}
 use Rattle.bac_protocol.specs.Client.{Ask, ClientTransaction, asked_ticket}
 use Rattle.bac_protocol.specs.Transaction.{Key, Rules, client_context}
-use Rattle.bac_protocol.specs.World.{Net, set_at, is_key_held, is_lost, client_now, asked_away_at}
+use Rattle.bac_protocol.specs.World.{Net, is_key_held, is_lost, client_now, asked_away_at}
 use Rattle.bac_protocol.specs.World as net
 use Rattle.bac_protocol.specs.Claims.{IsBounded}
 use Rattle.bac_protocol.proofs.Keys.{set_same, set_other, decide_key}

@@ -11,7 +11,7 @@ use Rattle.bac_protocol.specs.declared.times.TheConstants.{KEEP}
 use Rattle.bac_protocol.specs.Context.{Context}
 use Rattle.bac_protocol.specs.Reuse.{ends_entry, goes_in_segments, idle_on_read, idle_reusing, is_acknowledged_by, is_ended_by, is_of_whole_read}
 use Rattle.bac_protocol.specs.Reuse.{is_other_first, is_over, left_on_apdu, server_hears}
-use Rattle.bac_protocol.specs.Server.{Effect, Reaction, ServerTransaction, Service, State, Transfer, idle_on_request, is_kept, is_live, is_none_live, live_entry, server_on_apdu}
+use Rattle.bac_protocol.specs.Server.{Effect, Reaction, ServerTransaction, Service, State, idle_on_request, is_kept, is_live, is_none_live, live_entry, server_on_apdu}
 use Rattle.bac_protocol.specs.Server.{server_ticks}
 use Rattle.bac_protocol.specs.Server as server
 use Rattle.bac_protocol.specs.Server.State.{Done, Dropped, SegmentedResponse}

@@ -29,7 +29,7 @@ use Rattle.bac_world.specs.Services.{ArePerformed}
 use Rattle.bac_world.specs.Node.{Node, Outcome, NodeOn, IsHeard, IsHeardBy}
 use Rattle.bac_world.specs.Laws.{IsMeaningless}
 use Rattle.bac_world.specs.Once.{Stores, IsOnce}
-use Rattle.bac_world.specs.World.{World, Copy, stores_of, Acts, Delivers, DeliversIf, IsDelivered, later, told, peer_at}
+use Rattle.bac_world.specs.World.{World, Copy, stores_of, Acts, Delivers, DeliversIf, later, told, peer_at}
 use Rattle.bac_world.specs.World as world
 use Rattle.bac_world.proofs.NodeLaws.{drops_exactly}
 use Rattle.bac_world.proofs.Pairs.{IsPaired, pairwise_get}

@@ -1,5 +1,5 @@
 -- A whole number of seconds is read of the text behind the word.
-use Rattle.std.proofs.Common.{◌≡◌, ◌∙◌, List, ℕ, Option, Some, None, codes, decimal}
+use Rattle.std.proofs.Common.{◌≡◌, ◌∙◌, List, ℕ, Some, None, codes, decimal}
 use Rattle.bac_command_line.specs.Given.{words_text}
 use Rattle.bac_command_line.proofs.asking.every_of.Goals as goal
 

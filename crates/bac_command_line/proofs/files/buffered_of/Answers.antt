@@ -1,5 +1,5 @@
 -- A reader that has read nothing yet gives what the file does.
-use Rattle.std.proofs.Common.{◌≡◌, List, ℕ, Option}
+use Rattle.std.proofs.Common.{◌≡◌}
 use Rattle.std.specs.Io.Buffered.{reader_remaining}
 use Rattle.bac_command_line.proofs.CheckedFiles.{prepend_nothing}
 use Rattle.bac_command_line.proofs.files.buffered_of.Goals as goal

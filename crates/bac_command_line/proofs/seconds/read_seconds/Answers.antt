@@ -1,5 +1,5 @@
 -- A whole number of seconds is read of its digits.
-use Rattle.std.proofs.Common.{◌≡◌, ◌∙◌, ℕ, ◌<◌, ◌≤◌, ◌^◌, Option, Some, None, Result, Ok, Err, ap, arith, sym, ◌*◌, decimal}
+use Rattle.std.proofs.Common.{◌≡◌, ◌∙◌, ℕ, ◌<◌, ◌≤◌, ◌^◌, Some, Result, Ok, ap, arith, sym, ◌*◌}
 use Rattle.std.proofs.lemmas.Fmt.{parse-decimal}
 use Rattle.bac_command_line.proofs.Numbers.{ok_of}
 use Rattle.bac_command_line.proofs.seconds.read_seconds.Goals as goal

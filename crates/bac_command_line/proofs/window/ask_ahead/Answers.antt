@@ -1,4 +1,4 @@
-use Rattle.std.proofs.Common.{length, refl, ap, arith}
+use Rattle.std.proofs.Common.{length, ap, arith}
 use Rattle.bac_driver.specs.Runs.{timed}
 use Rattle.bac_command_line.specs.Online.{OnPort}
 use Rattle.bac_command_line.proofs.InFlight.{all_printed, none_printed_of, one_more_printed}

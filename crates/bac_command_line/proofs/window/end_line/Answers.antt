@@ -1,6 +1,5 @@
 -- What happened so far, and then the asks of lines that wait began, and what is under way went on.
-use Rattle.std.proofs.Common.{refl, sym, ap, subst}
-use Rattle.bac_command_line.specs.InFlight.{Aloft, Goes, Sky}
+use Rattle.std.proofs.Common.{refl}
 use Rattle.bac_command_line.specs.Online.{OnPort}
 use Rattle.bac_command_line.proofs.InFlight.{both_go, end_taken, goes_on, none_goes, none_taken}
 use Rattle.bac_command_line.proofs.window.end_line.Goals as goal

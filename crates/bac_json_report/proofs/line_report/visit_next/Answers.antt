@@ -1,6 +1,4 @@
-use Rattle.std.proofs.Common.{refl}
-use Rattle.std.proofs.KnownBytes.{Keeps-refl}
-use Rattle.bac_json_report.proofs.LinesSeen.{line_seen, none_left}
+use Rattle.bac_json_report.proofs.LinesSeen.{line_seen}
 use Rattle.bac_json_report.proofs.line_report.visit_next.Goals as goal
 
 pub returns-in-Ok : goal.returns-in-Ok

@@ -1,5 +1,4 @@
 -- The charts of the pairs before this one are printed.
-use Rattle.std.proofs.Common.{List}
 use Rattle.std.specs.Io.KnownBytes.{Appends}
 use Rattle.bac_explain_report.specs.PairViews.{pairs_view}
 use Rattle.bac_explain_report.specs.Pairs.{charts_text}

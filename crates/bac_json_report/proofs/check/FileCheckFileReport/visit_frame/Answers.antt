@@ -1,5 +1,4 @@
 use Rattle.bac_capture.specs.BlockViews.{frame_view}
-use Rattle.bac_json_report.specs.CheckedFiles.{count_of}
 use Rattle.bac_json_report.proofs.Checked.{frame_seen}
 use Rattle.bac_json_report.proofs.check.FileCheckFileReport.visit_frame.Goals as goal
 

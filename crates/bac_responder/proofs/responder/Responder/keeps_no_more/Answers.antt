@@ -8,7 +8,6 @@ use Rattle.bac_slots.specs.declared.slot.Slot.{Slot}
 use Rattle.bac_store.specs.Stores.{Store}
 use Rattle.bac_protocol.specs.Context.{Settings}
 use Rattle.bac_protocol.specs.Server.{ServerTransaction}
-use Rattle.bac_transaction.specs.Ends.{responder_on_apdu}
 use Rattle.bac_transaction.specs.Keys as keys
 use Rattle.bac_transaction.specs.Remembering.{responder_remembering}
 use Rattle.bac_transaction.specs.Services.{service_of}

@@ -1,9 +1,7 @@
 -- What is due first in the table is due first at the end.
-use Rattle.std.proofs.Common.{◌<◌, ◌∙◌, sym, ap, arith}
+use Rattle.std.proofs.Common.{◌<◌, ◌∙◌, sym, arith}
 use Rattle.bac_protocol.specs.Server.{ServerTransaction}
 use Rattle.bac_transaction.proofs.Viewed.{due_viewed, each_viewed}
-use Rattle.bac_transaction.specs.Views.{slots_view}
-use Rattle.bac_slots.specs.Ages.{first_due}
 use Rattle.bac_responder.specs.Timers.{IsQuiet, due_of, life_end}
 use Rattle.bac_responder.specs.Views.{end_of}
 use Rattle.bac_responder.proofs.Waiting.{servers_move, servers_rest}
