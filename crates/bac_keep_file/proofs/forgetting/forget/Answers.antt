@@ -1,7 +1,7 @@
 use Rattle.std.proofs.Common.{rules, arith, ◌≡◌, length, ap, ◌∙◌}
 use Rattle.sqlite_trees.specs.Tree.{Trees}
 use Rattle.sqlite_trees.specs.View.{IsClean, View}
-use Rattle.bac_keep.specs.Rows.{cells_of}
+use Rattle.bac_keep_file.specs.Rows.{cells_of}
 use Rattle.bac_keep_file.proofs.Leaving.{left_over, nothing_selected, outcome}
 use Rattle.bac_keep_file.proofs.forgetting.forget.Goals as goal
 
