@@ -1,5 +1,6 @@
 mod Deleting
 mod Documents
+mod Faults
 mod Finding
 mod Leaving
 mod Puts

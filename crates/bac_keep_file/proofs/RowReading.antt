@@ -1,5 +1,5 @@
 -- What holds while the rows of the table are read.
-use Rattle.std.proofs.Common.{◌⊎◌, ℕ, ◌≡◌, ◌≤◌, inl, inr, true, false, List, [], ◌∷◌, ◌++◌, Some, IsSome, refl, sym, ap, ◌∙◌, subst, append_assoc}
+use Rattle.std.proofs.Common.{◌⊎◌, ℕ, ◌≡◌, ◌≤◌, inl, inr, true, false, List, [], ◌∷◌, ◌++◌, Some, IsSome, refl, sym, ap, ◌∙◌, subst, append_assoc, Result, Ok, IfErr, MatchResult}
 use Rattle.std.proofs.lemmas.List.{append-nil}
 use Rattle.sqlite_value.specs.declared.keys.Order.{Order}
 use Rattle.sqlite_trees.specs.declared.store.Direction.TheVariants.{Forward}
@@ -10,9 +10,14 @@ use Rattle.sqlite_trees.specs.declared.error.StoreError.TheVariants as failure
 use Rattle.sqlite_trees.specs.Tree.{from_key, order_of, sought}
 use Rattle.sqlite_trees.specs.Tree.{Trees}
 use Rattle.bac_keep.specs.declared.cell.Cell.{Cell}
-use Rattle.bac_keep_file.specs.Refused.{Has, HasOtherRow, IsNoCell}
+use Rattle.bac_keep.specs.declared.fault.DatabaseFault.TheVariants as database
+use Rattle.bac_keep.specs.declared.fault.KeepFault.{KeepFault}
+use Rattle.bac_keep.specs.declared.fault.KeepFault.TheVariants as fault
+use Rattle.bac_keep_file.specs.Faults.{database_fault, keep_fault}
+use Rattle.bac_keep_file.specs.Refused.{Has, HasOtherRow, IsNoCell, IsUnreadable}
 use Rattle.bac_keep_file.specs.Rows.{AreCells, IsRowOf}
 use Rattle.bac_keep_file.specs.Steps.{IsReady, NoMore}
+use Rattle.bac_keep_file.proofs.Faults.{err, if_err}
 
 -- these cells are the rows so far, and the cursor gives the others
 pub record HasReadSome (old : View) (cells : List Cell) (new : View) : Type 0 where
@@ -107,14 +112,30 @@ other_row old mid new cs row so_far next no_cell =
     }
 
 -- a database that is not broken fails for the disk, or for memory
-pub failed_for : (old : View) (failed : Type 0) (e : StoreError) → old.is_broken ≡ false → HasCause old failed ⊥ e → (e ≡ failure.OutOfMemory) ⊎ failed
-failed_for old failed failure.OutOfMemory sound cause = inl refl
-failed_for old failed failure.Io sound cause = inr cause
-failed_for old failed failure.Corrupt sound cause = inr cause
-failed_for old failed failure.Full sound cause = inr cause
-failed_for old failed failure.Broken sound cause = absurd (cc)
-failed_for old failed failure.Unstorable sound cause = absurd cause
+pub failed_for : {T : Type 0} (old : View) (failed : Type 0) (rows : List Row) (r : Result T StoreError) (f : KeepFault)
+    → MatchResult r (λ x. err T f ≡ Ok x) (λ e. f ≡ keep_fault e) → old.is_broken ≡ false → IfErr r (HasCause old failed ⊥) → IsUnreadable rows failed f
+failed_for old failed rows r f is sound cause = if_err (λ e f. f ≡ keep_fault e) (HasCause old failed ⊥) (IsUnreadable rows failed) r f is cause
+    (λ e same why. subst (IsUnreadable rows failed) (sym same) (go e why))
+  where
+    go : (e : StoreError) → HasCause old failed ⊥ e → (database_fault e ≡ database.OutOfMemory) ⊎ failed
+    go failure.OutOfMemory why = inl refl
+    go failure.Io why = inr why
+    go failure.Corrupt why = inr why
+    go failure.Full why = inr why
+    go failure.Broken why = absurd (cc)
+    go failure.Unstorable why = absurd why
 
 pub or_earlier : {Here Before After : Type 0} → (Before → After) → Here ⊎ Before → Here ⊎ After
 or_earlier longer (inl here) = inl here
 or_earlier longer (inr before) = inr (longer before)
+
+-- a fault of more calls
+pub more_failed : {failed later : Type 0} → (failed → later) → (rows : List Row) (f : KeepFault) → IsUnreadable rows failed f → IsUnreadable rows later f
+more_failed longer rows (fault.Database e) it = or_earlier longer it
+more_failed longer rows fault.BadRow it = it
+more_failed longer rows fault.NoMemory it = tt
+more_failed longer rows fault.Shut it = absurd it
+more_failed longer rows fault.NoTable it = absurd it
+more_failed longer rows (fault.BadValues o m e) it = absurd it
+more_failed longer rows (fault.BadOctets o e) it = absurd it
+more_failed longer rows fault.HighNumber it = absurd it
