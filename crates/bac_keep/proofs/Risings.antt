@@ -1,6 +1,6 @@
 -- Cells whose places rise.
 use Rattle.std.proofs.Common.{◌≡◌, ◌==◌, ℕ, zero, suc, ◌<◌, ◌≤◌, true, false, List, [], ◌∷◌, length, drop, get_or, Some, None}
-use Rattle.std.proofs.Common.{refl, subst, arith, if◌then◌else◌}
+use Rattle.std.proofs.Common.{refl, arith}
 use Rattle.std.specs.List.{AllByRecursion}
 use Rattle.std.proofs.lemmas.Bool.Decides.{nat_tests}
 use Rattle.bac_keep.specs.declared.cell.Cell.{Cell}

@@ -1,5 +1,5 @@
 -- Why a document and cells make no store.
-use Rattle.std.specs.Prelude.{◌≡◌, ◌≢◌, ◌⊎◌, true, false, ℕ, suc, ◌<◌, List, [], ◌∷◌, get_or, None, Some, ⊤}
+use Rattle.std.specs.Prelude.{◌≡◌, ◌≢◌, ◌⊎◌, true, ℕ, suc, ◌<◌, List, [], ◌∷◌, get_or, None, Some, ⊤}
 use Rattle.bac_value.specs.Value.{ObjectId}
 use Rattle.bac_value.specs.Views.{object_identifier_view}
 use Rattle.bac_value.specs.declared.value.ObjectIdentifier.{ObjectIdentifier}

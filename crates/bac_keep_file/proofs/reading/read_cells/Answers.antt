@@ -44,7 +44,7 @@ returns-in_default-clause-refused g c = λ clean.
     other_row _ _ _ _ _ (c.loop.invariant.some (omega (arith, clean, c.next.ensures.quiet.clean)))
     (subst (λ (b : Bool). Advances (g.S.Store.view c.loop.database) (g.S.Store.view c.next.new.self) 0 c.next.new.row b) more
     (if_ok KeepFault (λ found. IsClean (g.S.Store.view c.next.new.self) → Advances (g.S.Store.view c.loop.database) (g.S.Store.view c.next.new.self) 0 c.next.new.row found) _ _
-      c.in_ok-map_err-2.ensures.cases c.next.ensures.ok clean)) other
+    c.in_ok-map_err-2.ensures.cases c.next.ensures.ok clean)) other
 
 pub returns-in_err-map_err-clause-refused : goal.returns-in_err-map_err-clause-refused
 returns-in_err-map_err-clause-refused g c =
