@@ -1,9 +1,10 @@
-# Installs the program that `sh tests/prove.sh` built, its page, its completion, and a unit of systemd with a document:
+# Installs the program that `sh tests/prove.sh` built, otherwise the one of `sh tests/unproved.sh` (which needs this folder to stay), its page, its completion, and
+# a unit of systemd with a document:
 #     make install PREFIX=/usr/local [SYSCONFDIR=/etc] [DESTDIR=stage]
 # SYSCONFDIR/bac/plant.toml is yours to edit: it is installed only where there is none, and `make uninstall` leaves it. PREFIX/share/bac/plant.toml is as it was made.
 PREFIX ?= /usr/local
 SYSCONFDIR ?= /etc
-PROGRAM ?= crates/bac/out/bac
+PROGRAM ?= $(or $(wildcard crates/bac/out/bac),crates/bac/out/bac-unproved)
 AT = $(DESTDIR)$(PREFIX)
 ETC = $(DESTDIR)$(SYSCONFDIR)
 

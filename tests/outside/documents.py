@@ -6,6 +6,7 @@ script, and the block ```text below it is what it prints on standard output. A b
 
 import os
 import re
+import signal
 import subprocess
 import sys
 import time
@@ -65,13 +66,14 @@ class Desk:
         self.environment = {**os.environ, 'PATH': f'{folder}/bin:{os.environ["PATH"]}', 'LC_ALL': 'C.UTF-8'}
         self.said = folder / 'bin/said'
         self.shell = subprocess.Popen(['bash'], cwd=folder, env=self.environment, stdin=subprocess.PIPE, stdout=open(self.said, 'w'),
-                                      stderr=subprocess.STDOUT, text=True)
+                                      stderr=subprocess.STDOUT, text=True, process_group=0)
 
     def run(self, script):
         """A script's status, and what it prints on standard output. Servers that it begins go on, so the output goes to a file."""
         with open(self.folder / 'bin/printed', 'w+') as out:
             words = ['sh', '-e', '-c', script]
-            status = subprocess.run(words, cwd=self.folder, env=self.environment, stdin=subprocess.DEVNULL, stdout=out, timeout=SECONDS).returncode
+            status = subprocess.run(words, cwd=self.folder, env=self.environment, stdin=subprocess.DEVNULL, stdout=out, timeout=SECONDS,
+                                    process_group=self.shell.pid).returncode
             out.seek(0)
             return status, out.read()
 
@@ -85,11 +87,17 @@ class Desk:
         while time.monotonic() < end and (mark not in lines or command.endswith('&') and len(lines) <= count):
             time.sleep(0.02)
             lines = self.said.read_text()[begun:].splitlines()
-        return [line for line in lines if line != mark and not NOTICE.match(line)]
+        lines = [line for line in lines if line != mark and not NOTICE.match(line)]
+        return lines[:-1] if lines[-1:] == [''] else lines  # no block ends with an empty line
 
     def close(self):
-        self.shell.kill()
-        self.shell.wait()
+        """Ends all that was begun here, and waits for it: this is the first process of its namespace, so all are its children at last."""
+        os.killpg(self.shell.pid, signal.SIGKILL)
+        try:
+            while os.waitpid(-self.shell.pid, 0):
+                pass
+        except ChildProcessError:
+            pass
 
 
 def commands_of(block):
