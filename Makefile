@@ -1,8 +1,9 @@
-# Installs the program that `sh tests/prove.sh` built, its page, its completion, and a unit of systemd with a document; `make` alone lists the targets.
+# Installs the program that `sh tests/prove.sh` built, otherwise the one of `sh tests/unproved.sh` (which needs this folder to stay), its page, its completion, and
+# a unit of systemd with a document; `make` alone lists the targets.
 # SYSCONFDIR/bac/plant.toml is yours to edit: it is installed only where there is none, and `make uninstall` leaves it. PREFIX/share/bac/plant.toml is as it was made.
 PREFIX ?= /usr/local
 SYSCONFDIR ?= /etc
-PROGRAM ?= crates/bac/out/bac
+PROGRAM ?= $(or $(wildcard crates/bac/out/bac),crates/bac/out/bac-unproved)
 LIBRARY ?= crates/bac_c/out/libbac_c.a
 AT = $(DESTDIR)$(PREFIX)
 ETC = $(DESTDIR)$(SYSCONFDIR)

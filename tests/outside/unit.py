@@ -1,5 +1,5 @@
 #!/usr/bin/env python3
-"""Runs the seventh job of docs/COMMANDS.md (a systemd service) as it stands there: unit.py PROGRAM [by-hand]
+"""Runs the job of docs/GUIDE.md about a service of systemd as it stands there: unit.py PROGRAM [by-hand]
 
 As root it lays an overlay over the files of this machine, installs into it with `make install`, and boots systemd there, in namespaces of its own: nothing of this
 machine changes, and no network of it is reached. A second network namespace, with a link to the first, is the other host. Then it does what the job says: the
@@ -68,8 +68,8 @@ class Job:
     """The job, as the document has it: the words that the unit runs, the lines for `systemctl edit`, and the commands."""
 
     def __init__(self):
-        text = (TOP / 'docs/COMMANDS.md').read_text()
-        section = text[text.index('**7. '):text.index('**8. ')]
+        text = (TOP / 'docs/GUIDE.md').read_text()
+        section = re.search(r'\n## \d+\. Run a device as a service\n(.*?)\n## ', text, re.S)[1]
         self.words = shlex.split(re.search(r'The unit runs `bac ([^`]*)`', section)[1])
         self.edit, commands = re.findall(r'\n```\n(.*?\n)```', section, re.S)
         self.commands = commands.splitlines()
@@ -303,6 +303,8 @@ def as_edited(job, machine, asking, told, folder):
     told.check('its first line', following.has(f'listening {job.at}:47808'))
     reads = following.count('read analog-input:1')  # of the unit as it was installed: the last lines come first
     asking.check('a read from the other host', asking.there(OUTDOOR), 'answered real 5.25')
+    asking.check('a write in the first 65 s', asking.there('write analog-value:1 present-value real:22.0'), 'aborted other (0)')
+    time.sleep(WAIT + 1)
     asking.check('a write', asking.there('write analog-value:1 present-value real:22.0'), 'answered written')
     told.check('the write is logged', following.has('write analog-value:1 present-value real 22.0: answered written'))
     told.check('the read is not', following.count('read analog-input:1') == reads)
@@ -476,6 +478,8 @@ def by_hand(program, why):
             words = [word.replace(old, new) if word.startswith(old) else word for word in words]
         server = serve(words)
         ask('a read of what was edited', OUTDOOR, 'answered real 5.25')
+        ask('a write in the first 65 s', 'write analog-value:1 present-value real:22.0', 'aborted other (0)')
+        time.sleep(WAIT + 1)
         ask('a write', 'write analog-value:1 present-value real:22.0', 'answered written')
         told.check('the write is logged', waited(lambda: 'present-value real 22.0: answered written' in said.read_text(), 10))
         server.process.kill()
