@@ -1,5 +1,5 @@
 -- What a node has whose client never asked, and one whose server never served.
-use Rattle.std.proofs.Common.{◌≡◌, ℕ, ◌+◌, ◌⊎◌, Bool, true, false, ◌||◌, Option, Some, None, if◌then◌else◌, nat_eq, refl, sym, ap, inl, inr, ◌∙◌, arith}
+use Rattle.std.proofs.Common.{◌≡◌, ℕ, ◌⊎◌, Bool, true, false, ◌||◌, Option, Some, None, if◌then◌else◌, nat_eq, refl, sym, ap, inl, inr, ◌∙◌, arith}
 use Rattle.std.proofs.lemmas.Bool.Decides.{nat_tests}
 use Rattle.bac_protocol.specs.Client.{ClientTransaction}
 use Rattle.bac_protocol.specs.Server.{ServerTransaction}

@@ -1,16 +1,14 @@
 -- Until when each node's client sends for what it asked.
-use Rattle.std.proofs.Common.{◌≡◌, ℕ, ◌+◌, ◌<◌, ◌≤◌, ◌⊎◌, min, Bool, true, false, ◌&&◌, not, Option, Some, None, if◌then◌else◌, nat_eq, nat_le, nat_lt}
-use Rattle.std.proofs.Common.{refl, sym, ap, subst, inl, inr, ◌∙◌, arith}
+use Rattle.std.proofs.Common.{◌≡◌, ℕ, ◌+◌, ◌<◌, ◌≤◌, ◌⊎◌, min, Bool, true, false, ◌&&◌, not, Option, Some, if◌then◌else◌, nat_eq}
+use Rattle.std.proofs.Common.{refl, sym, subst, inl, inr, ◌∙◌, arith}
 use Rattle.std.proofs.lemmas.Bool.Decides.{nat_tests}
 use Rattle.bac_protocol.specs.Times.{DEADLINE, KEEP, REST}
 use Rattle.bac_protocol.specs.Pace.{Pace, most, clock_at, goes_on}
 use Rattle.bac_protocol.specs.Client as client
 use Rattle.bac_protocol.specs.Client.{Ask, ClientTransaction}
 use Rattle.bac_protocol.specs.Transaction.{Key, Rules, client_context}
-use Rattle.bac_protocol.specs.World.{Net, net_start, client_now, client_acts, set_at, lost, is_lost, is_in_time, is_quiet, asked_at, client_restarted, next_client, passes}
-use Rattle.bac_protocol.proofs.Alone.{one}
+use Rattle.bac_protocol.specs.World.{Net, net_start, client_now, client_acts, set_at, is_lost, is_in_time, is_quiet, asked_at, client_restarted, next_client, passes}
 use Rattle.bac_protocol.proofs.Keys.{decide_key, set_same, set_other}
-use Rattle.bac_protocol.proofs.Sound.{IsSoundAt}
 use Rattle.bac_protocol.proofs.Nets.{NetSound, sound_at, was_there}
 
 -- one ask: its client sends for it no later than that; where another client began at its node, all is over

@@ -32,7 +32,7 @@ use Rattle.bac_protocol.proofs.Resting.{unserved_acts, unserved_acts_away, unser
 use Rattle.bac_protocol.proofs.Sending.{Sends, made_before, sends_asked, sends_client, sends_later, sends_next_client, sends_restarted, sends_start}
 use Rattle.bac_protocol.proofs.ServerKeeps.{server_gets_kept, server_ticks_kept}
 use Rattle.bac_protocol.proofs.Sound.{Says}
-use Rattle.bac_protocol.proofs.StrangerTables.{Away, AwayIn, away_after, away_asked, away_ended, away_later, away_lost, away_more, away_performed}
+use Rattle.bac_protocol.proofs.StrangerTables.{Away, away_after, away_asked, away_ended, away_later, away_lost, away_more, away_performed}
 use Rattle.bac_protocol.proofs.StrangerTables.{away_server_begins, away_server_restarted, away_starts, right_after, right_asked}
 
 pub record Stands (W : ℕ) (n : Net) : Type 0 where
