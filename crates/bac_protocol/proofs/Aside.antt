@@ -9,6 +9,7 @@ use Rattle.bac_protocol.specs.Log.{Fact, Has}
 use Rattle.bac_protocol.specs.Log.Fact.{AskedAway}
 use Rattle.bac_protocol.specs.Transaction.{Key, Rules, client_context, ended_away, served}
 use Rattle.bac_protocol.specs.World.{Net, Strangers, with_node, set_at, begin_of, client_now, client_acts_away, server_acts_away, asked_away_at}
+use Rattle.bac_protocol.proofs.Resting.{Unasked, UnaskedIn, Unserved, UnservedIn, unasked_more, unserved_acts_away}
 
 pub record IsAside (n m : Net) : Type 0 where
   pub asks : ℕ
@@ -17,10 +18,12 @@ pub record IsAside (n m : Net) : Type 0 where
   pub far : Strangers
   pub log : List Fact
   pub grows : (f : Fact) → Has f n.log → Has f log
+  pub unasked : Unasked n → UnaskedIn asked n.tickets n.restarted n.sends_until
+  pub unserved : Unserved n → UnservedIn served n.entries far.entries n.serves_from
   pub is : m ≡ record n { asks = asks; asked = asked; served = served; far = far; log = log }
 
 pub still_aside : (n : Net) → IsAside n n
-still_aside n = record { asks = n.asks; asked = n.asked; served = n.served; far = n.far; log = n.log; grows = λ f h. h; is = refl }
+still_aside n = record { asks = n.asks; asked = n.asked; served = n.served; far = n.far; log = n.log; grows = λ f h. h; unasked = λ h. h; unserved = λ h. h; is = refl }
 
 ended_grows : (number : ℕ) (o : Option Ending) (log : List Fact) (f : Fact) → Has f log → Has f (ended_away number o log)
 ended_grows number None log f h = h
@@ -38,6 +41,8 @@ client_aside n key t r = record {
   far = record (n.far) { tickets = set_at n.far.tickets key (Some (client.after (client_now n key) t r)) };
   log = ended_away (n.far.numbers key) (client.ending_of r) n.log;
   grows = ended_grows (n.far.numbers key) (client.ending_of r) n.log;
+  unasked = λ h. h;
+  unserved = λ h. h;
   is = refl;
 }
 
@@ -49,6 +54,8 @@ server_aside n key v = record {
   far = record (n.far) { entries = set_at n.far.entries key v.entry };
   log = served key (begin_of v.entry) v.effect n.log;
   grows = served_grows key (begin_of v.entry) v.effect n.log;
+  unasked = λ h. h;
+  unserved = λ h. unserved_acts_away n h key v.entry;
   is = refl;
 }
 
@@ -63,5 +70,7 @@ asked_aside x n key ask = record {
   };
   log = AskedAway n.asks key.client key.server (request_of ask) ∷ n.log;
   grows = λ f h. inr h;
+  unasked = λ h. unasked_more n h key.client;
+  unserved = λ h. h;
   is = refl;
 }

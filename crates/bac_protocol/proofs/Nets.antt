@@ -569,7 +569,7 @@ untimed W key w times None nil s =
     record { no_entry = s.no_entry; no_copies = s.no_copies; numbers = s.numbers; counted = s.counted; orderly = s.orderly }
 untimed W key w times (Some t) nil s = absurd cc
 
-pub net_client_begins : (W : ℕ) (n : Net) (node exact : ℕ) → IsUnasked n.tickets n.restarted node → NetSound W n → NetSound W (client_begun n node exact)
+pub net_client_begins : (W : ℕ) (n : Net) (node exact : ℕ) → IsUnasked n.tickets n.restarted n.sends_until node → NetSound W n → NetSound W (client_begun n node exact)
 net_client_begins W n node exact unasked s = record { each = λ key. each key (nat_eq key.client node) refl; apart = s.apart }
   where
     each : (key : Key) (b : Bool) → nat_eq key.client node ≡ b → IsSoundAt W key (n.tickets key)

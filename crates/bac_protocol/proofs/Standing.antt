@@ -1,8 +1,8 @@
 -- What holds of every net to which moves lead. Each step of an end, of time and of a life keeps it.
 use Rattle.std.proofs.Common.{◌≡◌, ℕ, ◌+◌, ◌-◌, ◌≤◌, Bool, true, false, List, [], ◌∷◌, ◌++◌, Option, Some, None, slice_get, if◌then◌else◌, refl, sym, ap, subst, arith}
 use Rattle.bac_apdu.specs.Apdu.{Apdu}
-use Rattle.bac_protocol.specs.Times.{KEEP}
-use Rattle.bac_protocol.specs.Pace.{Pace, IsTimely, clock_at}
+use Rattle.bac_protocol.specs.Times.{DEADLINE, KEEP}
+use Rattle.bac_protocol.specs.Pace.{Pace, IsTimely, clock_at, most}
 use Rattle.bac_protocol.specs.Service.{Ending, Octets}
 use Rattle.bac_protocol.specs.Service.Outcome.{Rejects}
 use Rattle.bac_protocol.specs.Wire.{is_from_client}
@@ -27,7 +27,7 @@ use Rattle.bac_protocol.proofs.Dead.{ended_is_silent}
 use Rattle.bac_protocol.proofs.Keys.{set_nothing}
 use Rattle.bac_protocol.proofs.Nets.{IsLogOf, NetSound, log_away, net_asked, net_away, net_changed, net_client, net_client_begins, net_client_restarted, net_far}
 use Rattle.bac_protocol.proofs.Nets.{net_later, net_log, net_next_client, net_server, net_server_begins, net_server_restarted, net_starts, room_opens, sound_at}
-use Rattle.bac_protocol.proofs.Resting.{Unasked, Unserved, not_active, unasked_acts, unasked_anew, unasked_asks, unasked_more}
+use Rattle.bac_protocol.proofs.Resting.{Unasked, Unserved, not_active, unasked_acts, unasked_anew, unasked_asks, unasked_more, unasked_restarts}
 use Rattle.bac_protocol.proofs.Resting.{unserved_acts, unserved_acts_away, unserved_more, unserved_restarts}
 use Rattle.bac_protocol.proofs.Sending.{Sends, made_before, sends_asked, sends_client, sends_later, sends_next_client, sends_restarted, sends_start}
 use Rattle.bac_protocol.proofs.ServerKeeps.{server_gets_kept, server_ticks_kept}
@@ -48,7 +48,7 @@ start_stands W pace clocks timely = record {
   net = net_starts W pace clocks;
   calm = calm_start pace clocks timely;
   away = away_starts (λ node. clock_at pace (clocks node));
-  unasked = λ node off. record { tickets = λ key is. refl; restarted = refl };
+  unasked = λ node off. record { tickets = λ key is. refl; restarted = refl; sends = refl };
   unserved = λ node off. record { entries = λ key is. refl; away = λ key is. refl; opens = refl };
   sends = sends_start pace clocks;
 }
@@ -92,7 +92,7 @@ module _ (W : ℕ) (n : Net) (s : Stands W n) where
     net = net_client_restarted W n node exact s.net;
     calm = calm_client_restarted n node exact s.calm;
     away = away_lost n node s.away;
-    unasked = unasked_anew n s.unasked node (n.now + 1);
+    unasked = unasked_restarts n s.unasked node;
     unserved = s.unserved;
     sends = sends_restarted W n node exact s.net s.sends;
   }
@@ -132,7 +132,7 @@ module _ (W : ℕ) (n : Net) (s : Stands W n) where
     net = net_next_client W n node exact (made_before n node s.sends quiet) s.net;
     calm = calm_next_client W n node exact s.net s.sends quiet s.calm;
     away = away_lost n node s.away;
-    unasked = unasked_anew n s.unasked node n.now;
+    unasked = unasked_anew n s.unasked node n.now n.sends_until (λ m other none. none);
     unserved = s.unserved;
     sends = sends_next_client n node exact quiet s.sends;
   }
@@ -260,7 +260,7 @@ module _ (W : ℕ) (x : Rules) (bound : IsBounded W x) (n : Net) (s : Stands W n
       net = net_asked W bound.some x n key s.net (spent_stands W n s key free) choice whole front rest;
       calm = calm_asked x n s.calm key (restarted_by n s.calm key free) choice whole (front ∷ rest);
       away = away_more n.server_clocks n.serves_from n.far (Asked n.asks key.client key.server (request_of ask)) n.log tt s.away;
-      unasked = unasked_asks n s.unasked key (Some (client.asked_ticket (client_context x key (client_now n key)) ask));
+      unasked = unasked_asks n s.unasked key (Some (client.asked_ticket (client_context x key (client_now n key)) ask)) (n.now + most n.pace DEADLINE + 1);
       unserved = s.unserved;
       sends = sends_asked x n s.sends key (restarted_by n s.calm key free) ask;
     }
