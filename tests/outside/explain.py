@@ -184,11 +184,11 @@ def are_objects(program, path, watch, title):
 
 
 def is_readme_right(program):
-    """Whether the capture of docs/ is explained as README.md has it."""
+    """Whether the capture of docs/ is drawn as README.md has it."""
     top = Path(__file__).resolve().parents[2]
-    _, _, behind = (top / 'README.md').read_text().partition('$ bac explain docs/lost.pcapng\n')
-    done = subprocess.run([program, 'explain', str(top / 'docs/lost.pcapng')], capture_output=True, text=True, timeout=60)
-    return bool(done.stdout) and behind.startswith(done.stdout)
+    _, _, behind = (top / 'README.md').read_text().partition('$ bac explain --pairs --values docs/lost.pcapng\n')
+    done = subprocess.run([program, 'explain', '--pairs', '--values', str(top / 'docs/lost.pcapng')], capture_output=True, text=True, timeout=60)
+    return bool(done.stdout) and behind.startswith(done.stdout.rstrip('\n'))
 
 
 def selections(seed, frames):
