@@ -3,7 +3,7 @@
 #include <stdio.h>
 #include <string.h>
 
-/* What the standard requires of a device, but what the start computes and protocol-revision (139), which is yours to claim. */
+/* What the standard requires of a device, but what the start computes, and protocol-revision (139) and property-list (371), which are yours to claim. */
 static bac_status list_device(bac_node *node)
 {
     static const struct { uint32_t property; unsigned kind; uint32_t number; } numbers[] = {
