@@ -22,9 +22,11 @@ done
 
 total=0
 : > "$work/said"
-for crate in ${*:-$(ls "$top/tests/edits")}; do
-    cp -R "$top/tests/edits/$crate" "$work/crates/$crate/must-fail"
-    total=$((total + $(ls "$work/crates/$crate/must-fail" | wc -l)))
+cd "$top/tests/edits"
+if [ $# -eq 0 ]; then set -- *; fi
+for crate in "$@"; do
+    cp -R "$crate" "$work/crates/$crate/must-fail"
+    total=$((total + $(find "$crate" -name '*.edit' | wc -l)))
     (cd "$work" && rt must-fail "$crate" < /dev/null) | tee -a "$work/said"
 done
 refused=$(grep -c '^rt: must-fail .*: refused' "$work/said" || true)
