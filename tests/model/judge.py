@@ -11,9 +11,9 @@ from world import after, outcome
 class Judge:
     """Goes through a log from its beginning on."""
 
-    def __init__(self, opening):
-        self.stores = [store for store, _ in opening]
-        self.fresh = [fresh for _, fresh in opening]
+    def __init__(self, beginning):
+        self.stores = [store for _, _, store in beginning]
+        self.fresh = [rules.fresh for _, rules, _ in beginning]
         self.asked, self.replies, self.ended = {}, {}, set()
 
     def does(self, number, request, reply):
@@ -62,7 +62,7 @@ class Judge:
 
 def judge(world):
     """What is wrong with a run, or None."""
-    judging = Judge(world.opening)
+    judging = Judge(world.beginning)
     for fact in world.log:
         wrong = judging.enters(fact)
         if wrong:

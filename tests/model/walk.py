@@ -39,7 +39,7 @@ class Walk:
         return draw((0, 0.1, 0.3, 0.6)), draw((0.1, 0.4)), draw((0, 0.2, 0.5)), draw((0, 0.5, 1))
 
     def draw_manners(self):
-        """How clocks go, by ends: slow, true, fast, or now so and now so. At critical moments all clients are slow and all servers fast, or the other way round."""
+        """How clocks go, by ends: slow, true, fast, or now so and now so; in a tight run all clients slow and all servers fast, or the other way round."""
         draw = self.random
         if self.is_tight and draw.random() < 0.8:
             return draw.choice(((-1, 1), (1, -1))) * NODES
@@ -48,7 +48,8 @@ class Walk:
     def settings(self):
         """Any settings of a node."""
         if self.is_tight:
-            return Settings(Limits(50, True, 100_000), self.random.choice((2, 32)))
+            size = self.random.choice((50, 50, 128)) if 'other settings' in self.bound.happens else 50
+            return Settings(Limits(size, True, 100_000), self.random.choice((2, 32)))
         limits = Limits(self.random.choice((50, 50, 128, 206)), self.random.random() < 0.95, self.random.choice((2, 4, 8, 64, 100_000)))
         return Settings(limits, self.random.choice((1, 2, 3, 8, 32, 64)))
 
@@ -197,7 +198,8 @@ class Walk:
         if e.begin == end.shows:
             self.at(self.last(end, e.begin + self.setup.times.keep) + self.beside(), self.do, 'tick_server', key[1])
             if 'server restarts' in self.bound.happens and self.random.random() < 0.4:
-                self.at(self.world.now + self.random.choice((0, 0, 1, 5_000 * self.parts, self.random.randrange(70_000 * self.parts))), self.restart_server, key[1])
+                after = self.random.choice((0, 0, 1, 5_000 * self.parts, self.random.randrange(70_000 * self.parts)))
+                self.at(self.world.now + after, self.restart_server, key[1])
 
     def restart_server(self, number):
         """A server restarts, and requests on their way may come when it begins entries again."""
@@ -233,6 +235,8 @@ class Walk:
         if draw.random() < 0.7:
             self.at(self.last(end, t.first + times.deadline) + self.beside(), self.do, 'tick_client', key[0])
         self.at(self.first(end, t.first + times.hold + 1) + self.beside(), self.ask, key)
+        if draw.random() < 0.3:
+            self.at(self.world.now + draw.choice((1, 3_000, 70_000, draw.randrange(135_000))) * self.parts, self.ask, key)
         if 'client restarts' in self.bound.happens and draw.random() < 0.6:
             ends = (self.world.now, self.last(end, t.first + times.deadline), self.world.now + draw.randrange(140_000 * self.parts))
             self.at(draw.choice(ends), self.restart_client, key)

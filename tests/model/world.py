@@ -5,7 +5,7 @@ their meaning. An APDU carries no invoke ID here, since a copy has its transacti
 """
 
 from collections import Counter
-from typing import NamedTuple, Optional
+from typing import Callable, NamedTuple, Optional
 
 import client
 import server
@@ -45,12 +45,18 @@ class Pace(NamedTuple):
         return (MILLION * (self.grain * self.step * (milliseconds // self.step) + 1) - 1) // (MILLION + self.drift)
 
 
+def greatest_overtake(window):
+    """How many later copies of its transaction may overtake one, where windows are so great."""
+    return 255 - 2 * window
+
+
 class Setup(NamedTuple):
-    """What never changes in a run. A transfer of at most `short` pieces each way knows no limit on overtaking."""
+    """What never changes in a run. Transactions whose transfers have at most `short` pieces know no limit on overtaking."""
 
     times: Times = Times()
     pace: Pace = Pace()
-    overtake: int = 127
+    window: int = 64  # the greatest of all nodes
+    overtake: Callable[[int], int] = greatest_overtake
     short: int = 256
     quiet_less: int = 0  # another client begins so many parts of real time too soon
     guards_begin: bool = True  # a node that asked or served does not begin
@@ -111,8 +117,8 @@ class World:
     """The whole."""
 
     def __init__(self, setup, nodes):
-        self.setup, self.nodes = setup, nodes
-        self.opening = [(node.store, node.rules.fresh) for node in nodes]
+        self.setup, self.nodes, self.overtake = setup, nodes, setup.overtake(setup.window)
+        self.beginning = [(node.client.settings, node.rules, node.store) for node in nodes]
         self.ends = [end for node in nodes for end in (node.client, node.server)]
         self.now, self.asks, self.log, self.events = 0, 0, [], []
         self.copies, self.sent, self.numbers, self.pieces = {}, Counter(), {}, Counter()
@@ -138,7 +144,7 @@ class World:
         """A copy may arrive while it is young and, in a transaction with long transfers, not overtaken by too many."""
         setup = self.setup
         later = self.sent[copy.key] - copy.place - 1
-        return self.now - copy.moment <= setup.pace.life and (later <= setup.overtake or self.pieces[copy.key] <= setup.short)
+        return self.now - copy.moment <= setup.pace.life and (later <= self.overtake or self.pieces[copy.key] <= setup.short)
 
     # Asks.
 
