@@ -124,7 +124,7 @@ class Transfers:
             if type(self.world.copies[name].apdu) is SegmentAck and self.loses_windows:
                 self.queue.clear()
             return name
-        if self.full_windows == self.stumbles_after:
+        if self.queue and self.full_windows == self.stumbles_after:
             self.full_windows += 1
             return self.queue[-1]
         if draw < self.disorder:
