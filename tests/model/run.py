@@ -2,9 +2,9 @@
 """Random runs at each bound of the headline, and one step beyond it: run.py [BOUND..] [--runs N] [--seed S] [--jobs N] [--plant NAME] [--show]
 
 Prints a line for each bound: how many runs there were at it, and how many of them were wrong; then, one step beyond, how many of how many, until ten were.
-Where none is known to go wrong one step beyond, a fifth as many are tried, and the first step that does follows. With --plant a wrong machine runs at a bound until it is found ('all': each
-of them). With --show the first wrong run of each kind is printed, made as short as may be. The status is 0 if all was right at the bounds, if runs went wrong
-beyond them (or at the first step that is known to), and if planted machines were found; otherwise 1.
+Where none is known to go wrong there, a fifth as many are tried, and the first step that is known to go wrong follows. With --plant a wrong machine runs at a
+bound until it is found ('all': each of them). With --show the first wrong run of each kind is printed, made as short as may be. The status is 0 if all was
+right at the bounds, if runs went wrong beyond them (or at that first step), and if planted machines were found; otherwise 1.
 """
 
 import sys

@@ -4,7 +4,7 @@ One ask, whose request or reply has some hundred pieces. Copies arrive mostly in
 old copy is of, and lets it arrive where its number would be taken for another's.
 """
 
-from collections import defaultdict, deque
+from collections import deque
 
 import client
 from server import Rules
@@ -24,10 +24,10 @@ class Transfers:
         self.random, self.name, self.most = random, 0, random.choice(bound.windows)
         self.setup = setup._replace(window=self.most)
         self.world = World(self.setup, [self.node(window) for window in self.windows()])
-        self.queue, self.old, self.whole = deque(), defaultdict(list), {}
+        self.queue, self.whole, self.segments, self.acks = deque(), {}, {Request: {}, ComplexAck: {}}, {True: {}, False: {}}
         long = random.choice(bound.pieces or [setup.short - less for less in (0, 0, 0, 1, 50)])
         self.pieces = random.choice(((long, 1), (long, 1), (1, long), (1, long), (long, long)))  # of the request, and of the reply
-        self.disorder, self.is_greedy, self.drops_answers = random.choice((0, 0, 0.005, 0.02)), random.random() < 0.7, random.random() < 0.3
+        self.disorder, self.is_greedy, self.drops_answers = random.choice((0, 0, 0.005, 0.02)), random.random() < 0.7, random.random() < 0.2
         self.misreads = random.choice((('segments',), ('acks',), ('segments', 'acks')))
         self.loses_windows = random.random() < 0.5  # where a SegmentACK was misread, what was just sent is late
         self.full_windows, self.stumbles_after = 0, random.randrange(1, 10)  # after so many a segment arrives too early, and again in its turn
@@ -57,14 +57,13 @@ class Transfers:
         if kind is SegmentAck:
             receiver = self.entry() if apdu.by_server else self.ticket()
             whole = len(receiver.inc.parts) - 1 if receiver.inc else self.pieces[0 if apdu.by_server else 1] - 1
-            place = 'acks', apdu.by_server, apdu.number
+            self.acks[apdu.by_server].setdefault(apdu.number, []).append(name)
         elif kind in (Request, ComplexAck) and apdu.segment is not None:
             whole = apdu.octets[0][1] // (REQUEST_PIECE if kind is Request else REPLY_PIECE)
-            place = kind, True, apdu.segment.number
+            self.segments[kind].setdefault(apdu.segment.number, []).append(name)
         else:
             return
         self.whole[name] = whole
-        self.old[place].append(name)
 
     def ticket(self):
         return self.world.nodes[0].client.table[KEY[1:]]
@@ -75,23 +74,26 @@ class Transfers:
     # What arrives next.
 
     def young(self, names, meant):
-        """The newest of these copies that may arrive and is not of the meant pieces."""
+        """The newest of these copies that is not of the meant piece, if it may arrive."""
         for name in reversed(names):
-            if self.whole[name] not in meant:
+            if self.whole[name] != meant:
                 return name if self.world.is_deliverable(self.world.copies[name]) else None
         return None
 
     def misread_segment(self, inc, kind):
         """A copy of another piece that a receiver would take for the next one."""
         taken = len(inc.parts)
-        return self.young(self.old[kind, True, taken % NUMBERS], (taken,))
+        return self.young(self.segments[kind].get(taken % NUMBERS, ()), taken)
 
     def misread_ack(self, out, by_server):
-        """A SegmentACK of another piece that a sender would take for one of its window."""
-        for piece in range(out.first + out.in_window() - 1, out.first - 1, -1):
-            name = self.young(self.old.get(('acks', by_server, piece % NUMBERS), ()), (piece,))
-            if name:
-                return name
+        """A SegmentACK of another piece that a sender would take for one of its window, the last it can."""
+        acks, window = self.acks[by_server], out.in_window()
+        numbers = acks if len(acks) < window else [(out.first + ahead) % NUMBERS for ahead in range(window)]
+        for ahead in sorted(((number - out.first) % NUMBERS for number in numbers), reverse=True):
+            if ahead < window:
+                name = self.young(acks.get((out.first + ahead) % NUMBERS, ()), out.first + ahead)
+                if name:
+                    return name
         return None
 
     def misread(self):
@@ -111,7 +113,7 @@ class Transfers:
         t, e = self.ticket(), self.entry()
         for inc, kind, pieces in ((e and e.inc, Request, self.pieces[0]), (t.inc, ComplexAck, self.pieces[1])):
             if inc and len(inc.parts) > 1 and len(inc.parts) % NUMBERS == (pieces - 1) % NUMBERS and len(join(inc.parts)) > 1:
-                name = next((name for name in reversed(self.old[kind, True, (pieces - 1) % NUMBERS]) if self.whole[name] == pieces - 1), None)
+                name = next((name for name in reversed(self.segments[kind].get((pieces - 1) % NUMBERS, ())) if self.whole[name] == pieces - 1), None)
                 if name and self.world.is_deliverable(self.world.copies[name]):
                     return name
         return None

@@ -94,13 +94,15 @@ class Node:
 
 
 def outcome(store, choice, octets):
-    """What a store says to a request. A text's number tells how long a reply it wants: 1 an Error, 2 a Reject."""
-    wanted = octets[0][0] % 100_000
+    """What a store says to a request. A text's number tells how long a reply it wants (1: an Error, 2: a Reject), and whether that depends on the store."""
+    serial, wanted = octets[0][0] // 10**10, octets[0][0] % 100_000
     if wanted == 2:
         return 'rejected', 9
     if wanted == 1:
         return 'error', store % 97
-    return ('simple',) if choice == 15 else ('complex', ((hash((store, octets)), 0, wanted),))
+    if choice == 15:
+        return ('simple',)
+    return 'complex', ((hash((store, octets)), 0, wanted + (50 if serial % 2 == 0 and store % 2 else 0)),)
 
 
 def after(store, choice, octets):
