@@ -1,7 +1,7 @@
 #!/usr/bin/env python3
-"""Runs that specs/Examples, Edges, Drift, Beyond and LateStarts of crates/bac_protocol compute, played by the model: computed.py
+"""Runs that the definitions compute (Examples, Edges, Drift, Beyond and LateStarts in crates/bac_protocol/specs), played by the model: computed.py
 
-A script has words: `ask`; `d5` delivers copy 5, `n5` where no slot is free, `d2..9` copies 2 to 9; `e10` lets 10 ms pass; `tick`, `client` and `server` tick;
+A script has words. `ask`; `d5` delivers copy 5, `n5` where no slot is free, `d2..9` copies 2 to 9; `e10` lets 10 ms pass; `tick`, `client` and `server` tick;
 `restart-client`, `restart-server`, `begin0:7` and `again` start ends, with clocks at 0 or at 7. What was sent and logged has to be what the definitions compute:
 `q` is a request, `r` a reply, `q3` and `r3` their segments, `+3` and `-3` SegmentACKs, `x` an Abort.
 """

@@ -143,13 +143,15 @@ class Transfers:
         return self.drops_answers and type(apdu) is ComplexAck and (apdu.segment is None or apdu.segment.number == 0) and self.random.random() < 0.8
 
     def run(self):
-        """The run, until its ask ends or all is still."""
+        """The run, until its ask has ended and all that was sent for it has arrived."""
         texts = [(count - 1) * size + SHORT for count, size in zip(self.pieces, (REQUEST_PIECE, REPLY_PIECE))]
         self.do('ask', KEY, 7, (100_000 + texts[0] - 1) * 100_000 + texts[1], SIZE)
         most = 8 * sum(self.pieces) + 200
-        while self.ticket().phase != 'idle' and self.name < most:
+        while self.name < most:
             name = self.next_copy()
             if name is None:
+                if self.ticket().phase == 'idle':
+                    break
                 self.wait()
             elif not self.is_withheld(name):
                 self.do('deliver', name, True)

@@ -133,15 +133,16 @@ class Walk:
         """How a run begins."""
         draw, happens = self.random, self.bound.happens
         for number in range(NODES):
-            late = draw.choice((0, 3_000, 65_001, 100_000)) * self.setup.pace.grain if 'late starts' in happens and draw.random() < 0.5 else 0
-            self.at(late - 1 if late == 0 else late, self.do, 'begin', number, self.exact())
+            self.do('begin', number, self.exact())
+            if 'late starts' in happens and draw.random() < 0.5:
+                self.at(draw.choice((3_000, 65_001, 100_000)) * self.setup.pace.grain, self.do, 'begin', number, self.exact())
         start = draw.choice((0, 0, self.parts - 1, 2_000 * self.parts))
         self.at(start, self.ask, (0, 1, 0))
         for _ in range(draw.choice((0, 0, 0, 1) if self.is_tight else (0, 1, 2))):
             self.at(draw.choice((start, draw.randrange(150_000) * self.parts)), self.other)
 
     def other(self):
-        """Something beside the ask that the run is about."""
+        """Something beside the ask that the run is about: a node's own change, another's ask, an ask of a stranger, or noise that is any APDU of a stranger."""
         draw = self.random
         word = draw.randrange(5)
         if word == 0:
@@ -164,7 +165,7 @@ class Walk:
         return self.random.randrange(life + 1) if draw > 0.9 else 0
 
     def is_prompt(self):
-        """Copies arrive at once: so do most of those after the first ask, where everything is to happen at critical moments."""
+        """A copy arrives at once: in a tight run so do most of those after an ask that is not the first of its transaction."""
         return self.is_tight and len(self.world.numbers) < self.world.asks and self.random.random() < 0.8
 
     def follow_copy(self, name):

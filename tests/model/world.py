@@ -1,7 +1,8 @@
 """Nodes with their clocks, the network between them, and the log, as World, Pace and Log of crates/bac_protocol/specs state them.
 
 Each event has a name of its own, and a copy is named by the event that sent it and its place there: so events may be left out of a run and the others keep
-their meaning. An APDU carries no invoke ID here, since a copy has its transaction: (client, server, invoke ID). A stranger is a negative number.
+their meaning. An APDU carries no invoke ID here, since a copy has its transaction: (client, server, invoke ID). A stranger is a negative number. Octets that
+mean no APDU change nothing, so there are none here.
 """
 
 from collections import Counter
