@@ -1,5 +1,5 @@
 #!/usr/bin/env python3
-"""Random runs at each bound of the headline, and one step beyond it: run.py [BOUND..] [--runs N] [--seed S] [--jobs N] [--plant NAME] [--show]
+"""Random runs at each bound of the headline, and one step beyond it: run.py [BOUND..] [--runs N] [--first N] [--seed S] [--jobs N] [--plant NAME] [--show]
 
 Prints a line for each bound: how many runs there were at it, and how many of them were wrong; then, one step beyond, how many of how many, until ten were.
 Where none is known to go wrong there, a fifth as many are tried, and the first step that is known to go wrong follows. With --plant a wrong machine runs at a
@@ -40,7 +40,8 @@ def count(pool, bound, side, words, enough=None):
     runs = words.runs or bound.runs
     if side == 'beyond' and bound.far is not None:
         runs = -(-runs // 5)
-    works = ((bound.name, side, words.seed, range(first, min(first + CHUNK, runs))) for first in range(0, runs, CHUNK))
+    numbers = range(words.first, words.first + runs)
+    works = ((bound.name, side, words.seed, numbers[place:place + CHUNK]) for place in range(0, runs, CHUNK))
     done, wrong = 0, []
     for number, found in pool.imap(chunk, works):
         done, wrong = done + number, wrong + found
@@ -94,6 +95,7 @@ def main():
     parser = argparse.ArgumentParser(description=__doc__, formatter_class=argparse.RawDescriptionHelpFormatter)
     parser.add_argument('bounds', nargs='*', metavar='BOUND', help=', '.join(names))
     parser.add_argument('--runs', type=int, help='at each bound, and at most beyond it')
+    parser.add_argument('--first', type=int, default=0, help='the number of the first run, so that a series can be made in parts')
     parser.add_argument('--seed', default='1')
     parser.add_argument('--jobs', type=int, default=2)
     parser.add_argument('--plant', choices=[*PLANTS, 'all'])
