@@ -89,7 +89,8 @@ typedef struct bac_settings {
                               too; another one is answered by Abort 0. So a peer gets at most 256 new requests in 65,000 ms.
                               true: a read whose reply is one APDU is performed each time that it comes, and takes no slot; a longer reply holds its slot until
                               its last segment is acknowledged, or the peer aborts it. Another request ends the kept reply and is performed. A write that
-                              equals the last request under its invoke ID, within 65,000 ms, is a repeat: it gets the old answer and is not performed again.
+                              equals the last request of the same peer under its invoke ID, within 65,000 ms, is a repeat: it gets the old answer and is not
+                              performed again, even if bac_set_value changed the value since.
                               So is a request in segments, if the last one had the same service and first segment, or more than 256 segments */
     uint8_t later[3];      /* 0: room for members of later versions */
     uint32_t memory;       /* how many octets of requests and replies it keeps for those that ask it, 65,540 and more; 0: 67,108,864. Set 131,072 or more: a
