@@ -1,5 +1,5 @@
 /* bac.h: a proved BACnet/IP node (ReadProperty, WriteProperty, AtomicReadFile, AtomicWriteFile, with segmentation in both directions; ANSI/ASHRAE 135) inside
- * a program of your own. You keep the socket, the clock and the objects; the node answers and asks. docs/C.md begins with an example.
+ * a program of your own. You keep the socket, the clock and the objects; the node answers and asks. docs/C.md explains the words, and leads to a first program.
  *
  * Link libbac_c.a and a heap (examples/c/heap.c), or the archive of `make install`, which has one. C99 and C++, on x86-64 (of level x86-64-v2) and aarch64
  * Linux. The library has no target of 32 bits.
@@ -7,14 +7,15 @@
  * Rules of every call
  * - A bac_node begins as BAC_NODE_EMPTY, is never copied, and its members are never touched. Used before bac_open, opened twice, used after bac_close or closed
  *   twice, it does no harm: a call with a status answers BAC_NOT_OPEN or BAC_ALREADY_OPEN, any other 0 or false (bac_next_due: UINT64_MAX).
- * - After a status that is not BAC_OK the node is as it was, and no ticket or length is put out. After BAC_NO_MEMORY the same call may be made again: wait
- *   before that, as what was due stays due, and bac_next_due stays in the past. A datagram that is not heard is lost, and its sender repeats it.
+ * - After a status that is not BAC_OK the node is as it was, and no ticket or length is written to its place. After BAC_NO_MEMORY the same call may be made
+ *   again: wait before that, as what was due stays due, and bac_next_due stays in the past. A datagram that is not heard is lost, and its sender repeats it.
  * - A call whose node is const leaves the node as it was. Even so, no other call of that node may run beside it.
  * - Moments are milliseconds of one clock that never goes back, from any start.
  * - A link is four octets of IPv4 address and two of UDP port, the high one first, as sockaddr_in has them.
  * - Octets are given by address and number, and stay the caller's. A call that copies octets out returns how many there are; where they are more than there is
  *   room, it copies none.
- * - What came of a call (bac_sends to bac_cause) is there to be read until the next bac_on, bac_tick, bac_ask_.., bac_start.. or bac_close that succeeds.
+ * - What came of a call (bac_sends to bac_cause) is there to be read until the next bac_on, bac_tick, bac_ask_.., bac_start.. or bac_close that succeeds. So
+ *   read all of it after each.
  *
  * What the program promises (nothing checks it)
  * - Each pointer is valid for the call, never null (but that of bac_close), also where the number is 0, and no two of one call overlap. A bool is 0 or 1.
@@ -63,8 +64,9 @@ typedef enum bac_status {
     BAC_SELF_PEER = 11,       /* the peer is at the node's own link */
     BAC_TOO_LONG = 12,        /* more octets than can be sent (65,535 of a request), or kept */
     BAC_NEEDS_SEGMENTS = 13,  /* the peer takes no segments, or fewer than are needed */
-    BAC_NO_INVOKE_ID = 14,    /* all 256 invoke IDs are held for that peer, each as long as BAC_NO_SLOT says, or the node restarted less than 75,001 ms ago */
-    BAC_NO_SLOT = 15,         /* all client slots are held: each until 135,000 ms after its ask was first sent, also once that has ended */
+    BAC_NO_INVOKE_ID = 14,    /* all 256 invoke IDs are held for that peer, each for 135,000 ms from when its ask was first sent, even if that has ended; or
+                                 the node restarted less than 75,001 ms ago */
+    BAC_NO_SLOT = 15,         /* all client slots are held, each as long as an invoke ID */
     BAC_NO_SUCH_OBJECT = 16,
     BAC_NO_SUCH_PROPERTY = 17,
     BAC_BAD_VALUE = 18        /* a value that the property cannot have, or a kept cell that does not fit */
@@ -87,12 +89,14 @@ typedef struct bac_settings {
                               too; another one is answered by Abort 0. So a peer gets at most 256 new requests in 65,000 ms.
                               true: a read whose reply is one APDU is performed each time that it comes, and takes no slot; a longer reply holds its slot until
                               its last segment is acknowledged, or the peer aborts it. Another request ends the kept reply and is performed. A write that
-                              equals the last request under its invoke ID, within 65,000 ms, is a repeat: it gets the old answer and is not performed again.
+                              equals the last request of the same peer under its invoke ID, within 65,000 ms, is a repeat: it gets the old answer and is not
+                              performed again, even if bac_set_value changed the value since.
                               So is a request in segments, if the last one had the same service and first segment, or more than 256 segments */
     uint8_t later[3];      /* 0: room for members of later versions */
-    uint32_t memory;       /* how many octets of requests and replies it keeps for those that ask it, 65,540 and more; 0: 67,108,864. A request that can make
-                              it keep more, and each of its segments, needs room for 65,539 octets beside its own: what has none is not heard, and
-                              bac_on answers BAC_NO_MEMORY. A repeat of a request that was received whole needs none */
+    uint32_t memory;       /* how many octets of requests and replies it keeps for those that ask it, 65,540 and more; 0: 67,108,864. Set 131,072 or more: a
+                              new request, and each of its segments, is heard only if 65,539 octets are free beside its own; otherwise bac_on answers
+                              BAC_NO_MEMORY. No room is needed by a repeat of a request that was received whole, or, with reuse_invoke_ids, by a read
+                              whose reply is one APDU. The heap may hold twice as many octets, and 2 kB a slot in use */
 } bac_settings;
 
 /* APDUs of 1476 octets, any number of segments, windows of 32, 64 slots at each end (64 asks in 135,000 ms, 64 requests in 65,000), at that link; clients may
@@ -101,7 +105,7 @@ typedef struct bac_settings {
     { sizeof(bac_settings), { (uint8_t)(a), (uint8_t)(b), (uint8_t)(c), (uint8_t)(d), (uint8_t)(port_high), (uint8_t)(port_low) }, \
       5, true, 7, 32, 64, 64, false, { 0 }, 0 }
 
-/* Whom a node asks, and what that takes; codes as above. */
+/* Whom a node asks, and what that device takes; codes as in bac_settings. It has no network number: a node asks nothing behind a router. */
 typedef struct bac_target {
     uint8_t link[6];
     uint8_t max_apdu;
@@ -125,11 +129,11 @@ typedef enum bac_how {
     BAC_ERROR = 2,     /* class and code */
     BAC_REJECT = 3,    /* code is the reason */
     BAC_ABORT = 4,     /* code is the reason */
-    BAC_TIMED_OUT = 5, /* nothing came */
-    BAC_EXPIRED = 6,   /* no end came within 60,000 ms */
-    BAC_CONTENT = 7,   /* a file was read: the octets from position on; code is 1 where they reach its end */
-    BAC_PLACED = 8     /* a file was written from position on */
-} bac_how;
+    BAC_TIMED_OUT = 5, /* no answer to any of its tries */
+    BAC_EXPIRED = 6,   /* no whole answer within 60,000 ms */
+    BAC_CONTENT = 7,   /* a file was read: the octets begin at `position` in the file; code is 1 if they reach its end, otherwise 0 */
+    BAC_PLACED = 8     /* a file was written: the octets begin at `position` in the file */
+} bac_how;             /* after BAC_ABORT, BAC_TIMED_OUT and BAC_EXPIRED the request may have been performed all the same */
 
 /* How an ask ended. */
 typedef struct bac_ending {
@@ -186,8 +190,8 @@ typedef struct bac_refused {
 #error "64-bit targets only"
 #endif
 
-/* How the library lays out what you hand it and what it puts out. A compiler that does so otherwise, by an option such as -fshort-enums or -fpack-struct, stops
- * here. */
+/* How the library lays out what you hand it and what it writes to. A compiler that does so otherwise, by an option such as -fshort-enums or -fpack-struct,
+ * stops here. */
 #define BAC_LAYOUT(type, octets, last, at) extern const char bac_layout[sizeof(type) == (octets) && offsetof(type, last) == (at) ? 1 : -1]
 BAC_LAYOUT(bac_node, 16, at, 8);
 BAC_LAYOUT(bac_settings, 48, memory, 44);
@@ -245,7 +249,8 @@ bac_status bac_allow(bac_node *node, const uint8_t *octets, size_t len);
 /* Gives the object that was listed last, a file, its octets. BAC_BAD_OBJECT exactly where no object is listed. Otherwise as bac_add_object. */
 bac_status bac_add_file(bac_node *node, const uint8_t *octets, size_t len, bool writable);
 
-/* Starts the node with the objects that are listed, which stay listed where it is not started. It never ran before: see bac_start_restarted.
+/* Starts the node with the objects that are listed; if it refuses, they stay listed. For a node that never ran at this link before; at each later start call
+ * bac_start_restarted, or bac_start_kept.
  * BAC_NOT_OPEN; BAC_ALREADY_STARTED; BAC_BAD_SETTINGS; BAC_NO_MEMORY; BAC_DUPLICATE; BAC_BAD_OBJECT where an object has a type, instance, property or value
  * that none can have, a property twice, a name of more than 4,091 octets, values of more than 4,096, a file of more than 60,000, or is a file without octets
  * or octets without a file. The first that holds comes, and memory may be refused before the objects are looked at. bac_start_problem says which object it
@@ -253,14 +258,14 @@ bac_status bac_add_file(bac_node *node, const uint8_t *octets, size_t len, bool 
 bac_status bac_start(bac_node *node, const bac_settings *settings);
 
 /* The same at a moment, for a node that ran before, at this link, and lost what it remembered: its program or its host was started anew. List the objects as
- * they are now. Up to 65,000 ms after it each new request is turned away (Abort, reason 0), so that none of the earlier life is performed twice, and up to
- * 75,000 ms each ask is refused (BAC_NO_INVOKE_ID). */
+ * they are now. For 65,000 ms each new request is turned away (Abort, reason 0), so that none of the earlier life is performed twice; but with
+ * reuse_invoke_ids a read whose reply is one APDU is performed. For 75,000 ms each ask is refused (BAC_NO_INVOKE_ID). */
 bac_status bac_start_restarted(bac_node *node, const bac_settings *settings, uint64_t now);
 
-/* Puts out the first object that bac_start refuses, and why: unless another flaw comes first, BAC_DUPLICATE is BAC_FLAW_SAME_IDENTIFIER here, at the later
- * one of the two. BAC_FLAW_NONE comes exactly where it takes all that are listed. The first of these flaws that the object has comes: BAC_FLAW_TYPE, _INSTANCE, _NAME, _FILE,
- * _SAME_IDENTIFIER, and then of its first property that has one _NUMBER, _TWICE, _VALUES, _LIMITS. bac_start_described has other rules: see bac_problem. The
- * node stays as it was. BAC_NOT_OPEN; BAC_ALREADY_STARTED; BAC_NO_MEMORY. */
+/* Writes to refused the first object that bac_start refuses, and why; BAC_FLAW_NONE exactly where it takes all that are listed. Not for
+ * bac_start_described, which has other rules: see bac_problem. The first of these flaws that the object has comes: BAC_FLAW_TYPE, _INSTANCE, _NAME, _FILE,
+ * _SAME_IDENTIFIER, and then of its first property that has one _NUMBER, _TWICE, _VALUES, _LIMITS. So BAC_DUPLICATE is _SAME_IDENTIFIER here, at the later one
+ * of the two, unless another flaw comes first. The node stays as it was. BAC_NOT_OPEN; BAC_ALREADY_STARTED; BAC_NO_MEMORY. */
 bac_status bac_start_problem(const bac_node *node, bac_refused *refused);
 
 /* Starts the node as bac_start does, with objects of any type and any properties: those that a document with `described = true` has. The object-list of the
@@ -272,8 +277,8 @@ bac_status bac_start_described(bac_node *node, const bac_settings *settings);
 /* The same for a node that ran before, as bac_start_restarted. */
 bac_status bac_start_described_restarted(bac_node *node, const bac_settings *settings, uint64_t now);
 
-/* Puts out the first object that bac_start_described refuses; BAC_FLAW_NONE where it takes all that are listed. The node stays as it was. BAC_NOT_OPEN;
- * BAC_ALREADY_STARTED; BAC_NO_MEMORY. */
+/* Writes to refused the first object that bac_start_described refuses, and why; BAC_FLAW_NONE where it takes all that are listed. Not for bac_start: see
+ * bac_start_problem. The node stays as it was. BAC_NOT_OPEN; BAC_ALREADY_STARTED; BAC_NO_MEMORY. */
 bac_status bac_problem(const bac_node *node, bac_refused *refused);
 
 /* ---- through a power cut: what the network may write, kept by the program in cells. docs/C.md, "Through a power cut", has the order of the calls.
@@ -283,15 +288,16 @@ bac_status bac_problem(const bac_node *node, bac_refused *refused);
  * many those are. What the network may not write has none: list it as it is. */
 
 /* Lists a cell that was kept, in any order, and instead of an earlier one of that place. BAC_BAD_OBJECT where the number is a place of no type, instance,
- * property or part of a file, whichever the objects are; all else is looked at by bac_start_kept. BAC_NOT_OPEN, BAC_ALREADY_STARTED, BAC_NO_MEMORY. The other starts leave these cells out of account. */
+ * property or part of a file, whichever the objects are; all else is looked at by bac_start_kept. BAC_NOT_OPEN, BAC_ALREADY_STARTED, BAC_NO_MEMORY. The starts
+ * that are not _kept ignore these cells. */
 bac_status bac_add_kept(bac_node *node, uint64_t place, const uint8_t *octets, size_t len);
 
-/* Starts the node as bac_start_restarted does, and each property and file that the network may write has what the listed cells have of it, where they have
- * something; limits and lists of values do not hold here. A cell has no effect if there is no such property or file any more, or the network may not write it
- * any more. Otherwise as bac_start_restarted, and after those BAC_BAD_VALUE where a cell does not fit: the property has another kind now, or of a file a part is
- * missing, a part has another length than its place allows (the last one 1 to 1,024 octets, each before it 1,024), or all parts together more than 60,000
- * octets. Memory may be refused before that. The place of the cell, of a file that of the number of its parts, is put out with BAC_BAD_VALUE alone; all stays
- * listed, and another cell of that place may be listed before the next start. */
+/* Starts the node as bac_start_restarted does. Then each property and file that the network may write, and of which cells are listed, has what they hold;
+ * limits and lists of values do not matter here. A cell has no effect if its property or file is gone, or if the network may no longer write it.
+ * The statuses are those of bac_start_restarted, and after these BAC_BAD_VALUE if a cell does not fit. Of a property: it has another kind now. Of a file: a
+ * part is missing, a part has a wrong length (the last one 1 to 1,024 octets, each before it 1,024), or all parts have more than 60,000 octets. Memory may be
+ * refused before that. With BAC_BAD_VALUE, and only then, the place of that cell is written to place: of a file that of the number of its parts. All stays
+ * listed, and you may list another cell of that place before the next start. */
 bac_status bac_start_kept(bac_node *node, const bac_settings *settings, uint64_t now, uint64_t *place);
 
 /* The same with objects of any type, as bac_start_described_restarted. */
@@ -303,7 +309,8 @@ bac_status bac_start_house(bac_node *node, const bac_settings *settings);
 
 /* ---- datagrams and time */
 
-/* A datagram came. BAC_NOT_OPEN, BAC_NOT_STARTED, BAC_CLOCK_BACK; BAC_NO_MEMORY, never where the datagram is dropped. */
+/* A datagram came: its whole UDP payload, from the octet 0x81 (BVLC) on. BAC_NOT_OPEN, BAC_NOT_STARTED, BAC_CLOCK_BACK; BAC_NO_MEMORY, never where the
+ * datagram is dropped. */
 bac_status bac_on(bac_node *node, uint64_t now, const uint8_t from[6], const uint8_t *octets, size_t len);
 
 /* Does all that is due, or nothing: repeats, and asks that end. BAC_NOT_OPEN, BAC_NOT_STARTED, BAC_CLOCK_BACK, BAC_NO_MEMORY: then wait, as all stays due. */
@@ -313,11 +320,11 @@ bac_status bac_tick(bac_node *node, uint64_t now);
  * that waits until then has to wait some milliseconds more after BAC_NO_MEMORY, or it spins. */
 uint64_t bac_next_due(const bac_node *node);
 
-/* ---- asks: each puts out a ticket, which bac_end names later
+/* ---- asks: requests of this node to another device. Each ask has a ticket, which bac_end names later; send what bac_send has, as after bac_on
  *
  * BAC_NOT_OPEN; BAC_NOT_STARTED; BAC_BAD_REQUEST exactly where a number is outside its range or the octets to be written are no data. Then the first of
  * BAC_CLOCK_BACK, BAC_SELF_PEER, BAC_TOO_LONG, BAC_NEEDS_SEGMENTS, BAC_NO_INVOKE_ID and BAC_NO_SLOT that holds, or BAC_NO_MEMORY: memory may be refused before
- * these are looked at. The ticket is put out with BAC_OK alone. */
+ * these are looked at. The ticket is written with BAC_OK alone. */
 
 bac_status bac_ask_read(bac_node *node, uint64_t now, const bac_target *target, const bac_reference *reference, uint64_t *ticket);
 
@@ -341,19 +348,20 @@ bac_status bac_ask_get(bac_node *node, uint64_t now, const bac_target *target, u
 /* ---- what came of the last call */
 
 /* How many datagrams are to be sent, and each, in order: where it goes, and its octets (at most 1,514). At an index that is not below bac_sends 0, and nothing
- * is put out. */
+ * is written. */
 size_t bac_sends(const bac_node *node);
 size_t bac_send(const bac_node *node, size_t index, uint8_t to[6], uint8_t *out, size_t room);
 
-/* How many asks have ended, and how each did, with the octets that came. At an index that is not below bac_ends 0, and nothing is put out. */
+/* How many asks have ended, and how each did, with the octets that came: look after each bac_on and each bac_tick. At an index that is not below bac_ends 0,
+ * and nothing is written. */
 size_t bac_ends(const bac_node *node);
 size_t bac_end(const bac_node *node, size_t index, bac_ending *ending, uint8_t *out, size_t room);
 
 /* The request that was performed, with the octets that it asks to write: where act->service is 7 or 15 and act->done holds, they were written: act on it. */
 size_t bac_performed(const bac_node *node, bac_act *act, uint8_t *out, size_t room);
 
-/* Whether that request wrote something, and puts out what: a property, or, with BAC_WHOLE in place of its number, the octets of a file. Otherwise nothing is put
- * out. */
+/* Whether that request wrote something; if so, written says what: a property, or, with BAC_WHOLE in place of its number, the octets of a file. Otherwise
+ * nothing is written to it. */
 bool bac_written(const bac_node *node, bac_reference *written);
 
 /* Why the last datagram was dropped: 0 it was not, 1 no BVLL that the node hears (also a broadcast or a forwarded NPDU), 2 no NPDU, 3 routed elsewhere, 4 a
@@ -370,14 +378,14 @@ uint32_t bac_cause(const bac_node *node);
  * than 4,096 octets). The limits and lists of bac_limit and bac_allow do not hold here: they are for writes of the network. */
 bac_status bac_set_value(bac_node *node, uint16_t object_type, uint32_t instance, uint32_t property, const uint8_t *octets, size_t len);
 
-/* Copies the values of a property out, computed ones too, and puts out how many octets they are. BAC_NO_SUCH_OBJECT; BAC_NO_SUCH_PROPERTY, also where an
+/* Copies the values of a property out, computed ones too; how many octets they are is written to len. BAC_NO_SUCH_OBJECT; BAC_NO_SUCH_PROPERTY, also where an
  * element is meant: no property is an array. */
 bac_status bac_get_value(const bac_node *node, const bac_reference *reference, uint8_t *out, size_t room, size_t *len);
 
 /* Sets all octets of a file, whether or not the network may write it. BAC_NO_SUCH_OBJECT, also where the object is no file; BAC_TOO_LONG (more than 60,000). */
 bac_status bac_set_file(bac_node *node, uint32_t file, const uint8_t *octets, size_t len);
 
-/* Copies all octets of a file out, and puts out how many they are. BAC_NO_SUCH_OBJECT, also where the object is no file. */
+/* Copies all octets of a file out; how many they are is written to len. BAC_NO_SUCH_OBJECT, also where the object is no file. */
 bac_status bac_get_file(const bac_node *node, uint32_t file, uint8_t *out, size_t room, size_t *len);
 
 /* Adds octets to the end of a file, by way of memory that has room for all its octets and these: BAC_TOO_LONG where the room is less, or as bac_set_file. */
@@ -399,7 +407,7 @@ static inline bac_status bac_append_file(bac_node *node, uint32_t file, const ui
  * network may not write it, where there is none, and where no node is started. */
 size_t bac_cells(const bac_node *node, const bac_reference *what);
 
-/* Each of them, as it is now: its place, and its octets (at most 4,096). At an index that is not below bac_cells 0, and nothing is put out. */
+/* Each of them, as it is now: its place, and its octets (at most 4,096). At an index that is not below bac_cells 0, and nothing is written. */
 size_t bac_cell(const bac_node *node, const bac_reference *what, size_t index, uint64_t *place, uint8_t *out, size_t room);
 
 /* ---- how full the node is, at a moment: client slots that are held, and requests that are remembered */
@@ -490,8 +498,8 @@ static inline const char *bac_text(bac_status status)
     return (unsigned)status < sizeof texts / sizeof texts[0] ? texts[status] : "unknown status";
 }
 
-/* ---- values as octets of data (clause 20.2), and back. These are C, and no proof covers them: octets that are no data are refused by each call that takes
- * them. */
+/* ---- values as octets of data (clause 20.2), and back. There are none for Double, OctetString, Date, Time and ObjectIdentifier: encode these yourself. These
+ * are C, and no proof covers them: octets that are no data are refused by each call that takes them. */
 
 /* A Null: one octet. */
 static inline void bac_put_null(uint8_t out[1])
@@ -560,7 +568,7 @@ static inline bool bac_take_float(const uint8_t *octets, size_t len, float *valu
     return true;
 }
 
-/* Gives the property that was listed last, a Real, limits: as bac_limit. */
+/* Gives the property that was listed last limits, where its value is a Real: as bac_limit. */
 static inline bac_status bac_limit_float(bac_node *node, float least, float greatest)
 {
     uint8_t from[5], to[5];
@@ -569,7 +577,7 @@ static inline bac_status bac_limit_float(bac_node *node, float least, float grea
     return bac_limit(node, from, sizeof from, to, sizeof to);
 }
 
-/* An Unsigned (kind 2) or an Enumerated (kind 9; 0 and 1 are the states of a binary-value), in the fewest octets: how many they are. */
+/* An Unsigned (kind 2) or an Enumerated (kind 9; 0 and 1 are the states of a binary-value), in the fewest octets: how many they are. No other kind. */
 static inline size_t bac_put_number(uint8_t out[5], unsigned kind, uint32_t number)
 {
     size_t len = number >> 24 ? 4 : number >> 16 ? 3 : number >> 8 ? 2 : 1;
@@ -594,7 +602,7 @@ static inline bool bac_take_number(const uint8_t *octets, size_t len, unsigned k
     return true;
 }
 
-/* Gives the property that was listed last, numbers of that kind (as of bac_put_number), limits: as bac_limit. */
+/* Gives the property that was listed last limits: as bac_limit. kind: 2 (Unsigned) or 9 (Enumerated), as of its values. */
 static inline bac_status bac_limit_number(bac_node *node, unsigned kind, uint32_t least, uint32_t greatest)
 {
     uint8_t from[5], to[5];

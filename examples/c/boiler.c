@@ -32,21 +32,21 @@ static void send_all(bac_node *node, int s) /* after each bac_on, bac_tick and a
 int main(void)
 {
     bac_node node = BAC_NODE_EMPTY;
-    bac_settings settings = BAC_SETTINGS(127, 0, 0, 1, 0xBA, 0xC0); /* its address and port */
+    bac_settings settings = BAC_SETTINGS(127, 0, 0, 1, 0xBA, 0xC0); /* its address and the octets of htons(47808): the socket has them too */
     settings.reuse_invoke_ids = true;                               /* clients may be of other makes */
     uint8_t value[5];
     bac_put_float(value, 20.0f);
     bac_status status = bac_open(&node);
-    if (!status) { status = bac_add_object(&node, 8, 77, (const uint8_t *)"boiler", 6); } /* device 77 */
-    if (!status) { status = bac_add_object(&node, 0, 1, (const uint8_t *)"flow", 4); }    /* analog-input 1 */
-    if (!status) { status = bac_add_property(&node, 85, value, 5, false); }               /* its present-value, read only */
-    if (!status) { status = bac_start_described(&node, &settings); }
+    if (!status) { status = bac_add_object(&node, 8, 77, (const uint8_t *)"boiler", 6); }             /* device 77 */
+    if (!status) { status = bac_add_object(&node, 0, 1, (const uint8_t *)"supply-temperature", 18); } /* analog-input 1 */
+    if (!status) { status = bac_add_property(&node, 85, value, 5, false); }                           /* its present-value, read only */
+    if (!status) { status = bac_start_described(&node, &settings); }                                  /* after a reset: bac_start_described_restarted */
 
     struct sockaddr_in here;
     memset(&here, 0, sizeof here);
     here.sin_family = AF_INET;
-    here.sin_port = htons(47808);
-    here.sin_addr.s_addr = htonl(INADDR_LOOPBACK);
+    memcpy(&here.sin_addr, settings.link, 4);
+    memcpy(&here.sin_port, settings.link + 4, 2);
     int s = socket(AF_INET, SOCK_DGRAM, 0);
     if (status) {
         printf("%s\n", bac_text(status));

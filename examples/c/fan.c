@@ -1,4 +1,5 @@
-/* Lists a whole device and a multi-state-value, a fan, and starts a node with them; datagrams go as in boiler.c. */
+/* Lists a device and a multi-state-value, a fan, each with all that the standard requires (but see list_device), and starts a node with them; datagrams
+ * go as in boiler.c. */
 #include "bac.h"
 #include <stdio.h>
 #include <string.h>
@@ -48,12 +49,13 @@ static bac_status list_fan(bac_node *node)
     bac_status status = bac_add_object(node, 19, 1, (const uint8_t *)"fan", 3);
     if (!status) { status = bac_add_property(node, 85, octets, bac_put_number(octets, 2, 1), true); } /* its present-value: state 1 */
     if (!status) { status = bac_limit_number(node, 2, 1, 3); }                                        /* what the network may write */
-    if (!status) { status = bac_add_property(node, 74, octets, bac_put_number(octets, 2, 3), false); }
+    if (!status) { status = bac_add_property(node, 74, octets, bac_put_number(octets, 2, 3), false); } /* number-of-states */
     for (size_t i = 0; i < 3; i++) { len += bac_put_text(octets + len, sizeof octets - len, states[i], lengths[i]); }
-    if (!status) { status = bac_add_property(node, 110, octets, len, false); }
-    if (!status) { status = bac_add_property(node, 111, octets, bac_put_bits(octets, 0, 4), false); }
+    if (!status) { status = bac_add_property(node, 110, octets, len, false); } /* state-text */
+    if (!status) { status = bac_add_property(node, 111, octets, bac_put_bits(octets, 0, 4), false); }  /* status-flags: none */
+    if (!status) { status = bac_add_property(node, 36, octets, bac_put_number(octets, 9, 0), false); } /* event-state: normal */
     bac_put_boolean(octets, false);
-    if (!status) { status = bac_add_property(node, 81, octets, 1, false); }
+    if (!status) { status = bac_add_property(node, 81, octets, 1, false); } /* out-of-service */
     return status;
 }
 
@@ -61,6 +63,7 @@ int main(void)
 {
     bac_node node = BAC_NODE_EMPTY;
     bac_settings settings = BAC_SETTINGS(127, 0, 0, 1, 0xBA, 0xC0);
+    settings.reuse_invoke_ids = true; /* clients may be of other makes */
     bac_refused refused;
     bac_status status = bac_open(&node);
     if (!status) { status = list_device(&node); }

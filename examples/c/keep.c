@@ -189,7 +189,7 @@ int main(int argc, char **argv)
         fprintf(stderr, "%s: no cells, or they cannot be written\n", path);
         return 1;
     }
-    bac_settings settings = BAC_SETTINGS(127, 0, 0, 1, 0, 0);
+    bac_settings settings = BAC_SETTINGS(127, 0, 0, 1, 0, 0); /* for clients of this library; for others reuse_invoke_ids = true, as in boiler.c */
     memcpy(settings.link, &a.sin_addr, 4);
     memcpy(settings.link + 4, &a.sin_port, 2);
     bac_node node = BAC_NODE_EMPTY;

@@ -193,7 +193,7 @@ int main(int argc, char **argv)
         perror("bind");
         return 1;
     }
-    bac_settings settings = BAC_SETTINGS(127, 0, 0, 1, 0, 0);
+    bac_settings settings = BAC_SETTINGS(127, 0, 0, 1, 0, 0); /* for clients of this library; for others reuse_invoke_ids = true, as in boiler.c */
     memcpy(settings.link + 4, &a.sin_port, 2);
     settings.reply_slots = 1024;
     bac_node node = BAC_NODE_EMPTY;

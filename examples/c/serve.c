@@ -90,7 +90,7 @@ int main(int argc, char **argv)
         perror("bind");
         return 1;
     }
-    bac_settings settings = BAC_SETTINGS(127, 0, 0, 1, 0, 0);
+    bac_settings settings = BAC_SETTINGS(127, 0, 0, 1, 0, 0); /* for clients of this library; for others reuse_invoke_ids = true, as in boiler.c */
     link_of(settings.link, &a);
     bac_node node = BAC_NODE_EMPTY;
     bac_status status = begin(&node, &settings);
