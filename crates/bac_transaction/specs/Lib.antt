@@ -10,4 +10,7 @@ pub mod Examples
 pub mod Services
 pub mod Reuse
 pub mod Remembering
+pub mod Serving
+pub mod ServingLaws
 pub mod ReuseExamples
+pub mod ServingExamples
