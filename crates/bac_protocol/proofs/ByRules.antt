@@ -3,17 +3,18 @@ use Rattle.std.proofs.Common.{◌≡◌, ◌≤◌, ◌-◌, ℕ, ◌⊎◌, Boo
 use Rattle.std.proofs.Common.{nat_eq, nat_lt, arith}
 use Rattle.std.proofs.lemmas.Bool.Decides.{nat_tests}
 use Rattle.bac_apdu.specs.Apdu.{Apdu, Limits}
-use Rattle.bac_apdu.specs.Apdu.Apdu.{Abort, ConfirmedRequest, SegmentAck}
+use Rattle.bac_apdu.specs.Apdu.Apdu.{Abort, ComplexAck, ConfirmedRequest, Error, Reject, SegmentAck, SimpleAck, UnconfirmedRequest}
+use Rattle.bac_segment.specs.Window.{incoming, takes}
 use Rattle.bac_protocol.specs.Context.{Context}
-use Rattle.bac_protocol.specs.Reuse.{Reads, idle_reusing, is_ended_by, is_over, left_on_apdu, reusing_on_apdu}
+use Rattle.bac_protocol.specs.Reuse.{Reads, has_transfer, idle_reusing, is_ended_by, is_over, left_on_apdu, reusing_on_apdu}
 use Rattle.bac_protocol.specs.ReuseLaws.{fresh_read}
-use Rattle.bac_protocol.specs.Server.{Reaction, ServerTransaction, Service, begins, idle_on_apdu, is_kept, is_live, is_none_live, live_on_apdu, performs_so, rests}
+use Rattle.bac_protocol.specs.Server.{Reaction, ServerTransaction, Service, begins, idle_on_apdu, is_kept, is_live, is_none_live, live_on_apdu, performs, performs_so, request_segment_taken, rests}
 use Rattle.bac_protocol.specs.Server.{sends_reply, server_abort, server_on_apdu}
 use Rattle.bac_protocol.specs.Service.{OTHER, Octets, Outcome, Reply}
 use Rattle.bac_protocol.specs.Service.Outcome.{Replies}
-use Rattle.bac_protocol.specs.Serving.{Place, ReadRule, ServerRules, begins_request, ends_entry, fresh_rules, idle_by, idle_fresh, idle_kept, is_ended, is_forgotten}
+use Rattle.bac_protocol.specs.Serving.{Place, ReadRule, ServerRules, begins_request, ends_entry, fresh_rules, idle_by, idle_fresh, idle_kept, if_open, is_ended, is_forgotten, is_read_in_one, needs_place, refusal, entry_left}
 use Rattle.bac_protocol.specs.Serving.{is_used_again, live_by, passes, place_if, server_hears}
-use Rattle.bac_protocol.specs.ServingLaws.{EndsWithReply, FreshIsReuse, GoesOnAsEver, PerformsWhereEnded, ReadsAreFresh, RemembersAll, StrictIsServer, TurnsAway}
+use Rattle.bac_protocol.specs.ServingLaws.{EndsWithReply, FreshIsReuse, GoesOnAsEver, PerformsWhereEnded, ReadsAreFresh, RemembersAll, ServesAnyway, StrictIsServer, TurnsAway}
 use Rattle.bac_protocol.specs.Sizes.{Way, reply_way_of}
 use Rattle.bac_protocol.specs.Sizes.Way.{InOne}
 use Rattle.bac_protocol.specs.Steps.{MayPerform}
@@ -220,22 +221,161 @@ reads_are_fresh = record {
 
 -- Where none may begin.
 
-idle_at : (c : Context) (service : Service) (rules : ServerRules) (entry : Option ServerTransaction) (place : Place) (a : Apdu) → is_none_live c.now entry ≡ true
-    → server_hears c service rules entry place a ≡ idle_by c service rules.reads entry place a
-idle_at c service rules None place a none = refl
-idle_at c service rules (Some e) place a none = go (is_live c.now e) refl
+-- no entry is live once the APDU has ended the one of its key
+pub idle_left : (c : Context) (service : Service) (rules : ServerRules) (o : Option ServerTransaction) (place : Place) (a : Apdu)
+    → is_none_live c.now (entry_left rules c.now o a) ≡ true
+    → server_hears c service rules o place a ≡ idle_by c service rules.reads (entry_left rules c.now o a) place a
+idle_left c service rules None place a none = refl
+idle_left c service rules (Some e) place a none = go (is_live c.now e) (is_ended rules c.now e a) refl refl
   where
-    go : (b : Bool) → is_live c.now e ≡ b → server_hears c service rules (Some e) place a ≡ idle_by c service rules.reads (Some e) place a
-    go false dead = at_dead c service rules e place a dead
-    go true live = absurd (let no : false ≡ true = sym (ap (λ (y : Bool). if y then false else true) live) ∙ none in cc)
+    left : (l b : Bool) → is_live c.now e ≡ l → is_ended rules c.now e a ≡ b
+        → entry_left rules c.now (Some e) a ≡ (if l && b then None else Some e)
+    left l b live ended =
+        ap (λ (x : Bool). if x && is_ended rules c.now e a then None else Some e) live ∙ ap (λ (x : Bool). if l && x then None else Some e) ended
+
+    go : (l b : Bool) → is_live c.now e ≡ l → is_ended rules c.now e a ≡ b
+        → server_hears c service rules (Some e) place a ≡ idle_by c service rules.reads (entry_left rules c.now (Some e) a) place a
+    go false b dead ended =
+        at_dead c service rules e place a dead
+        ∙ sym (ap (λ (o : Option ServerTransaction). idle_by c service rules.reads o place a) (left false b dead ended))
+    go true true live ended =
+        at_live c service rules e place a true live ended
+        ∙ sym (ap (λ (o : Option ServerTransaction). idle_by c service rules.reads o place a) (left true true live ended))
+    go true false live ended =
+        let there : is_none_live c.now (Some e) ≡ true = sym (ap (is_none_live c.now) (left true false live ended)) ∙ none in
+        absurd (let no : false ≡ true = sym (ap (λ (y : Bool). if y then false else true) live) ∙ there in cc)
+
+-- the entry goes on
+pub live_left : (c : Context) (service : Service) (rules : ServerRules) (o : Option ServerTransaction) (place other : Place) (a : Apdu)
+    → is_none_live c.now (entry_left rules c.now o a) ≡ false
+    → server_hears c service rules o place a ≡ server_hears c service rules o other a
+live_left c service rules None place other a some = absurd cc
+live_left c service rules (Some e) place other a some = go (is_live c.now e) (is_ended rules c.now e a) refl refl
+  where
+    go : (l b : Bool) → is_live c.now e ≡ l → is_ended rules c.now e a ≡ b
+        → server_hears c service rules (Some e) place a ≡ server_hears c service rules (Some e) other a
+    go true false live ended = at_live c service rules e place a false live ended ∙ sym (at_live c service rules e other a false live ended)
+    go true true live ended =
+        let ends : entry_left rules c.now (Some e) a ≡ None =
+        ap (λ (x : Bool). if x && is_ended rules c.now e a then None else Some e) live ∙ ap (λ (x : Bool). if x then None else Some e) ended in
+        absurd (let no : true ≡ false = sym (ap (is_none_live c.now) ends) ∙ some in cc)
+    go false b dead ended =
+        let stays : entry_left rules c.now (Some e) a ≡ Some e = ap (λ (x : Bool). if x && is_ended rules c.now e a then None else Some e) dead in
+        absurd (let no : true ≡ false = sym (ap (λ (y : Bool). if y then false else true) dead) ∙ sym (ap (is_none_live c.now) stays) ∙ some in cc)
+
+module _ (c : Context) (service : Service) (dead : Option ServerTransaction) where
+  kept_away : (a : Apdu) (reason : ℕ) → begins_request a ≡ true
+      → idle_kept c service dead (Place.Closed reason) a ≡ rests dead (server_abort c reason ∷ [])
+  kept_away a reason begun = ap (λ (b : Bool). rests dead (if b then server_abort c reason ∷ [] else [])) begun
+
+  kept_anyway : (place : Place) (a : Apdu) → begins_request a ≡ false → idle_kept c service dead place a ≡ idle_kept c service dead Place.Open a
+  kept_anyway Place.Open a begun = refl
+  kept_anyway (Place.Closed reason) (ConfirmedRequest limits id None choice octets) begun = absurd cc
+  kept_anyway (Place.Closed reason) (ConfirmedRequest limits id (Some segment) choice octets) begun =
+      ap (λ (b : Bool). rests dead (if b then server_abort c reason ∷ [] else [])) begun
+      ∙ sym (ap (λ (b : Bool). if not b then rests dead [] else request_segment_taken c service (begins c choice limits None) segment.number
+      (incoming c.settings.window segment.window).window (takes (incoming c.settings.window segment.window) segment.number segment.more octets)) begun)
+  kept_anyway (Place.Closed reason) _ begun = refl
+
+  abbrev reaction : (choice : ℕ) (limits : Limits) (octets : Octets) → Reaction
+  reaction choice limits octets = performs c service (begins c choice limits (Some octets)) [] octets
+
+  fresh_away : (reads : Reads) (a : Apdu) (reason : ℕ) → begins_request a && not (is_read_in_one c service reads a) ≡ true
+      → idle_fresh c service reads dead (Place.Closed reason) a ≡ rests dead (server_abort c reason ∷ [])
+  fresh_away reads (ConfirmedRequest limits id None choice octets) reason needs = go (reads choice) (has_transfer (reaction choice limits octets).entry) needs
+    where
+      go : (r h : Bool) → not (r && not h) ≡ true
+          → (if r then (if h then rests dead (server_abort c reason ∷ []) else record { entry = dead; sends = (reaction choice limits octets).sends; effect = (reaction choice limits octets).effect })
+          else rests dead (server_abort c reason ∷ [])) ≡ rests dead (server_abort c reason ∷ [])
+      go true true needs = refl
+      go true false needs = absurd cc
+      go false h needs = refl
+  fresh_away reads (ConfirmedRequest limits id (Some segment) choice octets) reason needs =
+      kept_away (ConfirmedRequest limits id (Some segment) choice octets) reason (both_true (nat_eq segment.number 0) needs)
+    where
+      both_true : (b : Bool) → b && true ≡ true → b ≡ true
+      both_true true is = refl
+      both_true false is = absurd cc
+  fresh_away reads _ reason needs = absurd cc
+
+  fresh_anyway : (reads : Reads) (place : Place) (a : Apdu) → begins_request a && not (is_read_in_one c service reads a) ≡ false
+      → idle_fresh c service reads dead place a ≡ idle_fresh c service reads dead Place.Open a
+  fresh_anyway reads place (ConfirmedRequest limits id None choice octets) needs = go (reads choice) (has_transfer (reaction choice limits octets).entry) needs
+    where
+      go : (r h : Bool) → not (r && not h) ≡ false
+          → (if r then (if h then if_open c dead place (reaction choice limits octets) else record { entry = dead; sends = (reaction choice limits octets).sends; effect = (reaction choice limits octets).effect })
+          else idle_kept c service dead place (ConfirmedRequest limits id None choice octets))
+          ≡ (if r then (if h then reaction choice limits octets else record { entry = dead; sends = (reaction choice limits octets).sends; effect = (reaction choice limits octets).effect })
+          else idle_kept c service dead Place.Open (ConfirmedRequest limits id None choice octets))
+      go true true needs = absurd cc
+      go true false needs = refl
+      go false h needs = absurd cc
+  fresh_anyway reads place (ConfirmedRequest limits id (Some segment) choice octets) needs =
+      kept_anyway place (ConfirmedRequest limits id (Some segment) choice octets) (none_true (nat_eq segment.number 0) needs)
+    where
+      none_true : (b : Bool) → b && true ≡ false → b ≡ false
+      none_true true is = absurd cc
+      none_true false is = refl
+  fresh_anyway reads place (UnconfirmedRequest choice octets) needs = kept_anyway place (UnconfirmedRequest choice octets) refl
+  fresh_anyway reads place (SimpleAck id choice) needs = kept_anyway place (SimpleAck id choice) refl
+  fresh_anyway reads place (ComplexAck id segment choice octets) needs = kept_anyway place (ComplexAck id segment choice octets) refl
+  fresh_anyway reads place (SegmentAck up id ack) needs = kept_anyway place (SegmentAck up id ack) refl
+  fresh_anyway reads place (Error id choice class code) needs = kept_anyway place (Error id choice class code) refl
+  fresh_anyway reads place (Reject id reason) needs = kept_anyway place (Reject id reason) refl
+  fresh_anyway reads place (Abort up id reason) needs = kept_anyway place (Abort up id reason) refl
+
+  -- where it needs a place and has none
+  away_at : (reads : ReadRule) (a : Apdu) (reason : ℕ) → needs_place c service reads a ≡ true
+      → idle_by c service reads dead (Place.Closed reason) a ≡ rests dead (server_abort c reason ∷ [])
+  away_at ReadRule.Kept a reason needs = kept_away a reason (both_true (begins_request a) needs)
+    where
+      both_true : (b : Bool) → b && true ≡ true → b ≡ true
+      both_true true is = refl
+      both_true false is = absurd cc
+  away_at (ReadRule.Fresh reads) a reason needs = fresh_away reads a reason needs
+
+  -- where it needs none
+  pub anyway_at : (reads : ReadRule) (place : Place) (a : Apdu) → needs_place c service reads a ≡ false
+      → idle_by c service reads dead place a ≡ idle_by c service reads dead Place.Open a
+  anyway_at ReadRule.Kept place a needs = kept_anyway place a (none_true (begins_request a) needs)
+    where
+      none_true : (b : Bool) → b && true ≡ false → b ≡ false
+      none_true true is = absurd cc
+      none_true false is = refl
+  anyway_at (ReadRule.Fresh reads) place a needs = fresh_anyway reads place a needs
 
 pub turns_requests_away : TurnsAway
-turns_requests_away = record {
-  kept = λ c service remember reserve entry reason a none begun.
-      idle_at c service (record { reads = ReadRule.Kept; remember = remember; reserve = reserve }) entry (Place.Closed reason) a none
-      ∙ ap (λ (b : Bool). rests entry (if b then server_abort c reason ∷ [] else [])) begun;
-  fresh = λ c service reads remember reserve entry reason limits id choice octets none no_read.
-      idle_at c service (fresh_rules reads remember reserve) entry (Place.Closed reason) (ConfirmedRequest limits id None choice octets) none
-      ∙ ap (λ (b : Bool). if b then passes c entry (Place.Closed reason) (performs_so c (begins c choice limits (Some octets)) [] octets (service choice octets))
-      else rests entry (server_abort c reason ∷ [])) no_read;
-}
+turns_requests_away c service rules o place a reason is = go (is_none_live c.now (entry_left rules c.now o a)) refl is
+  where
+    closed : (p : Place) (n : Bool) → needs_place c service rules.reads a ≡ n → refusal p n ≡ Some reason
+        → idle_by c service rules.reads (entry_left rules c.now o a) p a ≡ rests (entry_left rules c.now o a) (server_abort c reason ∷ [])
+    closed Place.Open n needs is = absurd cc
+    closed (Place.Closed why) true needs is =
+        let same : why ≡ reason = cc in
+        away_at c service (entry_left rules c.now o a) rules.reads a why needs
+        ∙ ap (λ (r : ℕ). rests (entry_left rules c.now o a) (server_abort c r ∷ [])) same
+    closed (Place.Closed why) false needs is = absurd cc
+
+    go : (b : Bool) → is_none_live c.now (entry_left rules c.now o a) ≡ b → (if b then refusal place (needs_place c service rules.reads a) else None) ≡ Some reason
+        → server_hears c service rules o place a ≡ rests (entry_left rules c.now o a) (server_abort c reason ∷ [])
+    go true none is = idle_left c service rules o place a none ∙ closed place (needs_place c service rules.reads a) refl is
+    go false some is = absurd cc
+
+pub serves_anyway : ServesAnyway
+serves_anyway c service rules o place a is = go (is_none_live c.now (entry_left rules c.now o a)) refl is
+  where
+    left : Option ServerTransaction
+    left = entry_left rules c.now o a
+
+    opened : (p : Place) (n : Bool) → needs_place c service rules.reads a ≡ n → refusal p n ≡ None
+        → idle_by c service rules.reads left p a ≡ idle_by c service rules.reads left Place.Open a
+    opened Place.Open n needs is = refl
+    opened (Place.Closed why) true needs is = absurd cc
+    opened (Place.Closed why) false needs is = anyway_at c service left rules.reads (Place.Closed why) a needs
+
+    go : (b : Bool) → is_none_live c.now left ≡ b → (if b then refusal place (needs_place c service rules.reads a) else None) ≡ None
+        → server_hears c service rules o place a ≡ server_hears c service rules o Place.Open a
+    go true none is =
+        idle_left c service rules o place a none ∙ opened place (needs_place c service rules.reads a) refl is
+        ∙ sym (idle_left c service rules o Place.Open a none)
+    go false some is = live_left c service rules o place Place.Open a some

@@ -1,11 +1,11 @@
 -- The server's machine by its rules: whether reads are performed anew and invoke IDs may be used again, for how long a request that is over is remembered, and
 -- whether a request may begin. All that is not said here is as in Server and Reuse; under the strict rules everything is as in Server.
-use Rattle.std.specs.Prelude.{ℕ, Bool, true, false, ◌&&◌, ◌||◌, ◌-◌, [], ◌∷◌, Option, Some, None, if◌then◌else◌, nat_eq, nat_lt}
+use Rattle.std.specs.Prelude.{ℕ, Bool, true, false, ◌&&◌, ◌||◌, not, ◌-◌, [], ◌∷◌, Option, Some, None, if◌then◌else◌, nat_eq, nat_lt}
 use Rattle.bac_apdu.specs.Apdu.{Apdu}
 use Rattle.bac_apdu.specs.Apdu.Apdu.{ConfirmedRequest}
 use Rattle.bac_protocol.specs.Context.{Context}
 use Rattle.bac_protocol.specs.Service.{OTHER}
-use Rattle.bac_protocol.specs.Server.{Reaction, ServerTransaction, Service, begins, idle_on_apdu, is_live, live_on_apdu, performs, rests, server_abort}
+use Rattle.bac_protocol.specs.Server.{Reaction, ServerTransaction, Service, begins, idle_on_apdu, is_live, is_none_live, live_on_apdu, performs, rests, server_abort}
 use Rattle.bac_protocol.specs.Reuse.{Reads, has_transfer, is_ended_by, is_over}
 
 -- how reads are served
@@ -98,6 +98,10 @@ abbrev pub ends_entry : ServerRules → (now : ℕ) → Option ServerTransaction
 ends_entry rules now None a = false
 ends_entry rules now (Some e) a = is_live now e && is_ended rules now e a
 
+-- the entry, unless the APDU ends it
+abbrev pub entry_left : ServerRules → (now : ℕ) → Option ServerTransaction → Apdu → Option ServerTransaction
+entry_left rules now entry a = if ends_entry rules now entry a then None else entry
+
 -- an APDU comes for a live entry, which it ends or not
 abbrev pub live_by : Context → Service → ReadRule → ServerTransaction → (ends : Bool) → Place → Apdu → Reaction
 live_by c service reads e true place a = idle_by c service reads None place a
@@ -108,3 +112,31 @@ abbrev pub server_hears : Context → Service → ServerRules → Option ServerT
 server_hears c service rules None place a = idle_by c service rules.reads None place a
 server_hears c service rules (Some e) place a =
     if is_live c.now e then live_by c service rules.reads e (is_ended rules c.now e a) place a else idle_by c service rules.reads (Some e) place a
+
+-- Which requests are turned away.
+
+-- a read without SEG that begins no entry: its reply is one APDU, or it gets a Reject or an Abort
+abbrev pub is_read_in_one : Context → Service → Reads → Apdu → Bool
+is_read_in_one c service reads (ConfirmedRequest limits invoke_id None choice octets) =
+    reads choice && not (has_transfer (performs c service (begins c choice limits (Some octets)) [] octets).entry)
+is_read_in_one c service reads (ConfirmedRequest limits invoke_id (Some segment) choice octets) = false
+is_read_in_one c service reads _ = false
+
+-- where no entry is live, the APDU is served though none may begin
+abbrev pub needs_no_place : Context → Service → ReadRule → Apdu → Bool
+needs_no_place c service Kept a = false
+needs_no_place c service (Fresh reads) a = is_read_in_one c service reads a
+
+-- where no entry is live, the APDU is a request for which one has to begin
+abbrev pub needs_place : Context → Service → ReadRule → Apdu → Bool
+needs_place c service reads a = begins_request a && not (needs_no_place c service reads a)
+
+-- such a request is turned away where none may begin, with that reason
+abbrev pub refusal : Place → (needs : Bool) → Option ℕ
+refusal Open needs = None
+refusal (Closed reason) needs = if needs then Some reason else None
+
+-- the reason with which an APDU for the entry is turned away, if it is
+abbrev pub turned_away : Context → Service → ServerRules → Option ServerTransaction → Place → Apdu → Option ℕ
+turned_away c service rules entry place a =
+    if is_none_live c.now (entry_left rules c.now entry a) then refusal place (needs_place c service rules.reads a) else None

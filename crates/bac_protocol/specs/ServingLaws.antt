@@ -8,7 +8,7 @@ use Rattle.bac_protocol.specs.ReuseLaws.{fresh_read}
 use Rattle.bac_protocol.specs.Server.{Effect, ServerTransaction, Service, is_kept, is_live, is_none_live, live_on_apdu, rests, server_abort, server_on_apdu}
 use Rattle.bac_protocol.specs.Service.{Octets, Reply}
 use Rattle.bac_protocol.specs.Service.Outcome.{Replies}
-use Rattle.bac_protocol.specs.Serving.{Place, ReadRule, STRICT, ServerRules, begins_request, ends_entry, fresh_rules, is_forgotten, place_if, server_hears}
+use Rattle.bac_protocol.specs.Serving.{Place, STRICT, ServerRules, ends_entry, entry_left, fresh_rules, is_forgotten, place_if, server_hears, turned_away}
 use Rattle.bac_protocol.specs.Sizes.{reply_way_of}
 use Rattle.bac_protocol.specs.Sizes.Way.{InOne}
 use Rattle.bac_protocol.specs.Steps.{MayPerform}
@@ -76,14 +76,16 @@ pub record ReadsAreFresh : Type 0 where
       → server_hears c service (fresh_rules reads remember reserve) (Some e) place (ConfirmedRequest limits id None choice octets)
       ≡ fresh_read c None choice octets reply
 
--- A request that may begin no entry where none is live gets an Abort with that reason, and nothing else is done; where reads are performed anew, so it is of
--- each request that is no read without SEG.
-pub record TurnsAway : Type 0 where
-  pub kept : (c : Context) (service : Service) (remember : Option ℕ) (reserve : ℕ) (entry : Option ServerTransaction) (reason : ℕ) (a : Apdu)
-      → is_none_live c.now entry ≡ true → begins_request a ≡ true
-      → server_hears c service (record { reads = ReadRule.Kept; remember = remember; reserve = reserve }) entry (Place.Closed reason) a
-      ≡ rests entry (server_abort c reason ∷ [])
-  pub fresh : (c : Context) (service : Service) (reads : Reads) (remember : Option ℕ) (reserve : ℕ) (entry : Option ServerTransaction) (reason : ℕ)
-      (limits : Limits) (id choice : ℕ) (octets : Octets) → is_none_live c.now entry ≡ true → reads choice ≡ false
-      → server_hears c service (fresh_rules reads remember reserve) entry (Place.Closed reason) (ConfirmedRequest limits id None choice octets)
-      ≡ rests entry (server_abort c reason ∷ [])
+-- An APDU that is turned away gets an Abort with that reason, and nothing else is done: the entry of its key stays, unless it ends that.
+abbrev pub TurnsAway : Type 0
+TurnsAway =
+    (c : Context) (service : Service) (rules : ServerRules) (entry : Option ServerTransaction) (place : Place) (a : Apdu) (reason : ℕ)
+    → turned_away c service rules entry place a ≡ Some reason
+    → server_hears c service rules entry place a ≡ rests (entry_left rules c.now entry a) (server_abort c reason ∷ [])
+
+-- Whether an entry may begin makes a difference only to what is turned away where none may.
+abbrev pub ServesAnyway : Type 0
+ServesAnyway =
+    (c : Context) (service : Service) (rules : ServerRules) (entry : Option ServerTransaction) (place : Place) (a : Apdu)
+    → turned_away c service rules entry place a ≡ None
+    → server_hears c service rules entry place a ≡ server_hears c service rules entry Place.Open a

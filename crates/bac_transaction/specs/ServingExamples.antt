@@ -19,7 +19,7 @@ TEN_SECONDS = fresh_rules is_read (Some 10000) 1
 
 -- the kept write comes again
 abbrev pub comes_again : (now : ℕ) → ServerTurn
-comes_again now = responder_by TEN_SECONDS SETTINGS now SERVICE (examples.peer 2) REQUEST examples.servers
+comes_again now = responder_by TEN_SECONDS false SETTINGS now SERVICE (examples.peer 2) REQUEST examples.servers
 
 pub record RemembersSoLong : Type 0 where
   -- for so long it gets the kept reply
