@@ -1,0 +1,8 @@
+use Rattle.bac_node.proofs.Rules.{fresh_is_so, strict_is_on}
+use Rattle.bac_node.proofs.law.hears_by_rules.Goals as goal
+
+pub returns-clause-strict : goal.returns-clause-strict
+returns-clause-strict c = strict_is_on
+
+pub returns-clause-fresh : goal.returns-clause-fresh
+returns-clause-fresh c = fresh_is_so
