@@ -1,13 +1,23 @@
-# Installs the program that `sh tests/prove.sh` built, its page, its completion, and a unit of systemd with a document:
-#     make install PREFIX=/usr/local [SYSCONFDIR=/etc] [DESTDIR=stage]
+# Installs the program that `sh tests/prove.sh` built, otherwise the one of `sh tests/unproved.sh` (which needs this folder to stay), its page, its completion, and
+# a unit of systemd with a document; `make` alone lists the targets.
 # SYSCONFDIR/bac/plant.toml is yours to edit: it is installed only where there is none, and `make uninstall` leaves it. PREFIX/share/bac/plant.toml is as it was made.
 PREFIX ?= /usr/local
 SYSCONFDIR ?= /etc
-PROGRAM ?= crates/bac/out/bac
+PROGRAM ?= $(or $(wildcard crates/bac/out/bac),crates/bac/out/bac-unproved)
+LIBRARY ?= crates/bac_c/out/libbac_c.a
 AT = $(DESTDIR)$(PREFIX)
 ETC = $(DESTDIR)$(SYSCONFDIR)
+# the commit that is packed, and its time
+NAME := nuutrevi-$(shell git log -1 --format=%cs-%h)
+TIME := $(shell git log -1 --format=%ct)
 
-.PHONY: install uninstall page check-page
+.PHONY: targets install uninstall dist page check-page
+
+targets:
+	@echo 'make install [PREFIX=/usr/local] [SYSCONFDIR=/etc] [DESTDIR=FOLDER] [PROGRAM=FILE]'
+	@echo 'make uninstall, with the same words'
+	@echo 'make dist [PROGRAM=FILE] [LIBRARY=FILE]: an archive of the program and the C library, dist/$(NAME).tar.gz'
+	@echo 'make page: writes the page of the manual; make check-page compares it'
 
 install:
 	install -d $(AT)/bin $(AT)/share/man/man1 $(AT)/share/bash-completion/completions $(AT)/share/bac $(AT)/lib/systemd/system $(ETC)/bac
@@ -20,6 +30,17 @@ install:
 
 uninstall:
 	rm -f $(AT)/bin/bac $(AT)/share/man/man1/bac.1 $(AT)/share/bash-completion/completions/bac $(AT)/share/bac/plant.toml $(AT)/lib/systemd/system/bac.service
+
+# What `make install` and `make -C include install` put below /usr/local and /etc, with the SHA-256 sum of each file: the same octets of the same commit, program and
+# library.
+dist:
+	rm -rf dist/$(NAME)
+	$(MAKE) -s install DESTDIR=dist/$(NAME) PREFIX=/usr/local SYSCONFDIR=/etc
+	$(MAKE) -s -C include install DESTDIR=$(CURDIR)/dist/$(NAME) PREFIX=/usr/local LIB=$(abspath $(LIBRARY))
+	cd dist/$(NAME) && find . -type f | LC_ALL=C sort | xargs sha256sum > ../SHA256SUMS && mv ../SHA256SUMS .
+	tar -C dist --sort=name --owner=0 --group=0 --numeric-owner --mode=go-w --mtime=@$(TIME) -cf - $(NAME) | gzip -n9 > dist/$(NAME).tar.gz
+	rm -rf dist/$(NAME)
+	@echo dist/$(NAME).tar.gz
 
 # The page of the manual is made from the table of commands.
 page:

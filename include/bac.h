@@ -180,6 +180,20 @@ typedef struct bac_refused {
     bac_flaw flaw;
 } bac_refused;
 
+/* ---- layout */
+
+/* How the library lays out what you hand it and what it puts out. A compiler that does so otherwise, by an option such as -fshort-enums or -fpack-struct, stops
+ * here. */
+#define BAC_LAYOUT(type, octets, last, at) extern const char bac_layout[sizeof(type) == (octets) && offsetof(type, last) == (at) ? 1 : -1]
+BAC_LAYOUT(bac_node, 16, at, 8);
+BAC_LAYOUT(bac_settings, 48, memory, 44);
+BAC_LAYOUT(bac_target, 9, max_segments, 8);
+BAC_LAYOUT(bac_reference, 16, index, 12);
+BAC_LAYOUT(bac_ending, 32, position, 24);
+BAC_LAYOUT(bac_act, 32, position, 24);
+BAC_LAYOUT(bac_refused, 16, flaw, 12);
+extern const char bac_layout[sizeof(bac_status) == 4 && sizeof(bac_how) == 4 && sizeof(bac_flaw) == 4 ? 1 : -1];
+
 /* ---- opening and closing */
 
 /* Opens a node without objects. BAC_ALREADY_OPEN, BAC_NO_MEMORY. */

@@ -1,4 +1,4 @@
-"""Frames of datagrams in each link layer that docs/COMMANDS.md names, and the capture files that hold them."""
+"""Frames of datagrams in each link layer that docs/FORMATS.md names, and the capture files that hold them."""
 
 import ipaddress
 import shutil

@@ -1,7 +1,7 @@
 #!/usr/bin/env python3
 """`bac check` of capture files beside `bac check` of lines: check.py PROGRAM SEED [--text] [--tshark]
 
-The same datagrams, good and bad, as lines and as frames of each link layer and header that docs/COMMANDS.md names (Capture files), in files of pcap and
+The same datagrams, good and bad, as lines and as frames of each link layer and header that docs/FORMATS.md names ("check"), in files of pcap and
 pcapng of both byte orders and each unit: as many have to be good, and each bad one has to have the fault that its line has, but for other functions, which are
 counted apart. With --text they have to be counted by name too. With --tshark text2pcap and editcap write the files.
 """

@@ -1,4 +1,4 @@
-"""What frames make of transactions by the rules of docs/COMMANDS.md (Explain), told again: the model that explain.py holds `bac explain` against."""
+"""What frames make of transactions by the rules of docs/FORMATS.md ("explain"), told again: the model that explain.py holds `bac explain` against."""
 
 from dataclasses import dataclass, field
 from datetime import datetime, timezone

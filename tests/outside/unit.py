@@ -1,11 +1,11 @@
 #!/usr/bin/env python3
-"""Runs the seventh job of docs/COMMANDS.md (a systemd service) as it stands there: unit.py PROGRAM [by-hand]
+"""Runs the job of docs/GUIDE.md about a service of systemd as it stands there: unit.py PROGRAM [by-hand]
 
 As root it lays an overlay over the files of this machine, installs into it with `make install`, and boots systemd there, in namespaces of its own: nothing of this
 machine changes, and no network of it is reached. A second network namespace, with a link to the first, is the other host. Then it does what the job says: the
 commands and the words of `systemctl edit` are those of the document. It edits the document that is served, breaks it, kills the server, stops it, and boots again.
 
-Where that cannot be (it says why), or with `by-hand`, it installs below a folder, lets `systemd-analyze verify` read the unit, and does itself what the unit says:
+Where that cannot be (it says why), or with `by-hand`, it installs below a folder, lets `systemd-analyze` verify the unit and rate its exposure, and does itself what the unit says:
 starts ExecStart, as another user where it may, and starts it again as Restart, RestartSec and RestartPreventExitStatus say. Where there is no PROGRAM, it takes
 bac-unproved beside it. The last line says what was done, and how much of it was wrong."""
 
@@ -34,6 +34,7 @@ DYNAMIC = range(61184, 65520)  # users that systemd makes for a unit
 SECONDS = 60  # for whatever is waited for, on a busy machine
 OUTDOOR = 'read analog-input:1 present-value'
 SETPOINT = 'read analog-value:1 present-value'
+MOST_EXPOSURE = 1.5  # of 10, as `systemd-analyze security` counts it
 BOOT = r'''
 cd "$1"
 mount -t proc proc proc
@@ -67,8 +68,8 @@ class Job:
     """The job, as the document has it: the words that the unit runs, the lines for `systemctl edit`, and the commands."""
 
     def __init__(self):
-        text = (TOP / 'docs/COMMANDS.md').read_text()
-        section = text[text.index('**7. '):text.index('**8. ')]
+        text = (TOP / 'docs/GUIDE.md').read_text()
+        section = re.search(r'\n## \d+\. Run a device as a service\n(.*?)\n## ', text, re.S)[1]
         self.words = shlex.split(re.search(r'The unit runs `bac ([^`]*)`', section)[1])
         self.edit, commands = re.findall(r'\n```\n(.*?\n)```', section, re.S)
         self.commands = commands.splitlines()
@@ -114,6 +115,12 @@ def on_terminal(words):
     os.close(own)
     os.close(given)
     return status, said
+
+
+def exposure(unit):
+    """How exposed a unit's process is, of 10, as systemd counts it."""
+    said = output(['systemd-analyze', 'security', '--offline=true', str(unit)])[1]
+    return float(re.search(r'exposure level for \S+: ([0-9.]+)', said)[1])
 
 
 def ended(words):
@@ -257,6 +264,7 @@ def as_installed(job, machine, asking, told, folder):
     """The unit as it was installed: at 127.0.0.1, as its own user, with a log of requests; a document that is edited, and one with a fault."""
     status, said = machine.run('systemd-analyze', 'verify', f'{PREFIX}/{UNIT}')
     told.check('systemd-analyze verify', status == 0 and not said, said)
+    told.check('its exposure', exposure(Path(machine.root, PREFIX[1:], UNIT)) <= MOST_EXPOSURE)
     following = commands_of(job, machine, told, folder)
     number, words, user = machine.server()
     told.check('its words', words == [f'{PREFIX}/bin/bac', *job.words], words)
@@ -295,6 +303,8 @@ def as_edited(job, machine, asking, told, folder):
     told.check('its first line', following.has(f'listening {job.at}:47808'))
     reads = following.count('read analog-input:1')  # of the unit as it was installed: the last lines come first
     asking.check('a read from the other host', asking.there(OUTDOOR), 'answered real 5.25')
+    asking.check('a write in the first 65 s', asking.there('write analog-value:1 present-value real:22.0'), 'aborted other (0)')
+    time.sleep(WAIT + 1)
     asking.check('a write', asking.there('write analog-value:1 present-value real:22.0'), 'answered written')
     told.check('the write is logged', following.has('write analog-value:1 present-value real 22.0: answered written'))
     told.check('the read is not', following.count('read analog-input:1') == reads)
@@ -437,6 +447,7 @@ def by_hand(program, why):
         if shutil.which('systemd-analyze'):
             status, said_of = output(['systemd-analyze', 'verify', '--man=no', path])
             told.check('systemd-analyze verify', status == 0 and str(path) not in said_of, said_of)
+            told.check('its exposure', exposure(path) <= MOST_EXPOSURE)
         unit = dict(line.split('=', 1) for line in path.read_text().splitlines() if re.match(r'\w+=', line))
 
         def ask(what, words, wanted):
@@ -467,6 +478,8 @@ def by_hand(program, why):
             words = [word.replace(old, new) if word.startswith(old) else word for word in words]
         server = serve(words)
         ask('a read of what was edited', OUTDOOR, 'answered real 5.25')
+        ask('a write in the first 65 s', 'write analog-value:1 present-value real:22.0', 'aborted other (0)')
+        time.sleep(WAIT + 1)
         ask('a write', 'write analog-value:1 present-value real:22.0', 'answered written')
         told.check('the write is logged', waited(lambda: 'present-value real 22.0: answered written' in said.read_text(), 10))
         server.process.kill()

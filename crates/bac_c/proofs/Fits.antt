@@ -19,7 +19,7 @@ use Rattle.bac_keep.specs.declared.part.Part.TheVariants as part
 use Rattle.bac_keep.specs.Cells.{Cells, NUMBERS, file_place, value_place}
 use Rattle.bac_keep.specs.Overlay.{file_over, in_place, is_kept, joined, object_over, or_nothing, overlay, value_over}
 use Rattle.bac_keep.specs.Restored.{is_writable_file, is_writable_value}
-use Rattle.bac_keep.specs.Rows.{IsRising, held}
+use Rattle.bac_keep.specs.Held.{IsRising, held}
 use Rattle.bac_keep.proofs.Notes.{number_over, object_there}
 use Rattle.bac_keep.proofs.Restores.{file_flag, value_flag}
 use Rattle.bac_keep.proofs.Risings.{held_at, held_drop}

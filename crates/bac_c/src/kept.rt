@@ -22,7 +22,7 @@ pub struct Kept {
 
 impl Model for Kept {
     ghost use Rattle.std.specs.Prelude.{ℕ, List, map};
-    ghost use Rattle.bac_keep.specs.Rows.{IsRising};
+    ghost use Rattle.bac_keep.specs.Held.{IsRising};
     ghost use Rattle.bac_c.specs.Kept.{entry};
 
     ghost Value = { List (ℕ × List ℕ) };

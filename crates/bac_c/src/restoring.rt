@@ -5,7 +5,7 @@ ghost use Rattle.bac_store.specs.Writes.{file_at, listed_at};
 ghost use Rattle.bac_keep.specs.Cells.{file_place as plain_file_place};
 ghost use Rattle.bac_keep.specs.Overlay.{joined, overlay};
 ghost use Rattle.bac_keep.specs.Restored.{is_writable_file, is_writable_value, with_kept_octets, with_kept_values};
-ghost use Rattle.bac_keep.specs.Rows.{IsRising, held};
+ghost use Rattle.bac_keep.specs.Held.{IsRising, held};
 ghost use Rattle.bac_c.specs.Fitting.{AreFit, EachFits, IsWrong, has_parts, is_part as plain_is_part, octets_fit, values_fit};
 ghost use Rattle.bac_c.specs.Kept.{IsFaultFor, IsPlaceAt, fault_at as plain_fault_at, states_count};
 

@@ -4,8 +4,8 @@ use Rattle.std.specs.Prelude.{IsTrue}
 use Rattle.sqlite_trees.specs.Tree.{Trees}
 use Rattle.sqlite_trees.specs.View.{IsClean, View, doubt}
 use Rattle.bac_value.specs.Views.{object_identifier_view}
-use Rattle.bac_keep.specs.Rows.{cells_of}
-use Rattle.bac_keep.specs.Steps.{IsReady}
+use Rattle.bac_keep_file.specs.Rows.{cells_of}
+use Rattle.bac_keep_file.specs.Steps.{IsReady}
 use Rattle.bac_keep_file.specs.Forgotten.{is_selected, without}
 use Rattle.bac_keep_file.specs.declared.selection.Selection.{Selection}
 use Rattle.bac_command_line.specs.Forgetting.{Forgets, Names, OnForgotten}

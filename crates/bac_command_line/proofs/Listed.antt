@@ -4,7 +4,7 @@ use Rattle.std.proofs.lemmas.List.{take_all}
 use Rattle.std.proofs.KnownBytes.{Appends-kept, Appends-nil, Appends-trans}
 use Rattle.std.specs.Io.KnownBytes.{Keeps}
 use Rattle.sqlite_trees.specs.View.{IsClean, View, doubt}
-use Rattle.bac_keep.specs.Rows.{AreCells}
+use Rattle.bac_keep_file.specs.Rows.{AreCells}
 use Rattle.bac_keep.specs.declared.cell.Cell.{Cell}
 use Rattle.bac_text.specs.Texts.{AppendsText}
 use Rattle.bac_command_line.specs.Listing.{AreListed, IsCellText, Lines, OnListed, line_in}

@@ -5,9 +5,9 @@ use Rattle.sqlite_trees.specs.Tree.{Trees}
 use Rattle.sqlite_trees.specs.View.{IsClean, View, doubt}
 use Rattle.bac_store.specs.Stores.{Store}
 use Rattle.bac_keep.specs.Overlay.{overlay}
-use Rattle.bac_keep.specs.Rows.{cells_of}
-use Rattle.bac_keep.specs.Settling.{MayFind, settles}
-use Rattle.bac_keep.specs.Steps.{IsReady}
+use Rattle.bac_keep_file.specs.Rows.{cells_of}
+use Rattle.bac_keep_file.specs.Settling.{MayFind, settles}
+use Rattle.bac_keep_file.specs.Steps.{IsReady}
 use Rattle.bac_text.specs.declared.status.Status.{Status}
 use Rattle.bac_driver.specs.Rounds.{IsKept}
 use Rattle.bac_command_line.specs.Keeping.{EndsWith, HasStore, IsServedInRounds, IsServedOver, OnDatabase, ServesKept, ServesStore, restarted_by}

@@ -6,7 +6,7 @@ use Rattle.sqlite_trees.specs.Tree.{Trees}
 use Rattle.sqlite_trees.specs.View.{IsClean, View}
 use Rattle.bac_value.specs.Views.{object_identifier_view}
 use Rattle.bac_value_text.specs.Reading.{object_of, property_of}
-use Rattle.bac_keep.specs.Rows.{cells_of}
+use Rattle.bac_keep_file.specs.Rows.{cells_of}
 use Rattle.bac_keep_file.specs.Forgotten.{is_selected, without}
 use Rattle.bac_keep_file.specs.declared.selection.Selection.{Selection}
 use Rattle.bac_text.specs.declared.status.Status.{Status}

@@ -6,9 +6,9 @@ use Rattle.sqlite_trees.specs.View.{IsClean, View}
 use Rattle.bac_store.specs.House.{house}
 use Rattle.bac_store.specs.Stores.{Store}
 use Rattle.bac_keep.specs.Overlay.{overlay}
-use Rattle.bac_keep.specs.Rows.{cells_of}
-use Rattle.bac_keep.specs.Settling.{MayFind}
-use Rattle.bac_keep.specs.Steps.{IsReady}
+use Rattle.bac_keep_file.specs.Rows.{cells_of}
+use Rattle.bac_keep_file.specs.Settling.{MayFind}
+use Rattle.bac_keep_file.specs.Steps.{IsReady}
 use Rattle.bac_text.specs.declared.status.Status.{Status}
 use Rattle.bac_driver.specs.Runs.{Timed}
 use Rattle.bac_commands.specs.Houses.{server_node}

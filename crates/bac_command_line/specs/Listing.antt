@@ -10,7 +10,7 @@ use Rattle.bac_value_text.specs.Texts.{object_text, property_text}
 use Rattle.bac_driver.specs.Waits.{MOST}
 use Rattle.bac_keep.specs.Cells.{file_place, value_place}
 use Rattle.bac_keep.specs.Parts.{IsForNothing}
-use Rattle.bac_keep.specs.Rows.{AreCells}
+use Rattle.bac_keep_file.specs.Rows.{AreCells}
 use Rattle.bac_keep.specs.declared.cell.Cell.{Cell}
 use Rattle.bac_keep_json.specs.Cells.{File, IsCellForm, KeptPart, Values}
 use Rattle.bac_json_report.specs.Lines.{IsLineOf}

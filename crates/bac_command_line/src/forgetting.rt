@@ -12,13 +12,12 @@ use crate::listing::{ListForm, print_cells};
 use crate::online::Machine;
 use crate::part_words::print_about;
 use bac_commands::CommandError;
-use bac_keep::KeepFault;
+use bac_keep::{DatabaseFault, KeepFault};
 use bac_keep_file::{Selection, forget};
 use bac_lists::bad_word_text;
 use bac_service_text::{BadWord, Wanted};
 use bac_text::{Status, complain, no_memory, output_failed};
 use bac_value_text::{object_in, property_in};
-use sqlite_trees::error::StoreError;
 use std::alloc::Global;
 use std::io::Write;
 
@@ -86,12 +85,12 @@ fn print_not_forgotten<E: Write>(alloc: Global, path: &str, fault: KeepFault, er
     ensures { IsStop result }
 {
     match fault {
-        KeepFault::Database(StoreError::Io) | KeepFault::Database(StoreError::Full) => {
+        KeepFault::Database(DatabaseFault::Io) | KeepFault::Database(DatabaseFault::Full) => {
             let status = CommandError::Keep(fault).report(err);
             print_keep_fault(path, Some(fault), err);
             status
         }
-        KeepFault::Database(StoreError::OutOfMemory) => no_memory(err),
+        KeepFault::Database(DatabaseFault::OutOfMemory) => no_memory(err),
         other => print_not_kept(alloc, path, other, err),
     }
 }

@@ -28,12 +28,13 @@ use Rattle.bac_protocol.specs.Server.State.{Done, SegmentedResponse, Dropped}
 use Rattle.bac_protocol.specs.Sizes.Way.{InOne, InSegments, Refused}
 use Rattle.bac_protocol.specs.Transaction.{Key, Rules, server_context}
 use Rattle.bac_protocol.specs.Pace.{Pace}
+use Rattle.bac_protocol.specs.World.{begun, begun_again, is_active, is_quiet}
 use Rattle.bac_protocol.specs.World.{Net, Post, net_start, set_at, is_id_held, is_room, asked_at, is_deliverable, client_now, server_now}
 use Rattle.bac_protocol.specs.World.{is_id_held_away, asked_away_at}
 use Rattle.bac_protocol.specs.Claims.{IsBounded}
 use Rattle.bac_protocol.specs.Moves.{Move, taken_by_client, ticket_ticked}
 use Rattle.bac_protocol.specs.Moves.{strayed_to_client, ticket_ticked_away}
-use Rattle.bac_protocol.specs.Moves.Move.{Asks, Arrives, TicksTicket, TicksEntry, Passes, Changes, RestartsClient, RestartsServer, Strays, AsksAway, TicksTicketAway, TicksEntryAway}
+use Rattle.bac_protocol.specs.Moves.Move.{Asks, Arrives, TicksTicket, TicksEntry, Passes, Changes, RestartsClient, RestartsServer, Begins, BeginsAgain, Strays, AsksAway, TicksTicketAway, TicksEntryAway}
 use Rattle.bac_protocol.proofs.Keys.{set_same, set_other, decide_key}
 use Rattle.bac_protocol.proofs.Facts.{pieces_length}
 use Rattle.bac_protocol.specs.Reuse.{Reads, ends_entry, has_transfer, idle_on_read, idle_reusing, left_on_apdu, reads_so, server_hears}
@@ -451,6 +452,16 @@ module _ (W : ℕ) (x : Rules) (bound : IsBounded W x) (u : Reusing) where
       go : (o : Option ServerTransaction) → EntryFew W o → (b : Bool) → EntryFew W (if b then None else o)
       go o few true = tt
       go o few false = few
+  moved_small n s (Begins node exact) = go (is_active n node)
+    where
+      go : (b : Bool) → Small (if b then n else begun n node exact)
+      go true = s
+      go false = s
+  moved_small n s (BeginsAgain node exact) = go (is_quiet n node)
+    where
+      go : (b : Bool) → Small (if b then begun_again n node exact else n)
+      go true = s
+      go false = s
   moved_small n s (Strays key free service a) = go (is_from_client a)
     where
       go : (up : Bool) → Small (if up then strayed_to_server_so x u n key free service a else strayed_to_client x n key a (n.far.tickets key))

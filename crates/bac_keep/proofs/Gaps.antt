@@ -6,7 +6,7 @@ use Rattle.bac_value.specs.Value.{ObjectId}
 use Rattle.bac_keep.specs.declared.cell.Cell.{Cell}
 use Rattle.bac_keep.specs.Cells.{file_place}
 use Rattle.bac_keep.specs.Refused.{IsAt, LacksChunk}
-use Rattle.bac_keep.specs.Rows.{IsRising, held}
+use Rattle.bac_keep.specs.Held.{IsRising, held}
 use Rattle.bac_keep.proofs.Risings.{above_at, none_below, weaker}
 
 -- a place above that of a cell, and below that of the next one

@@ -8,7 +8,7 @@ use Rattle.bac_keep.specs.declared.cell.Cell.{Cell}
 use Rattle.bac_keep.specs.Cells.{Cells, Fits, NUMBERS, file_place, value_place, with_cell}
 use Rattle.bac_keep.specs.Overlay.{joined, or_nothing, overlay}
 use Rattle.bac_keep.specs.Restored.{is_writable_file, with_kept_octets, with_kept_values}
-use Rattle.bac_keep.specs.Rows.{IsRising, held}
+use Rattle.bac_keep.specs.Held.{IsRising, held}
 use Rattle.bac_keep.proofs.Restores.{chunk_restored, count_ignored, count_restored, file_flag, nothing_over, value_restored}
 use Rattle.bac_keep.proofs.Risings.{held_at, held_drop, nothing_after}
 

@@ -1,8 +1,7 @@
--- Why a start is refused: what the store that cells make of a document cannot have, the document cannot have.
+-- Why a document and cells make no store: what the store that cells make of a document cannot have, the document cannot have.
 use Rattle.std.proofs.Common.{◌≡◌, ℕ, suc, zero, ◌<◌, Bool, true, false, ◌&&◌, ◌==◌, List, [], ◌∷◌, ◌++◌, length, drop, get_or, Option, Some, None, refl, sym, ap, ◌∙◌, subst, arith, IfErr, Result, Ok, Err}
 use Rattle.std.proofs.Common.{inl, inr}
 use Rattle.std.specs.Prelude.{IsErrAnd, ◌≢◌}
-use Rattle.sqlite_value.specs.Order.{Row}
 use Rattle.bac_keep.specs.Parts.{IsForNothing}
 use Rattle.std.proofs.Common.{if◌then◌else◌}
 use Rattle.std.specs.Option.{option_map}
@@ -17,20 +16,18 @@ use Rattle.bac_store.specs.declared.change_fault.ChangeFault.TheVariants as faul
 use Rattle.bac_store.proofs.OrderLaws.{first_that-map}
 use Rattle.bac_value.specs.Views.{object_identifier_view}
 use Rattle.bac_value.specs.declared.value.ObjectIdentifier.{ObjectIdentifier}
-use Rattle.sqlite_trees.specs.View.{View}
 use Rattle.bac_keep.specs.declared.cell.Cell.{Cell}
 use Rattle.bac_keep.specs.declared.fault.KeepFault.{KeepFault}
 use Rattle.bac_keep.specs.declared.fault.KeepFault.TheVariants as keep
 use Rattle.bac_keep.specs.Cells.{Cells, NUMBERS, file_place, value_place}
 use Rattle.bac_keep.specs.Overlay.{file_over, in_place, is_kept, joined, object_over, or_nothing, overlay, value_over}
-use Rattle.bac_keep.specs.Refused.{AreBadOctets, AreBadValues, AreNoOctets, HasBadCell, HasOtherRow, IsBadCount, IsBadOctets, IsBadValues}
-use Rattle.bac_keep.specs.Refused.{IsRefused, IsUnfit, IsUnreadable, IsUnready, LacksChunk}
+use Rattle.bac_keep.specs.Refused.{AreBadOctets, AreBadValues, AreNoOctets, HasBadCell, IsBadCount, IsBadOctets, IsBadValues}
+use Rattle.bac_keep.specs.Refused.{IsUnfit, LacksChunk}
 use Rattle.bac_keep.specs.Restored.{is_writable_file, is_writable_value}
-use Rattle.bac_keep.specs.Rows.{IsRising, cells_of, held}
+use Rattle.bac_keep.specs.Held.{IsRising, held}
 use Rattle.bac_keep.proofs.Notes.{number_over, object_there}
 use Rattle.bac_keep.proofs.Restores.{file_flag, value_flag}
 use Rattle.bac_keep.proofs.Risings.{held_above, held_at}
-use Rattle.bac_keep.proofs.RowReading.{or_earlier}
 
 kind_over : (cells : Cells) (id : ObjectId) (p : Property) → (value_over cells id p).kind ≡ p.kind
 kind_over cells id p = go (is_kept p) (cells (value_place id p.number))
@@ -200,41 +197,7 @@ module _ (cells : List Cell) (at : ℕ) (d : Cell) (l : at < length cells) (is :
   octets_refused count octets place states join writable keep.HighNumber bad = absurd bad
   octets_refused count octets place states join writable keep.NoMemory bad = tt
 
--- ---- a start
-
 -- a fault that is passed on
 pub passed_on : {T : Type 0} (P : KeepFault → Type 0) (e : KeepFault) (r : Result T KeepFault) → IsErrAnd r (λ y. y ≡ e) → P e → IfErr r P
 passed_on P e (Ok x) h p = absurd h
 passed_on P e (Err y) h p = subst P (sym h) p
-
-pub unready : (document : Store) (old new : View) (failed : Type 0) (e : KeepFault) → IsUnready old new e → IsRefused document old new failed e
-unready document old new failed keep.Shut it = it
-unready document old new failed keep.NoTable it = it
-unready document old new failed (keep.Database e) it = absurd it
-unready document old new failed keep.BadRow it = absurd it
-unready document old new failed (keep.BadValues o m f) it = absurd it
-unready document old new failed (keep.BadOctets o f) it = absurd it
-unready document old new failed keep.HighNumber it = absurd it
-unready document old new failed keep.NoMemory it = absurd it
-
-pub unreadable : (document : Store) (old new : View) (failed later : Type 0) → (failed → later) → (rows : List Row) → rows ≡ old.committed 0 → (e : KeepFault)
-    → IsUnreadable rows failed e → IsRefused document old new later e
-unreadable document old new failed later longer rows same (keep.Database e) it = or_earlier longer it
-unreadable document old new failed later longer rows same keep.BadRow it = inl (subst HasOtherRow same it)
-unreadable document old new failed later longer rows same keep.NoMemory it = tt
-unreadable document old new failed later longer rows same keep.Shut it = absurd it
-unreadable document old new failed later longer rows same keep.NoTable it = absurd it
-unreadable document old new failed later longer rows same (keep.BadValues o m f) it = absurd it
-unreadable document old new failed later longer rows same (keep.BadOctets o f) it = absurd it
-unreadable document old new failed later longer rows same keep.HighNumber it = absurd it
-
-pub unfit : (document : Store) (old new : View) (failed : Type 0) (cells : Cells) → cells ≡ cells_of old.committed → (e : KeepFault) → IsUnfit document cells e
-    → IsRefused document old new failed e
-unfit document old new failed cells same (keep.BadValues o n f) it = subst (λ (x : Cells). IsBadValues document x (object_identifier_view o) n f) same it
-unfit document old new failed cells same (keep.BadOctets o f) it = subst (λ (x : Cells). IsBadOctets document x (object_identifier_view o) f) same it
-unfit document old new failed cells same keep.BadRow it = inr (subst (λ (x : Cells). HasBadCell document x) same it)
-unfit document old new failed cells same keep.NoMemory it = tt
-unfit document old new failed cells same (keep.Database e) it = absurd it
-unfit document old new failed cells same keep.Shut it = absurd it
-unfit document old new failed cells same keep.NoTable it = absurd it
-unfit document old new failed cells same keep.HighNumber it = absurd it

@@ -1,10 +1,8 @@
 pub mod Cells
+pub mod Held
 pub mod Made
 pub mod Noted
 pub mod Overlay
 pub mod Parts
 pub mod Refused
 pub mod Restored
-pub mod Rows
-pub mod Settling
-pub mod Steps

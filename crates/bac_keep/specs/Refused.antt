@@ -1,5 +1,5 @@
--- Why a start from a document and a database is refused.
-use Rattle.std.specs.Prelude.{◌≡◌, ◌≢◌, ◌⊎◌, true, false, ℕ, suc, ◌<◌, List, [], ◌∷◌, get_or, None, Some, ⊤}
+-- Why a document and cells make no store.
+use Rattle.std.specs.Prelude.{◌≡◌, ◌≢◌, ◌⊎◌, true, ℕ, suc, ◌<◌, List, [], ◌∷◌, get_or, None, Some, ⊤}
 use Rattle.bac_value.specs.Value.{ObjectId}
 use Rattle.bac_value.specs.Views.{object_identifier_view}
 use Rattle.bac_value.specs.declared.value.ObjectIdentifier.{ObjectIdentifier}
@@ -8,15 +8,10 @@ use Rattle.bac_store.specs.Stores.{Store}
 use Rattle.bac_store.specs.Writes.{file_at, listed_at}
 use Rattle.bac_store.specs.declared.change_fault.ChangeFault.{ChangeFault}
 use Rattle.bac_store.specs.declared.change_fault.ChangeFault.TheVariants.{NoMemory}
-use Rattle.sqlite_value.specs.Order.{Row}
-use Rattle.sqlite_trees.specs.View.{View}
-use Rattle.sqlite_trees.specs.declared.error.StoreError.TheVariants.{OutOfMemory}
-use Rattle.sqlite_trees.specs.declared.store.Shape.TheVariants.{Table}
 use Rattle.bac_keep.specs.Cells.{Cells, NUMBERS, file_place, value_place}
 use Rattle.bac_keep.specs.Overlay.{joined}
 use Rattle.bac_keep.specs.Parts.{IsForNothing}
 use Rattle.bac_keep.specs.Restored.{is_writable_file, is_writable_value}
-use Rattle.bac_keep.specs.Rows.{IsRowOf, cells_of}
 use Rattle.bac_keep.specs.declared.cell.Cell.{Cell}
 use Rattle.bac_keep.specs.declared.fault.KeepFault.{KeepFault}
 use Rattle.bac_keep.specs.declared.fault.KeepFault.TheVariants as fault
@@ -98,42 +93,3 @@ IsUnfit document cells (fault.BadOctets object e) = IsBadOctets document cells (
 IsUnfit document cells fault.BadRow = HasBadCell document cells
 IsUnfit document cells fault.NoMemory = ⊤
 IsUnfit document cells _ = ⊥
-
--- why a database cannot be used, which was so before a rollback and is so after it
-abbrev pub IsUnready : View → View → KeepFault → Type 0
-IsUnready old new fault.Shut = new.is_open ≡ false
-IsUnready old new fault.NoTable = ¬ (old.committed_shape 0 ≡ Table)
-IsUnready old new _ = ⊥
-
--- a row that is no cell
-abbrev pub IsNoCell : Row → Type 0
-IsNoCell r = (place : ℕ) (octets : List ℕ) → IsRowOf place octets r → ⊥
-
--- one of the rows
-abbrev pub Has : List Row → Row → Type 0
-Has [] r = ⊥
-Has (q ∷ rows) r = (r ≡ q) ⊎ Has rows r
-
--- a row of these is no cell
-pub record HasOtherRow (rows : List Row) : Type 0 where
-  pub row : Row
-  pub there : Has rows row
-  pub other : IsNoCell row
-
--- why these rows are not read, where `failed` says that the disk failed or refused
-abbrev pub IsUnreadable : List Row → (failed : Type 0) → KeepFault → Type 0
-IsUnreadable rows failed (fault.Database e) = (e ≡ OutOfMemory) ⊎ failed
-IsUnreadable rows failed fault.BadRow = HasOtherRow rows
-IsUnreadable rows failed fault.NoMemory = ⊤
-IsUnreadable rows failed _ = ⊥
-
--- why a start is refused, where the database was so before it and is so after it, and `failed` says that the disk failed or refused
-abbrev pub IsRefused : Store → View → View → (failed : Type 0) → KeepFault → Type 0
-IsRefused document old new failed fault.Shut = new.is_open ≡ false
-IsRefused document old new failed fault.NoTable = ¬ (old.committed_shape 0 ≡ Table)
-IsRefused document old new failed (fault.BadValues object n e) = IsBadValues document (cells_of old.committed) (object_identifier_view object) n e
-IsRefused document old new failed (fault.BadOctets object e) = IsBadOctets document (cells_of old.committed) (object_identifier_view object) e
-IsRefused document old new failed (fault.Database e) = (e ≡ OutOfMemory) ⊎ failed
-IsRefused document old new failed fault.BadRow = HasOtherRow (old.committed 0) ⊎ HasBadCell document (cells_of old.committed)
-IsRefused document old new failed fault.NoMemory = ⊤
-IsRefused document old new failed fault.HighNumber = ⊥

@@ -5,17 +5,17 @@ ghost use Rattle.bac_keep.specs.Cells.{file_place as file_place_in, value_place 
 
 use bac_value::ObjectIdentifier;
 
-/// How many numbers a property can have (clause 23.1): 22 bits.
-pub(crate) const NUMBERS: u64 = 0x40_0000;
+/// How many places a property of an object, or a part of its file, can have: its number has 22 bits (clause 23.1).
+pub const NUMBERS: u64 = 0x40_0000;
 
 /// How many instances an object type can have: 22 bits.
 pub(crate) const INSTANCES: u64 = 0x40_0000;
 
 /// The first place of a file.
-pub(crate) const FILES: u64 = 0x40_0000_0000_0000;
+pub const FILES: u64 = 0x40_0000_0000_0000;
 
 /// The greatest number of octets in a chunk of a file.
-pub(crate) const CHUNK: usize = 1024;
+pub const CHUNK: usize = 1024;
 
 /// Octets at a place.
 #[derive(Debug, Drop)]
@@ -35,8 +35,8 @@ fn numbered(object: ObjectIdentifier, number: u32) -> u64
     (u64::from(object.kind) * INSTANCES + u64::from(object.instance)) * NUMBERS + u64::from(number)
 }
 
-/// The place of a property's values.
-pub(crate) fn value_place(object: ObjectIdentifier, number: u32) -> u64
+/// The place of the values of a property. Its number has at most 22 bits (clause 23.1).
+pub fn value_place(object: ObjectIdentifier, number: u32) -> u64
     requires { number < 2 ^ 22 }
     ensures is { result ≡ value_place_in (object_identifier_view object) number }
     ensures short { result < 2 ^ 63 }
@@ -44,8 +44,8 @@ pub(crate) fn value_place(object: ObjectIdentifier, number: u32) -> u64
     numbered(object, number)
 }
 
-/// The place of a part of a file: 0 for the number of its chunks, 1 for the first chunk, and so on.
-pub(crate) fn file_place(object: ObjectIdentifier, part: u32) -> u64
+/// The place of a part of a file: part 0 is the number of its chunks, part 1 the first chunk, and so on.
+pub fn file_place(object: ObjectIdentifier, part: u32) -> u64
     requires { part < 2 ^ 22 }
     ensures is { result ≡ file_place_in (object_identifier_view object) part }
     ensures short { result < 2 ^ 63 }

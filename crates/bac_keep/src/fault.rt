@@ -4,17 +4,39 @@ ghost use Rattle.bac_keep.specs.declared.fault.KeepFault.TheVariants as fault;
 
 use bac_store::ChangeFault;
 use bac_value::{NoMemory, ObjectIdentifier};
-use sqlite_trees::error::StoreError;
 use std::alloc::{AllocError, AllocFailed};
 use thiserror::Error;
+
+/// Why a database fails. Each keeper tells the faults of its own database by these.
+#[derive(Clone, Copy, Debug, PartialEq, Eq, Error)]
+pub enum DatabaseFault {
+    /// An allocation failed.
+    #[error("out of memory")]
+    OutOfMemory,
+    /// The disk failed.
+    #[error("disk I/O error")]
+    Io,
+    /// What the disk holds is damaged.
+    #[error("database disk image is malformed")]
+    Corrupt,
+    /// The disk or the file has no room.
+    #[error("database or disk is full")]
+    Full,
+    /// An earlier call failed, so what no commit has finished can only be rolled back; or the files were found damaged.
+    #[error("the transaction must be rolled back")]
+    Broken,
+    /// The database can't hold such a row.
+    #[error("the row has a NaN, an integer in a REAL column, no column or too many, or over a billion bytes")]
+    Unstorable,
+}
 
 /// Why a store is not kept, or not restored.
 #[derive(Clone, Copy, Debug, PartialEq, Eq, Error)]
 pub enum KeepFault {
     /// The database failed: its disk, its files, or an earlier call.
     #[error("{0}")]
-    Database(StoreError),
-    /// The table has a row that no write makes.
+    Database(DatabaseFault),
+    /// The database has a row that no write makes.
     #[error("a row that no write makes")]
     BadRow,
     /// The database can't be used after an earlier failure.
@@ -49,11 +71,11 @@ pub enum KeepFault {
     NoMemory,
 }
 
-impl From<StoreError> for KeepFault {
+impl From<DatabaseFault> for KeepFault {
     ghost from_gives = { λ e f. f ≡ fault.Database e };
 
-    fn from(error: StoreError) -> KeepFault {
-        KeepFault::Database(error)
+    fn from(fault: DatabaseFault) -> KeepFault {
+        KeepFault::Database(fault)
     }
 }
 

@@ -4,7 +4,7 @@ ghost use Rattle.bac_value.specs.Views.{object_identifier_view};
 ghost use Rattle.bac_keep.specs.Cells.{value_place};
 ghost use Rattle.bac_keep.specs.Parts.{IsForNothing, IsSmall, place_for};
 
-use crate::cell::{FILES, INSTANCES, NUMBERS};
+use crate::cell::{Cell, FILES, INSTANCES, NUMBERS};
 use bac_value::ObjectIdentifier;
 
 /// What a place is for.
@@ -67,5 +67,29 @@ pub(crate) fn part_of(place: u64) -> Option<Part>
             at: (part - 1) as u8,
         }),
         _ => None,
+    }
+}
+
+impl Cell {
+    /// What it is for; None if no write makes such a cell.
+    pub fn part(&self) -> Option<Part>
+        ensures is { IfSome result (λ p. self.now.place ≡ place_for p) }
+        ensures none { result ≡ None → IsForNothing self.now.place }
+    {
+        part_of(self.place)
+    }
+}
+
+impl Part {
+    /// Whether it is a part of an object: of this property, or where none is given of any property and of the file.
+    pub fn is_of(self, wanted: ObjectIdentifier, number: Option<u32>) -> bool {
+        match self {
+            Part::Values { object, property } => {
+                object == wanted && (number.is_none() || number == Some(property))
+            }
+            Part::Count { object } | Part::Chunk { object, .. } => {
+                object == wanted && number.is_none()
+            }
+        }
     }
 }

@@ -7,7 +7,7 @@ ghost use Rattle.bac_keep.specs.Cells.{file_place};
 ghost use Rattle.bac_keep.specs.Overlay.{joined, overlay};
 ghost use Rattle.bac_keep.specs.Refused.{AreBadOctets, AreBadValues, AreNoOctets, IsAt, IsUnfit, LacksChunk};
 ghost use Rattle.bac_keep.specs.Restored.{is_writable_file, with_kept_octets, with_kept_values};
-ghost use Rattle.bac_keep.specs.Rows.{IsRising, held};
+ghost use Rattle.bac_keep.specs.Held.{IsRising, held};
 
 use crate::cell::{Cell, file_place};
 use crate::fault::KeepFault;
@@ -147,12 +147,12 @@ fn restore_cell(
     }
 }
 
-/// The store that a document and cells make, whose places rise.
+/// The store that a document and cells make, whose places rise: the store with which a node starts.
 ///
 /// Returns `BadRow` if a place is for nothing, or a chunk of a file that the document lets be written is missing; `BadValues` and
 /// `BadOctets` if the document has a property or a file that can't have what is kept; `NoMemory` if an allocation fails. Cells of no
 /// property and no file of the document, or of one that may not be written, have no effect.
-pub(crate) fn restored(alloc: Global, document: &Store, cells: &[Cell]) -> Result<Store, KeepFault>
+pub fn restored(alloc: Global, document: &Store, cells: &[Cell]) -> Result<Store, KeepFault>
     ensures restored { IfOk result (λ s. IsRising cells.now → s ≡ overlay (held cells.now) document.now) }
     ensures refused { IfErr result (λ e. IsRising cells.now → IsUnfit document.now (held cells.now) e) }
 {

@@ -8,6 +8,7 @@ use Rattle.bac_store.specs.Stores.{File, Object, Property, Store, first_that, is
 use Rattle.bac_store.specs.Writes.{listed_at, listed_of}
 use Rattle.bac_keep.specs.Cells.{Cells, NUMBERS, file_place, value_place}
 use Rattle.bac_keep.specs.Overlay.{file_over, in_place, is_kept, joined, object_over, of_chunks, overlay, value_over}
+use Rattle.bac_keep.proofs.Notes.{number_over}
 use Rattle.bac_keep_file.specs.Forgotten.{is_selected, without}
 
 both : (a b : Bool) → (a && b) ≡ true → b ≡ true
@@ -43,14 +44,6 @@ file_own cells id f none = go f.writable
     go : (b : Bool) → (if b then of_chunks (cells (file_place id 0)) (joined cells id) f else f) ≡ f
     go true = ap (λ (x : Option (List ℕ)). of_chunks x (joined cells id) f) none
     go false = refl
-
-number_over : (cells : Cells) (id : ObjectId) (p : Property) → (value_over cells id p).number ≡ p.number
-number_over cells id p = go (is_kept p) (cells (value_place id p.number))
-  where
-    go : (b : Bool) (x : Option (List ℕ)) → (if b then in_place x p else p).number ≡ p.number
-    go true None = refl
-    go true (Some v) = refl
-    go false x = refl
 
 gone : (is_gone : ℕ → Bool) (cells : Cells) (q : ℕ) → is_gone q ≡ true → without is_gone cells q ≡ None
 gone is_gone cells q e = rw e refl

@@ -9,10 +9,10 @@ use Rattle.sqlite_trees.specs.Tree.{Trees, has_rowid}
 use Rattle.sqlite_trees.specs.View.{IsClean, View, doubt}
 use Rattle.bac_keep.specs.declared.cell.Cell.{Cell}
 use Rattle.bac_keep.specs.Cells.{Cells, no_cells}
-use Rattle.bac_keep.specs.Rows.{AreCells, cells_of, found}
-use Rattle.bac_keep.specs.Steps.{HasCells, IsReady, NoMore}
+use Rattle.bac_keep_file.specs.Rows.{AreCells, cells_of, found}
+use Rattle.bac_keep_file.specs.Steps.{HasCells, IsReady, NoMore}
 use Rattle.bac_keep_file.specs.Forgotten.{AreSelected, has_place, is_place, without}
-use Rattle.bac_keep_file.proofs.Deleting.{same_place}
+use Rattle.bac_keep_file.proofs.Finding.{same_place}
 
 -- ---- the selected cells are the only ones at the selected places
 

@@ -1,3 +1,9 @@
 mod Deleting
 mod Documents
+mod Faults
+mod Finding
 mod Leaving
+mod Puts
+mod RisingRows
+mod RowReading
+mod Starts

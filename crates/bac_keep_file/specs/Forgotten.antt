@@ -4,7 +4,7 @@ use Rattle.sqlite_value.specs.Order.{Row}
 use Rattle.bac_value.specs.Value.{ObjectId}
 use Rattle.bac_keep.specs.declared.cell.Cell.{Cell}
 use Rattle.bac_keep.specs.Cells.{Cells, NUMBERS, file_place, value_place}
-use Rattle.bac_keep.specs.Rows.{AreCells}
+use Rattle.bac_keep_file.specs.Rows.{AreCells}
 
 -- one of the places of an object, from the first on
 abbrev pub is_from : (first : ℕ) → (q : ℕ) → Bool

@@ -1,2 +1,7 @@
+pub mod Faults
 pub mod Forgotten
 pub mod Made
+pub mod Refused
+pub mod Rows
+pub mod Settling
+pub mod Steps

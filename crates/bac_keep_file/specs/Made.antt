@@ -5,8 +5,8 @@ use Rattle.sqlite_trees.specs.Tree.{Trees}
 use Rattle.sqlite_trees.specs.View.{View}
 use Rattle.sqlite.specs.Effect.{IsDatabase}
 use Rattle.bac_keep.specs.Cells.{no_cells}
-use Rattle.bac_keep.specs.Rows.{cells_of}
-use Rattle.bac_keep.specs.Steps.{IsReady}
+use Rattle.bac_keep_file.specs.Rows.{cells_of}
+use Rattle.bac_keep_file.specs.Steps.{IsReady}
 
 -- a schema without tables describes the database; tables that are only kept as they are, since SQL cannot read their definition, are not among them
 pub record HasNoTable (db : Trees) : Type 0 where

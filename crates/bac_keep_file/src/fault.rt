@@ -1,6 +1,10 @@
-//! Why a file is not opened.
+//! Why a file is not opened, and why a database fails.
+ghost use Rattle.std.specs.Prelude.{◌≡◌};
+ghost use Rattle.bac_keep_file.specs.Faults.{keep_fault as keep_fault_of};
 
+use bac_keep::{DatabaseFault, KeepFault};
 use sqlite::{Error as SqlError, ErrorCode};
+use sqlite_trees::error::StoreError;
 use thiserror::Error;
 
 /// Why a file is not opened.
@@ -43,4 +47,18 @@ impl From<SqlError> for OpenFault {
             _ => OpenFault::Database(error),
         }
     }
+}
+
+/// The fault of a keeper whose database fails.
+pub(crate) fn keep_fault(error: StoreError) -> KeepFault
+    ensures { result ≡ keep_fault_of error }
+{
+    KeepFault::Database(match error {
+        StoreError::OutOfMemory => DatabaseFault::OutOfMemory,
+        StoreError::Io => DatabaseFault::Io,
+        StoreError::Corrupt => DatabaseFault::Corrupt,
+        StoreError::Full => DatabaseFault::Full,
+        StoreError::Broken => DatabaseFault::Broken,
+        StoreError::Unstorable => DatabaseFault::Unstorable,
+    })
 }

@@ -3,36 +3,18 @@ ghost use Rattle.std.specs.Prelude.{◌≡◌, ◌≤◌, ◌⊎◌, IsTrue, IfO
 ghost use Rattle.sqlite_trees.specs.Tree.{Trees};
 ghost use Rattle.sqlite_trees.specs.View.{IsClean, doubt};
 ghost use Rattle.bac_value.specs.Views.{object_identifier_view};
-ghost use Rattle.bac_keep.specs.Rows.{cells_of};
-ghost use Rattle.bac_keep.specs.Steps.{HasCells, IsReady, NoMore};
+ghost use Rattle.bac_keep_file.specs.Rows.{cells_of};
+ghost use Rattle.bac_keep_file.specs.Steps.{HasCells, IsReady, NoMore};
 ghost use Rattle.bac_keep_file.specs.Forgotten.{AreSelected, has_place, is_place, is_selected, without};
 
+use crate::cells::make_ready;
+use crate::fault::keep_fault;
+use crate::listing::kept_cells;
+use crate::putting::TABLE;
 use crate::selection::Selection;
-use bac_keep::{Cell, KeepFault, kept_cells};
-use sqlite_trees::store::{Shape, Store};
+use bac_keep::{Cell, KeepFault};
+use sqlite_trees::store::Store;
 use std::alloc::Global;
-
-/// The number of the table.
-const TABLE: u32 = 0;
-
-/// Makes a database ready: what no commit has finished is rolled back.
-fn make_ready<S: Store>(database: &mut S) -> Result<(), KeepFault>
-    ensures clean { doubt (S.view database.old).is_clean ≤ doubt (S.view database.new).is_clean }
-    ensures ready { OnOk result (IsClean (S.view database.new) → IsReady (S.view database.new)) }
-    ensures trees { OnOk result (IsClean (S.view database.new) → (S.view database.new).trees ≡ (S.view database.old).committed) }
-    ensures committed { IsClean (S.view database.new) → IsTrue (S.view database.new).is_open
-        → (S.view database.new).committed ≡ (S.view database.old).committed }
-    ensures crash { NoMore S.recovers database.old database.new }
-{
-    database.rollback();
-    if database.is_broken() {
-        return Err(KeepFault::Shut);
-    }
-    if database.shape(TABLE) != Shape::Table {
-        return Err(KeepFault::NoTable);
-    }
-    Ok(())
-}
 
 /// The selected cells that a database has committed, after what no commit has finished is rolled back.
 fn selected_cells<S: Store>(
@@ -67,7 +49,7 @@ fn delete_cell<S: Store>(database: &mut S, place: u64) -> Result<(), KeepFault>
     let Ok(key) = i64::try_from(place) else {
         return Err(KeepFault::BadRow);
     };
-    database.delete(TABLE, key)?;
+    database.delete(TABLE, key).map_err(keep_fault)?;
     Ok(())
 }
 
@@ -114,6 +96,6 @@ pub fn forget<S: Store>(
         return Ok(cells);
     }
     delete_cells(database, &cells)?;
-    database.commit()?;
+    database.commit().map_err(keep_fault)?;
     Ok(cells)
 }

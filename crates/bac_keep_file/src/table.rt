@@ -5,10 +5,10 @@ ghost use Rattle.sqlite.specs.Held.{state};
 ghost use Rattle.bac_keep_file.specs.Made.{HasEmptyTable, HasNoTable};
 
 use crate::fault::OpenFault;
-use bac_keep::{KeepFault, kept_cells};
+use crate::listing::kept_cells;
+use bac_keep::{DatabaseFault, KeepFault};
 use sqlite::{Alter, Connection};
 use sqlite_schema::schema::Table;
-use sqlite_trees::error::StoreError;
 use sqlite_trees::store::Store;
 use std::alloc::Global;
 
@@ -60,7 +60,9 @@ fn into_store<S: Alter + Drop>(conn: Connection<S>) -> S
 /// The fault of a new table that can't be read back.
 fn unread(fault: KeepFault) -> OpenFault {
     match fault {
-        KeepFault::NoMemory | KeepFault::Database(StoreError::OutOfMemory) => OpenFault::NoMemory,
+        KeepFault::NoMemory | KeepFault::Database(DatabaseFault::OutOfMemory) => {
+            OpenFault::NoMemory
+        }
         _ => OpenFault::Disk,
     }
 }

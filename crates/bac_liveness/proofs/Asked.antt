@@ -19,10 +19,10 @@ use Rattle.bac_protocol.specs.Client.Reaction.{Stays, GoesOn, Repeats, Ends}
 use Rattle.bac_protocol.specs.Transaction.{Key, Rules, client_context}
 use Rattle.bac_protocol.specs.World.{Net, Post, post_of}
 use Rattle.bac_protocol.specs.Claims as claims
-use Rattle.bac_protocol.proofs.Calm.{spent_free}
+use Rattle.bac_protocol.proofs.Standing.{spent_stands}
 use Rattle.bac_protocol.proofs.Paces.{since_now}
 use Rattle.bac_protocol.proofs.Keys.{set_same}
-use Rattle.bac_protocol.proofs.SingleMoves.{reached_net, reached_calm}
+use Rattle.bac_protocol.proofs.SingleMoves.{reached_stands, reached_calm}
 use Rattle.bac_transaction.specs.Sends.{Pairwise}
 use Rattle.bac_world.specs.Node.{Node}
 use Rattle.bac_world.specs.World.{World, Copy, IsAsked, peer_at}
@@ -32,7 +32,7 @@ use Rattle.bac_liveness.specs.Runs.{StaysSince}
 use Rattle.bac_liveness.specs.RoundTrip.{request_to}
 use Rattle.bac_liveness.specs.WorldRoundTrip.{IsRequest}
 use Rattle.bac_liveness.proofs.Clocks.{MadeIn}
-use Rattle.bac_liveness.proofs.Paths.{ask_of, Bounded, Step, Path}
+use Rattle.bac_liveness.proofs.Paths.{ask_of, Bounded, Step, Path, sent_now}
 use Rattle.bac_liveness.proofs.Paths.Path.{Here, Then}
 use Rattle.bac_liveness.proofs.Changes.{IsThere}
 use Rattle.bac_liveness.proofs.Staying.{reached_bounded}
@@ -114,8 +114,7 @@ module _ (links : ℕ → Option Octets) (apart : (i j : ℕ) (l : Octets) → l
   -- a client that has not restarted since the world in which it asks stays
   pub stays : (m : Net) → m.restarted c ≡ n.restarted c → StaysSince m key n.now
   stays m same =
-      let le = (spent_free W n (reached_net W x bound h.sound.0 h.sound.2 h.sound.1 n h.sound.3)
-      (reached_calm W x bound h.sound.0 h.sound.2 h.sound.1 n h.sound.3) key
+      let le = (spent_stands W n (reached_stands W x bound h.sound.0 h.sound.2 h.sound.1 n h.sound.3) key
       (asked_free links apart W x bound readable old n h c s limits r asked a p)).lives in
       omega arith
 
@@ -125,6 +124,7 @@ module _ (links : ℕ → Option Octets) (apart : (i j : ℕ) (l : Octets) → l
       let calm = reached_calm W x bound h.sound.0 h.sound.2 h.sound.1 n h.sound.3 key in
       record {
         timely = calm.timely;
+        sent = sent_now n key;
         client_told = calm.client;
         server_told = calm.server;
         stays = stays n refl;

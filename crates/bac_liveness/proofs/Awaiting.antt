@@ -21,8 +21,8 @@ use Rattle.bac_protocol.specs.Server as server
 use Rattle.bac_protocol.specs.Server.{State, ServerTransaction, Service, is_live}
 use Rattle.bac_protocol.specs.Server.State.{Done}
 use Rattle.bac_protocol.specs.Transaction.{Key, Rules, Copy, client_context, server_context}
-use Rattle.bac_protocol.specs.World.{Net, Post, later, is_room, lost, set_at, copies_of, client_acts, server_acts, asked_at, is_id_held, client_restarted}
-use Rattle.bac_protocol.specs.World.{server_restarted, client_now, server_now, passes}
+use Rattle.bac_protocol.specs.World.{Net, Post, later, is_room, lost, set_at, copies_of, client_acts, server_acts, asked_at, is_id_held}
+use Rattle.bac_protocol.specs.World.{server_restarted, server_begun, client_now, server_now, passes}
 use Rattle.bac_protocol.specs.Claims.{EachCopy}
 use Rattle.bac_protocol.specs.Own.{IsOfClient}
 use Rattle.bac_protocol.specs.Pace.{clock_at, Pace, Clock}
@@ -31,13 +31,14 @@ use Rattle.bac_protocol.proofs.Facts.{all_map, each_sent}
 use Rattle.bac_protocol.proofs.Keys.{decide_key, set_same, set_other, copies_posted, copies_other, copy_at}
 use Rattle.bac_protocol.proofs.Own.{client_sends_own}
 use Rattle.bac_protocol.proofs.Paces.{shown_at, since_now}
+use Rattle.bac_protocol.proofs.Resting.{IsUnserved}
 use Rattle.bac_liveness.specs.Runs.{StaysSince}
-use Rattle.bac_liveness.proofs.Paths.{Bounded, path_bounded, step_restarted, some_is, ask_of, Comes, Step, Path}
-use Rattle.bac_liveness.proofs.Paths.Step.{Asks, Serves, Hears, TicksTicket, TicksEntry, Passes, Changes, RestartsClient, RestartsServer, Strange}
+use Rattle.bac_liveness.proofs.Paths.{Bounded, some_is, ask_of, Comes, Step, Path}
+use Rattle.bac_liveness.proofs.Paths.Step.{Asks, Serves, Hears, TicksTicket, TicksEntry, Passes, Changes, RestartsClient, RestartsServer, BeginsClient, BeginsServer, BeginsNext, Strange}
 use Rattle.bac_liveness.proofs.Paths.Path.{Here, Then}
 use Rattle.bac_liveness.proofs.Changes.{IsThere, there_step}
 use Rattle.bac_liveness.proofs.Clocks.{IsBegunAfter, IsLostAfter, MadeIn, BegunIn, LostIn, alive, closed, made_step, begun_passes, lost_passes, here_step}
-use Rattle.bac_liveness.proofs.Clocks.{made_path}
+use Rattle.bac_liveness.proofs.Clocks.{made_path, stays_at}
 use Rattle.bac_liveness.proofs.Kept.{held_in_time}
 
 -- an APDU is no segment of a reply
@@ -358,8 +359,9 @@ module _ (x : Rules) (Q : Net → ℕ → Bool → Service → Type 0) (key : Ke
           entry = h.entry;
         }
 
-    client_lost : (node exact : ℕ) → Next (client_restarted n node exact)
-    client_lost node exact = record { ticket = go (nat_eq key.client node); copies = h.copies; entry = h.entry }
+    -- a client's tickets are lost
+    tickets_lost : (node : ℕ) (u : ClientTransaction) → (if nat_eq key.client node then lost (n.tickets key) else n.tickets key) ≡ Some u → Awaits u.phase
+    tickets_lost node = go (nat_eq key.client node)
       where
         over : (o : Option ClientTransaction) (u : ClientTransaction) → lost o ≡ Some u → Awaits u.phase
         over None u e = absurd cc
@@ -368,6 +370,20 @@ module _ (x : Rules) (Q : Net → ℕ → Bool → Service → Type 0) (key : Ke
         go : (b : Bool) (u : ClientTransaction) → (if b then lost (n.tickets key) else n.tickets key) ≡ Some u → Awaits u.phase
         go true u e = over (n.tickets key) u e
         go false u e = awaiting u e
+
+    -- a server that begins is not that of the ask
+    server_begins : (node exact : ℕ) → IsUnserved n.entries n.far.entries n.serves_from node → Next (server_begun n node exact)
+    server_begins node exact off = record { ticket = awaiting; copies = h.copies; entry = go (nat_eq key.server node) refl }
+      where
+        none : key.server ≡ node → DoneIn n (n.serves_from key.server) (n.entries key) → ⊥
+        none at (inl d) = let nil = off.entries key at in let some = d.at in absurd cc
+        none at (inr lost) =
+            let nil : n.serves_from key.server ≡ 0 = ap n.serves_from at ∙ off.opens in let is = lost.1.from_is in omega arith
+
+        go : (b : Bool) → nat_eq key.server node ≡ b
+            → IsDoneOrLost n.pace n.now (if b then clock_at n.pace exact else n.server_clocks key.server) (n.serves_from key.server) (n.entries key)
+        go true is = absurd (none (grind (arith, nat_tests)) h.entry)
+        go false is = h.entry
 
     server_lost : (node exact : ℕ) (store : Option Octets) → Next (server_restarted n node exact store)
     server_lost node exact store = record { ticket = awaiting; copies = h.copies; entry = go (nat_eq key.server node) }
@@ -427,8 +443,11 @@ module _ (x : Rules) (Q : Net → ℕ → Bool → Service → Type 0) (key : Ke
         })
         entry_later (inr lost) = inr (lost.0, lost_passes x Q key ask.first made n by servers (n.serves_from key.server) lost.1)
     next _ (Changes node change) = record { ticket = awaiting; copies = h.copies; entry = h.entry }
-    next _ (Strange asks far log g) = record { ticket = awaiting; copies = h.copies; entry = h.entry }
-    next _ (RestartsClient node exact) = client_lost node exact
+    next _ (Strange m aside) = record { ticket = awaiting; copies = h.copies; entry = h.entry }
+    next _ (BeginsClient node exact off) = record { ticket = awaiting; copies = h.copies; entry = h.entry }
+    next _ (BeginsServer node exact off) = server_begins node exact off
+    next _ (BeginsNext node exact quiet earlier) = record { ticket = tickets_lost node; copies = h.copies; entry = h.entry }
+    next _ (RestartsClient node exact) = record { ticket = tickets_lost node; copies = h.copies; entry = h.entry }
     next _ (RestartsServer node exact store) = server_lost node exact store
 
   awaited_step : (n m : Net) → Step x Q n m → IsAwaited n → InTime n → StaysSince n key made → StaysSince m key made → IsAwaited m
@@ -450,6 +469,6 @@ module _ (x : Rules) (Q : Net → ℕ → Bool → Service → Type 0) (key : Ke
   pub awaited_path : (n m : Net) → Path x Q n m → Bounded n → IsAwaited n → StaysSince m key made → InTime m → IsAwaited m
   awaited_path n _ Here b h stays young = h
   awaited_path n _ (Then l m p s) b h stays young =
-      let before : StaysSince l key made = let le = step_restarted x Q l m s (path_bounded x Q n l p b) key.client in omega arith in
+      let before = stays_at x Q key ask.first made n l m p s b stays h.runs in
       let on = here_step x Q key ask.first made l m s stays (made_path x Q key ask.first made n l p b before h.runs) in
       let earlier : InTime l = omega arith in awaited_step l m s (awaited_path n l p b h before earlier) earlier before stays

@@ -1,5 +1,6 @@
 -- What a step makes of one transaction's ticket.
-use Rattle.std.proofs.Common.{◌≡◌, ℕ, ◌+◌, ◌⊎◌, Bool, true, false, List, Some, if◌then◌else◌, nat_eq, refl, sym, ap, subst, inl, inr, ◌∙◌, arith}
+use Rattle.std.proofs.Common.{◌≡◌, ℕ, ◌+◌, ◌<◌, ◌≤◌, ◌⊎◌, Bool, true, false, List, Some, if◌then◌else◌, nat_eq, refl, sym, ap, subst, inl, inr, ◌∙◌, arith}
+use Rattle.std.proofs.lemmas.Bool.Decides.{nat_tests}
 use Rattle.bac_protocol.specs.Service.{Ending}
 use Rattle.bac_protocol.specs.Client as client
 use Rattle.bac_protocol.specs.Client.{Ask, ClientTransaction, Reaction, is_idle, after, ending_of}
@@ -9,23 +10,24 @@ use Rattle.bac_protocol.specs.Server.{Service}
 use Rattle.bac_protocol.specs.Log.{Fact, Has}
 use Rattle.bac_protocol.specs.Log.Fact.{Ended}
 use Rattle.bac_protocol.specs.Transaction.{Key, Rules, client_context, ended}
-use Rattle.bac_protocol.specs.World.{Net, is_id_held, asked_at, client_acts, client_restarted, lost, client_now}
+use Rattle.bac_protocol.specs.World.{Net, is_id_held, asked_at, client_acts, client_restarted, next_client, lost, client_now}
 use Rattle.bac_protocol.specs.Claims.{ClientStays}
 use Rattle.bac_protocol.proofs.Facts.{Grows}
 use Rattle.bac_protocol.proofs.Keys.{decide_key, set_same, set_other}
-use Rattle.bac_liveness.specs.Runs.{StaysSince}
+use Rattle.bac_protocol.proofs.Nets.{was_there}
 use Rattle.bac_liveness.proofs.Opens.{Opens, gets_opens, ticks_opens, asked_opens}
-use Rattle.bac_liveness.proofs.Paths.{some_is, ask_of, Step, Path, Bounded, step_log, step_restarted, path_bounded}
-use Rattle.bac_liveness.proofs.Paths.Step.{Asks, Serves, Hears, TicksTicket, TicksEntry, Passes, Changes, RestartsClient, RestartsServer, Strange}
+use Rattle.bac_liveness.proofs.Paths.{some_is, ask_of, Step, Path, Bounded, WasMadeIn, step_log, stays_before, path_bounded}
+use Rattle.bac_liveness.proofs.Paths.Step.{Asks, Serves, Hears, TicksTicket, TicksEntry, Passes, Changes, RestartsClient, RestartsServer, BeginsClient, BeginsServer, BeginsNext, Strange}
 use Rattle.bac_liveness.proofs.Paths.Path.{Here, Then}
 
--- it stays, a new ask takes its place, its client's machine acts on it, or its client restarts
+-- it stays, a new ask takes its place, its client's machine acts on it, or its client begins anew
 pub data Change (key : Key) (n m : Net) : Type 0 where
   Same : m.tickets key ≡ n.tickets key → m.numbers key ≡ n.numbers key → m.made key ≡ n.made key → Change key n m
   Fresh : is_id_held n key ≡ false → (t : ClientTransaction) → m.tickets key ≡ Some t → is_idle t.phase ≡ false → Change key n m
   Reacts : (t : ClientTransaction) (r : Reaction) → n.tickets key ≡ Some t → Opens r → m.tickets key ≡ Some (after (client_now n key) t r)
       → m.numbers key ≡ n.numbers key → m.made key ≡ n.made key → m.log ≡ ended (n.numbers key) (ending_of r) n.log → Change key n m
-  Loses : m.tickets key ≡ lost (n.tickets key) → m.numbers key ≡ n.numbers key → m.made key ≡ n.made key → m.restarted key.client ≡ n.now + 1 → Change key n m
+  Loses : m.tickets key ≡ lost (n.tickets key) → m.numbers key ≡ n.numbers key → m.made key ≡ n.made key
+      → (n.made key ≤ n.now → (t : ClientTransaction) → n.tickets key ≡ Some t → n.made key < m.restarted key.client) → Change key n m
 
 abbrev pub HasEnded : ℕ → List Fact → Type 0
 HasEnded n log = (how : Ending) × Has (Ended n how) log
@@ -72,10 +74,15 @@ module _ (x : Rules) (Q : Net → ℕ → Bool → Service → Type 0) where
           (Change.Fresh free made (set_same n.tickets k (Some made)) (asked_opens (client_context x k (client_now n k)) ask))
       go (inr ne) = Change.Same (set_other n.tickets k (Some made) key ne) (set_other n.numbers k n.asks key ne) (set_other n.made k n.now key ne)
 
-  restart_change : (n : Net) (node exact : ℕ) (key : Key) (b : Bool) → nat_eq key.client node ≡ b → Change key n (client_restarted n node exact)
-  restart_change n node exact key true e = Change.Loses
-      (ap (λ b. if b then lost (n.tickets key) else n.tickets key) e) refl refl (ap (λ b. if b then n.now + 1 else n.restarted key.client) e)
-  restart_change n node exact key false e = Change.Same (ap (λ b. if b then lost (n.tickets key) else n.tickets key) e) refl refl
+  anew_change : (n m : Net) (node at : ℕ) (key : Key) → m.tickets key ≡ (if nat_eq key.client node then lost (n.tickets key) else n.tickets key)
+      → m.numbers key ≡ n.numbers key → m.made key ≡ n.made key → m.restarted key.client ≡ (if nat_eq key.client node then at else n.restarted key.client)
+      → (n.made key ≤ n.now → (t : ClientTransaction) → key.client ≡ node → n.tickets key ≡ Some t → n.made key < at) → Change key n m
+  anew_change n m node at key tickets numbers made restarted before = go (nat_eq key.client node) refl tickets restarted
+    where
+      go : (b : Bool) → nat_eq key.client node ≡ b → m.tickets key ≡ (if b then lost (n.tickets key) else n.tickets key)
+          → m.restarted key.client ≡ (if b then at else n.restarted key.client) → Change key n m
+      go true e is from = Change.Loses is numbers made (λ on t there. let lt = before on t (grind (arith, nat_tests)) there in omega arith)
+      go false e is from = Change.Same is numbers made
 
   pub step_change : (n m : Net) → Step x Q n m → (key : Key) → Change key n m
   step_change n _ (Asks k choice whole front rest free) key = asks_change n k (ask_of (client_now n k) choice whole front rest) free key
@@ -88,29 +95,33 @@ module _ (x : Rules) (Q : Net → ℕ → Bool → Service → Type 0) where
   step_change n _ (TicksEntry k) key = Change.Same refl refl refl
   step_change n _ (Passes by clients servers) key = Change.Same refl refl refl
   step_change n _ (Changes node change) key = Change.Same refl refl refl
-  step_change n _ (RestartsClient node exact) key = restart_change n node exact key (nat_eq key.client node) refl
+  step_change n _ (RestartsClient node exact) key =
+      anew_change n (client_restarted n node exact) node (n.now + 1) key refl refl refl refl (λ on t is there. omega arith)
   step_change n _ (RestartsServer node exact store) key = Change.Same refl refl refl
-  step_change n _ (Strange asks far log g) key = Change.Same refl refl refl
-
-  pub stays_before : (n m : Net) → Step x Q n m → Bounded n → (key : Key) (made : ℕ) → StaysSince m key made → StaysSince n key made
-  stays_before n m s b key made stays = let le = step_restarted x Q n m s b key.client in omega arith
+  step_change n _ (Strange m aside) key = Change.Same refl refl refl
+  step_change n _ (BeginsClient node exact off) key = Change.Same refl refl refl
+  step_change n _ (BeginsServer node exact off) key = Change.Same refl refl refl
+  step_change n _ (BeginsNext node exact quiet earlier) key =
+      anew_change n (next_client n node exact) node n.now key refl refl refl refl (λ on t is there. earlier key t is there)
 
   logged_step : (n m : Net) → Step x Q n m → Bounded n → IdleIsLogged n → IdleIsLogged m
   logged_step n m s b h key t at stays idle = go (step_change n m s key)
     where
-      before : m.made key ≡ n.made key → ClientStays n key
-      before made = let le = step_restarted x Q n m s b key.client in let on = stays in omega arith
+      before : m.made key ≡ n.made key → (u : ClientTransaction) → n.tickets key ≡ Some u → ClientStays n key
+      before made u there = stays_before x Q n m s b key (n.made key) (record { by_now = b.made key; sent = b.sends key u there })
+          (let on = stays in omega arith)
 
       go : Change key n m → HasEnded (m.numbers key) m.log
       go (Change.Same e f g) =
-          subst (λ (k : ℕ). HasEnded k m.log) (sym f) (ended_grows (n.numbers key) n.log m.log (step_log x Q n m s) (h key t (sym e ∙ at) (before g) idle))
+          subst (λ (k : ℕ). HasEnded k m.log) (sym f) (ended_grows (n.numbers key) n.log m.log (step_log x Q n m s) (h key t (sym e ∙ at) (before g t (sym e ∙ at)) idle))
       go (Change.Fresh free u is opens) = let same : u ≡ t = some_is u t (sym is ∙ at) in absurd cc
       go (Change.Reacts u r was opens is f g log) =
           let same : after (client_now n key) u r ≡ t = some_is (after (client_now n key) u r) t (sym is ∙ at) in
           subst (λ (k : ℕ). HasEnded k m.log) (sym f) (subst (λ (l : List Fact). HasEnded (n.numbers key) l) (sym log)
-          (after_logged (n.numbers key) (client_now n key) u r n.log opens (λ o. h key u was (before g) o)
+          (after_logged (n.numbers key) (client_now n key) u r n.log opens (λ o. h key u was (before g u was) o)
           (ap (λ (y : ClientTransaction). is_idle y.phase) same ∙ idle)))
-      go (Change.Loses e f g from) = let made = b.made key in let on = stays in absurd (omega arith)
+      go (Change.Loses e f g lost) =
+          let u = was_there (n.tickets key) true t (sym e ∙ at) in let later = lost (b.made key) u.0 u.1 in let on = stays in absurd (omega arith)
 
   pub logged_path : (n m : Net) → Path x Q n m → Bounded n → IdleIsLogged n → IdleIsLogged m
   logged_path n _ Here b h = h
@@ -124,6 +135,13 @@ module _ (x : Rules) (Q : Net → ℕ → Bool → Service → Type 0) where
       pub is : ticket.ask ≡ ask
       pub number_is : n.numbers key ≡ number
       pub made_is : n.made key ≡ made
+
+    pub there_was_made : (n : Net) → Bounded n → IsThere n → WasMadeIn n key made
+    there_was_made n b h =
+        let is = h.made_is in
+        let on = b.made key in
+        let sent = b.sends key h.ticket h.at in
+        record { by_now = omega arith; sent = omega arith }
 
     pub there_step : (n m : Net) → Step x Q n m → IsThere n → IsThere m ⊎ (is_id_held n key ≡ false)
     there_step n m s h = go (step_change n m s key)
@@ -140,7 +158,7 @@ module _ (x : Rules) (Q : Net → ℕ → Bool → Service → Type 0) where
               number_is = f ∙ h.number_is;
               made_is = g ∙ h.made_is;
             })
-        go (Change.Loses e f g from) = inl (record {
+        go (Change.Loses e f g later) = inl (record {
           ticket = record (h.ticket) { phase = Idle };
           at = e ∙ ap lost h.at;
           is = h.is;

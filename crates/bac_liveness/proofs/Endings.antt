@@ -23,15 +23,15 @@ use Rattle.bac_protocol.specs.Pace.{Pace, IsTimely}
 use Rattle.bac_protocol.specs.World.Event.{Tick, Deliver}
 use Rattle.bac_protocol.specs.Claims.{IsBounded, ClientStays}
 use Rattle.bac_protocol.proofs.Dead.{ended_is_silent}
-use Rattle.bac_protocol.proofs.Nets.{sound_at}
+use Rattle.bac_protocol.proofs.Nets.{net_log, sound_at}
 use Rattle.bac_protocol.proofs.Sound.{IsOpenIn}
-use Rattle.bac_protocol.proofs.Headline.{Kept, run_kept, event_kept, start_kept, net_log}
+use Rattle.bac_protocol.proofs.Headline.{Kept, run_kept, event_kept, start_kept}
 use Rattle.bac_liveness.specs.Runs.{endings_of, IsOnItsWay, StaysSince}
 use Rattle.bac_liveness.specs.Ends.{EndsInTime, EndingsAreLogged}
-use Rattle.bac_liveness.proofs.Paths.{Step, Path, Any, Bounded, bounded_start, step_log, path_log, path_bounded, clients_path, servers_path, ticket_path}
+use Rattle.bac_liveness.proofs.Paths.{Step, Path, Any, Bounded, bounded_start, step_log, path_log, path_bounded, stays_before, was_made_path, clients_path, servers_path, ticket_path}
 use Rattle.bac_liveness.proofs.Paths.{event_steps, run_steps}
 use Rattle.bac_liveness.proofs.Paths.Path.{Here, Then}
-use Rattle.bac_liveness.proofs.Changes.{HasEnded, ended_grows, IdleIsLogged, logged_path, stays_before, IsThere, there_step}
+use Rattle.bac_liveness.proofs.Changes.{HasEnded, ended_grows, IdleIsLogged, logged_path, IsThere, there_step, there_was_made}
 
 -- A log in order has one ending of an ask that has ended.
 
@@ -162,10 +162,12 @@ module _ (x : Rules) (key : Key) (number : ℕ) (ask : Ask) (made : ℕ) where
           (logged key h.ticket h.at stays' (ended_is_silent.unheld (client_now n key) h.ticket (unheld n key h.ticket h.at stays' free)))))
 
   pub tracked_path : (n m : Net) → Path x Any n m → Bounded n → StaysSince m key made → IdleIsLogged n → Tracked n → Tracked m
-  tracked_path n _ Here b stays logged h = h
-  tracked_path n _ (Then l m p s) b stays logged h =
-      let before = stays_before x Any l m s (path_bounded x Any n l p b) key made stays in
-      tracked_step l m s before (logged_path x Any n l p b logged) (tracked_path n l p b before logged h)
+  tracked_path n m p b stays logged (inr h) = inr (ended_grows number n.log m.log (path_log x Any n m p) h)
+  tracked_path n _ Here b stays logged (inl h) = inl h
+  tracked_path n _ (Then l m p s) b stays logged (inl h) =
+      let was = was_made_path x Any n l p key made (there_was_made x Any key number ask made n b h) in
+      let before = stays_before x Any l m s (path_bounded x Any n l p b) key made was stays in
+      tracked_step l m s before (logged_path x Any n l p b logged) (tracked_path n l p b before logged (inl h))
 
   -- past DEADLINE a client's step ends it
   module _ (S : Type 0) (model : StoreModel S) (w : World S) (stays : StaysSince w.net key made) (logged : IdleIsLogged w.net)
@@ -253,13 +255,13 @@ module _ (S : Type 0) (model : StoreModel S) (x : Rules) (key : Key) (number : �
       (path_log x Any u.net (ticks_as_server S model x as_server u).net (servers_path x Any S model as_server u))
       (ticks_end as_client i w b stays logged t late)
 
-  answer_ends_late : (at : ℕ) (free : Bool) (a : Apdu) → is_from_server a ≡ true → (w : World S) → StaysSince w.net key made → IdleIsLogged w.net
+  answer_ends_late : (at : ℕ) (free : Bool) (a : Apdu) → is_from_server a ≡ true → (w : World S) → Bounded w.net → StaysSince w.net key made → IdleIsLogged w.net
       → Tracked x key number ask made w.net → DEADLINE < client_now w.net key - ask.first → IsOnItsWay x w.net key a at
       → HasEnded number (happens S model x w (Deliver at free)).net.log
-  answer_ends_late at free a from w stays logged (inr h) late m =
+  answer_ends_late at free a from w b stays logged (inr h) late m =
       let u = happens S model x w (Deliver at free) in
-      ended_grows number w.net.log u.net.log (path_log x Any w.net u.net (event_steps x S model w (Deliver at free))) h
-  answer_ends_late at free a from w stays logged (inl h) late m =
+      ended_grows number w.net.log u.net.log (path_log x Any w.net u.net (event_steps x S model w b (Deliver at free))) h
+  answer_ends_late at free a from w b stays logged (inl h) late m =
       subst (λ (u : World S). HasEnded number u.net.log) (sym (answer_now S model x w key a at free (not_from_client a from) m))
       (late_answer x key number ask made S model w stays logged late a from h)
 
@@ -269,17 +271,17 @@ module _ (S : Type 0) (model : StoreModel S) (opening : ℕ → S) (W : ℕ) (x 
   pub bounded_in_run : (events : List Event) → Bounded (run S model x events (start S pace clocks opening)).net
   bounded_in_run events =
       path_bounded x Any (start S pace clocks opening).net (run S model x events (start S pace clocks opening)).net
-      (run_steps x S model events (start S pace clocks opening)) (bounded_start pace clocks)
+      (run_steps x S model events (start S pace clocks opening) (bounded_start pace clocks)) (bounded_start pace clocks)
 
   pub idle_in_run : (events : List Event) → IdleIsLogged (run S model x events (start S pace clocks opening)).net
   idle_in_run events = logged_path x Any (start S pace clocks opening).net (run S model x events (start S pace clocks opening)).net
-      (run_steps x S model events (start S pace clocks opening)) (bounded_start pace clocks) (λ key t at stays idle. absurd cc)
+      (run_steps x S model events (start S pace clocks opening) (bounded_start pace clocks)) (bounded_start pace clocks) (λ key t at stays idle. absurd cc)
 
   once_after : (w : World S) → Kept S model opening W x bound w → (e : Event) (n : ℕ) → HasEnded n (happens S model x w e).net.log
       → endings_of n (happens S model x w e).net.log ≡ 1
   once_after w s e n h =
       let u = happens S model x w e in
-      ended_once n u.net.log (net_log W u.net (event_kept S model opening W x bound w s e).net).orderly h
+      ended_once n u.net.log (net_log W u.net (event_kept S model opening W x bound w s e).stands.net).orderly h
 
   ends_in_time : (w : World S) → Kept S model opening W x bound w → Bounded w.net → IdleIsLogged w.net → EndsInTime S model x w
   ends_in_time w s b logged = record {
@@ -287,21 +289,22 @@ module _ (S : Type 0) (model : StoreModel S) (opening : ℕ → S) (W : ℕ) (x 
         let v = run S model x events w in
         once_after v (run_kept S model opening W x bound events w s) (Tick as_client as_server) (w.net.numbers key)
         (tick_ends S model x key (w.net.numbers key) t.ask (w.net.made key) as_client as_server there v
-        (path_bounded x Any w.net v.net (run_steps x S model events w) b) stays (logged_on events) (tracked key t at events stays) late);
+        (path_bounded x Any w.net v.net (run_steps x S model events w b) b) stays (logged_on events) (tracked key t at events stays) late);
     answers = λ key t at events number free a stays late from m.
         let v = run S model x events w in
         once_after v (run_kept S model opening W x bound events w s) (Deliver number free) (w.net.numbers key)
-        (answer_ends_late S model x key (w.net.numbers key) t.ask (w.net.made key) number free a from v stays (logged_on events)
+        (answer_ends_late S model x key (w.net.numbers key) t.ask (w.net.made key) number free a from v
+        (path_bounded x Any w.net v.net (run_steps x S model events w b) b) stays (logged_on events)
         (tracked key t at events stays) late m);
   }
     where
       logged_on : (events : List Event) → IdleIsLogged (run S model x events w).net
-      logged_on events = logged_path x Any w.net (run S model x events w).net (run_steps x S model events w) b logged
+      logged_on events = logged_path x Any w.net (run S model x events w).net (run_steps x S model events w b) b logged
 
       tracked : (key : Key) (t : ClientTransaction) → w.net.tickets key ≡ Some t → (events : List Event)
           → StaysSince (run S model x events w).net key (w.net.made key) → Tracked x key (w.net.numbers key) t.ask (w.net.made key) (run S model x events w).net
       tracked key t at events stays = tracked_path x key (w.net.numbers key) t.ask (w.net.made key) w.net (run S model x events w).net
-          (run_steps x S model events w) b
+          (run_steps x S model events w b) b
           stays logged
           (inl (record { ticket = t; at = at; is = refl; number_is = refl; made_is = refl }))
 
@@ -320,6 +323,6 @@ module _ (S : Type 0) (model : StoreModel S) (opening : ℕ → S) (W : ℕ) (x 
       s = run_kept S model opening W x bound events (start S pace clocks opening) (start_kept S model opening W x bound pace timely clocks)
 
       go : (b : Bool) → is_idle t.phase ≡ b → endings_of (w.net.numbers key) w.net.log ≡ (if b then 1 else 0)
-      go true e = ended_once (w.net.numbers key) w.net.log (net_log W w.net s.net).orderly (idle_in_run events key t at stays e)
+      go true e = ended_once (w.net.numbers key) w.net.log (net_log W w.net s.stands.net).orderly (idle_in_run events key t at stays e)
       go false e = unended_none (w.net.numbers key) w.net.log
-          (open_unended (w.net.numbers key) w.net.log t.phase e ((sound_at W w.net key (Some t) at s.net).2).unended)
+          (open_unended (w.net.numbers key) w.net.log t.phase e ((sound_at W w.net key (Some t) at s.stands.net).2).unended)

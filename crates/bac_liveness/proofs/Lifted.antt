@@ -17,9 +17,10 @@ use Rattle.bac_protocol.specs.Log.{StoreModel}
 use Rattle.bac_protocol.specs.Own.{lesser_window, IsOwnPost, AreOwn}
 use Rattle.bac_protocol.specs.Transaction.{Key, Rules, Copy, client_context, server_context}
 use Rattle.bac_protocol.specs.World.{Net, World, Post, Event, later, is_deliverable, copies_of, is_id_held, is_room, lost, asked_at, ask_made, client_acts}
+use Rattle.bac_protocol.specs.World.{with_clock, is_active, begun, client_begun, server_begun, is_quiet, next_client, begun_again}
 use Rattle.bac_protocol.specs.World.{server_acts, client_restarted, server_restarted, delivered, arrives, takes_at_client, takes_at_server, ticks_ticket}
 use Rattle.bac_protocol.specs.World.{ticks_as_client, ticks_as_server, serves, service_of, happens, run, start, post_of, client_now, server_now}
-use Rattle.bac_protocol.specs.World.Event.{MakeAsk, Deliver, Tick, Noise, Advance, Change, RestartClient, RestartServer, Stray, AskAway, TickAway}
+use Rattle.bac_protocol.specs.World.Event.{MakeAsk, Deliver, Tick, Noise, Advance, Change, RestartClient, RestartServer, Begin, BeginAgain, Stray, AskAway, TickAway}
 use Rattle.bac_protocol.specs.World.{serves_away, is_id_held_away, strays_to_server, strays_to_client, asked_away, ticks_ticket_away, ticks_as_client_away}
 use Rattle.bac_protocol.specs.World.{ticks_as_server_away}
 use Rattle.bac_protocol.specs.Pace.{Pace, IsTimely, clock_at}
@@ -32,7 +33,8 @@ use Rattle.bac_protocol.proofs.Facts.{pieces_all, pieces_length}
 use Rattle.bac_protocol.proofs.Headline.{Kept, run_kept, start_kept}
 use Rattle.bac_protocol.proofs.Keys.{decide_key, set_same, set_other, copies_posted, copies_other, copy_at}
 use Rattle.bac_protocol.proofs.Nets.{NetSound, sound_at, room_opens}
-use Rattle.bac_protocol.proofs.Calm.{spent_free}
+use Rattle.bac_protocol.proofs.Resting.{IsUnserved, Unserved, not_active}
+use Rattle.bac_protocol.proofs.Standing.{spent_stands}
 use Rattle.bac_protocol.proofs.Owned.{own_in_run}
 use Rattle.bac_liveness.proofs.Paths.{some_is}
 use Rattle.bac_liveness.proofs.Flow.{Hands, reach, SaysLimits, AllUp, all_up, all_limits, request_window_near, PhaseFlows, Flow, flow_later, client_flows}
@@ -186,14 +188,19 @@ module _ (W : ℕ) (x : Rules) (bound : IsBounded W x) (key : Key) (some : 0 < l
 
   -- Restarts: a ticket that was lost is idle, and of an entry that was lost nothing is said.
 
-  client_lost : (n : Net) → FlowAt n → (node exact : ℕ) → FlowAt (client_restarted n node exact)
-  client_lost n flow node exact t at =
-      flow_later W x key (hands n) (hands (client_restarted n node exact)) t.ask t.repeats t.phase (n.entries key) (copies_of key n.posts)
-      (same_moment n.now) refl (same_moment (server_now n key)) (go (nat_eq key.client node) t at)
+  -- a client's clock is another: that matters to no flow
+  client_anew : (n : Net) (shows : ℕ) (t : ClientTransaction) → FlowOf (hands n) t (n.entries key) (copies_of key n.posts)
+      → FlowOf (record (hands n) { client = shows }) t (n.entries key) (copies_of key n.posts)
+  client_anew n shows t f = flow_later W x key (hands n) (record (hands n) { client = shows }) t.ask t.repeats t.phase (n.entries key) (copies_of key n.posts)
+      (same_moment n.now) refl (same_moment (server_now n key)) f
     where
       same_moment : (k : ℕ) → k ≤ k
       same_moment k = omega arith
 
+  tickets_lost : (n : Net) → FlowAt n → (node : ℕ) (t : ClientTransaction) → (if nat_eq key.client node then lost (n.tickets key) else n.tickets key) ≡ Some t
+      → FlowOf (hands n) t (n.entries key) (copies_of key n.posts)
+  tickets_lost n flow node = go (nat_eq key.client node)
+    where
       idle : (o : Option ClientTransaction) → n.tickets key ≡ o → (u : ClientTransaction) → lost o ≡ Some u
           → FlowOf (hands n) u (n.entries key) (copies_of key n.posts)
       idle None was u is = absurd cc
@@ -208,26 +215,63 @@ module _ (W : ℕ) (x : Rules) (bound : IsBounded W x) (key : Key) (some : 0 < l
       go true = idle (n.tickets key) refl
       go false = flow
 
+  client_lost : (n : Net) → FlowAt n → (node exact : ℕ) → FlowAt (client_restarted n node exact)
+  client_lost n flow node exact t at = client_anew n (client_now (client_restarted n node exact) key) t (tickets_lost n flow node t at)
+
+  -- nothing is said of an entry that is not there
+  no_entry : (n : Net) (shows : ℕ) (t : ClientTransaction) → FlowOf (hands n) t (n.entries key) (copies_of key n.posts)
+      → FlowOf (record (hands n) { server = shows }) t None (copies_of key n.posts)
+  no_entry n shows t f = record {
+    some = f.some;
+    few = f.few;
+    limits = f.limits;
+    client = f.client;
+    sent_up = f.sent_up;
+    taken_up = λ out all is full e there. absurd cc;
+    made = λ e there. absurd cc;
+    sent_down = λ e there. absurd cc;
+    taken_down = λ inc is e there. absurd cc;
+  }
+
   server_lost : (n : Net) → FlowAt n → (node exact : ℕ) (store : Option Octets) → FlowAt (server_restarted n node exact store)
   server_lost n flow node exact store t at = go (nat_eq key.server node)
     where
-      f : FlowOf (hands n) t (n.entries key) (copies_of key n.posts)
-      f = flow t at
-
       go : (b : Bool) → FlowOf (record (hands n) { server = (if b then clock_at n.pace exact else n.server_clocks key.server).shows }) t
           (if b then None else n.entries key) (copies_of key n.posts)
-      go true = record {
-        some = f.some;
-        few = f.few;
-        limits = f.limits;
-        client = f.client;
-        sent_up = f.sent_up;
-        taken_up = λ out all is full e there. absurd cc;
-        made = λ e there. absurd cc;
-        sent_down = λ e there. absurd cc;
-        taken_down = λ inc is e there. absurd cc;
-      }
-      go false = f
+      go true = no_entry n (clock_at n.pace exact).shows t (flow t at)
+      go false = flow t at
+
+  -- Late starts.
+
+  client_begins : (n : Net) → FlowAt n → (node exact : ℕ) → FlowAt (client_begun n node exact)
+  client_begins n flow node exact t at = client_anew n (client_now (client_begun n node exact) key) t (flow t at)
+
+  server_begins : (n : Net) (node : ℕ) → IsUnserved n.entries n.far.entries n.serves_from node → FlowAt n → (exact : ℕ) → FlowAt (server_begun n node exact)
+  server_begins n node off flow exact t at = go (nat_eq key.server node) refl
+    where
+      go : (b : Bool) → nat_eq key.server node ≡ b
+          → FlowOf (record (hands n) { server = (if b then clock_at n.pace exact else n.server_clocks key.server).shows }) t
+          (n.entries key) (copies_of key n.posts)
+      go true is = subst (λ (o : Option ServerTransaction). FlowOf (record (hands n) { server = (clock_at n.pace exact).shows }) t o (copies_of key n.posts))
+          (sym (off.entries key (grind (arith, nat_tests)))) (no_entry n (clock_at n.pace exact).shows t (flow t at))
+      go false is = flow t at
+
+  begins : (n : Net) → Unserved n → FlowAt n → (node exact : ℕ) (b : Bool) → is_active n node ≡ b → FlowAt (if b then n else begun n node exact)
+  begins n unserved flow node exact true is = flow
+  begins n unserved flow node exact false off = client_begins (server_begun n node exact)
+      (server_begins n node (unserved node (not_active n node off).1) flow exact) node exact
+
+  next_begins : (n : Net) → FlowAt n → (node exact : ℕ) → FlowAt (next_client n node exact)
+  next_begins n flow node exact t at = client_anew n (client_now (next_client n node exact) key) t (tickets_lost n flow node t at)
+
+  begins_again : (n : Net) → Unserved n → FlowAt n → (node exact : ℕ) (b : Bool) → FlowAt (if b then begun_again n node exact else n)
+  begins_again n unserved flow node exact false = flow
+  begins_again n unserved flow node exact true = go (n.served node) refl
+    where
+      go : (b : Bool) → n.served node ≡ b
+          → FlowAt (record (next_client n node exact) { server_clocks = if b then n.server_clocks else with_clock n.pace node exact n.server_clocks })
+      go true is = next_begins n flow node exact
+      go false off = next_begins (server_begun n node exact) (server_begins n node (unserved node off) flow exact) node exact
 
   module _ (S : Type 0) (model : StoreModel S) (opening : ℕ → S) where
     asks_on : (w : World S) → Kept S model opening W x bound w → FlowAt w.net → (k : Key) (choice : ℕ) (whole : Bool) (front : Octets) (rest : List Octets)
@@ -245,7 +289,7 @@ module _ (W : ℕ) (x : Rules) (bound : IsBounded W x) (key : Key) (some : 0 < l
         go (inl is) =
             let free' : is_id_held w.net key ≡ false = subst (λ (j : Key). is_id_held w.net j ≡ false) is free in
             subst (λ (j : Key). FlowAt (asked_at x w.net j (ask j))) (sym is)
-            (ask_own w.net (spent_free W w.net s.net s.calm key free') (limits_at w.net s.net flow) choice front rest whole)
+            (ask_own w.net (spent_stands W w.net s.stands key free') (limits_at w.net s.stands.net flow) choice front rest whole)
 
     -- A delivery.
 
@@ -263,7 +307,7 @@ module _ (W : ℕ) (x : Rules) (bound : IsBounded W x) (key : Key) (some : 0 < l
         mine : p.key ≡ key → (t : ClientTransaction) → n.tickets key ≡ Some t
             → FlowOf (hands n) t (v key).entry (sent n.now (v key).sends (copies_of key n.posts))
         mine is t there =
-            let f = sound_at W n key (Some t) there s.net in
+            let f = sound_at W n key (Some t) there s.stands.net in
             let place = subst (λ (j : Key). slice_get (copies_of j n.posts) (later j number n.posts) ≡ Some p.copy) is (copy_at number n.posts p at) in
             let late = subst (λ (j : Key). later j number n.posts ≤ x.overtake) is few in
             let sent_is = subst (λ (j : Key). IsOwnPost x (record { key = j; copy = p.copy })) is (own.posts number p at) in
@@ -293,7 +337,7 @@ module _ (W : ℕ) (x : Rules) (bound : IsBounded W x) (key : Key) (some : 0 < l
             (sent n.now (client.sends_of (r key)) (copies_of key n.posts))
         mine is =
             let there' : n.tickets key ≡ Some t = subst (λ (j : Key). n.tickets j ≡ Some t) is there in
-            let f = sound_at W n key (Some t) there' s.net in
+            let f = sound_at W n key (Some t) there' s.stands.net in
             let place = subst (λ (j : Key). slice_get (copies_of j n.posts) (later j number n.posts) ≡ Some p.copy) is (copy_at number n.posts p at) in
             let late = subst (λ (j : Key). later j number n.posts ≤ x.overtake) is few in
             let sent_is = subst (λ (j : Key). IsOwnPost x (record { key = j; copy = p.copy })) is (own.posts number p at) in
@@ -371,7 +415,7 @@ module _ (W : ℕ) (x : Rules) (bound : IsBounded W x) (key : Key) (some : 0 < l
 
     server_on : (w : World S) → Kept S model opening W x bound w → (by : ℕ) (clients servers : ℕ → ℕ)
         → server_now w.net key ≤ server_now (happens S model x w (Advance by clients servers)).net key
-    server_on w s by clients servers = shows_on w.net.pace (s.calm key).timely.some by (servers key.server) (w.net.server_clocks key.server) (s.calm key).server
+    server_on w s by clients servers = shows_on w.net.pace (s.stands.calm key).timely.some by (servers key.server) (w.net.server_clocks key.server) (s.stands.calm key).server
 
     event_on : (w : World S) → Kept S model opening W x bound w → AreOwn x w.net → FlowAt w.net → (e : Event) → FlowAt (happens S model x w e).net
     event_on w s own flow (MakeAsk k choice whole front rest) =
@@ -414,6 +458,18 @@ module _ (W : ℕ) (x : Rules) (bound : IsBounded W x) (key : Key) (some : 0 < l
     event_on w s own flow (Change node change) = flow
     event_on w s own flow (RestartClient node exact) = client_lost w.net flow node exact
     event_on w s own flow (RestartServer node exact store) = server_lost w.net flow node exact store
+    event_on w s own flow (Begin node exact) = go (is_active w.net node) (begins w.net s.stands.unserved flow node exact (is_active w.net node) refl)
+      where
+        go : (b : Bool) → FlowAt (if b then w.net else begun w.net node exact)
+            → FlowAt (if b then w else record { net = begun w.net node exact; stores = w.stores }).net
+        go true f = f
+        go false f = f
+    event_on w s own flow (BeginAgain node exact) = go (is_quiet w.net node) (begins_again w.net s.stands.unserved flow node exact (is_quiet w.net node))
+      where
+        go : (b : Bool) → FlowAt (if b then begun_again w.net node exact else w.net)
+            → FlowAt (if b then record { net = begun_again w.net node exact; stores = w.stores } else w).net
+        go true f = f
+        go false f = f
 
     -- Runs.
 

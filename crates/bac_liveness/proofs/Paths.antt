@@ -1,7 +1,8 @@
--- A run of events is a path of single steps of one end, or of asks, of time, of changes at nodes, or of restarts. Of each delivery to a server a premise
--- says with which service it comes, and whether a slot is free.
+-- A run of events is a path of single steps of one end, or of asks, of time, of changes at nodes, of restarts, or of late starts. Of each delivery to a server
+-- a premise says with which service it comes, and whether a slot is free.
 use Rattle.std.proofs.Common.{◌≡◌, ℕ, zero, suc, ◌+◌, ◌≤◌, Bool, true, false, List, [], ◌∷◌, ◌++◌, map, Option, Some, None, slice_get, if◌then◌else◌, ◌⊎◌}
-use Rattle.std.proofs.Common.{nat_eq, refl, sym, inl, inr, subst, arith}
+use Rattle.std.proofs.Common.{◌<◌, min, nat_eq, refl, sym, inl, inr, subst, ◌∙◌, arith}
+use Rattle.std.proofs.lemmas.Bool.Decides.{nat_tests}
 use Rattle.bac_protocol.specs.Service.{Octets, Ending}
 use Rattle.bac_protocol.specs.Wire.{is_from_client}
 use Rattle.bac_protocol.specs.Client as client
@@ -14,15 +15,20 @@ use Rattle.bac_protocol.specs.Transaction.{Key, Rules, client_context, server_co
 use Rattle.bac_protocol.specs.World.{Net, World, Post, Event, is_deliverable, is_id_held, is_room, asked_at, ask_made, server_acts, notes_change}
 use Rattle.bac_protocol.specs.World.{client_restarted, server_restarted, set_at, client_now, server_now, passes, takes_at_client, takes_at_server, net_start}
 use Rattle.bac_protocol.specs.World.{delivered, happens, run, ticks_ticket, ticks_as_client, ticks_as_server, serves, service_of, post_of}
-use Rattle.bac_protocol.specs.Pace.{Pace}
-use Rattle.bac_protocol.specs.World.Event.{MakeAsk, Deliver, Tick, Noise, Advance, Change, RestartClient, RestartServer, Stray, AskAway, TickAway}
-use Rattle.bac_protocol.specs.World.{Strangers, client_acts_away, server_acts_away, asked_away_at, is_id_held_away, strays_to_client, strays_to_server}
+use Rattle.bac_protocol.specs.declared.times.TheConstants.{DEADLINE, KEEP}
+use Rattle.bac_protocol.specs.Pace.{Pace, clock_at, most}
+use Rattle.bac_protocol.specs.World.Event.{MakeAsk, Deliver, Tick, Noise, Advance, Change, RestartClient, RestartServer, Begin, BeginAgain, Stray, AskAway, TickAway}
+use Rattle.bac_protocol.specs.World.{lost, with_clock, is_active, begun, client_begun, server_begun, is_quiet, next_client, begun_again}
+use Rattle.bac_protocol.specs.World.{client_acts_away, server_acts_away, asked_away_at, is_id_held_away, strays_to_client, strays_to_server}
 use Rattle.bac_protocol.specs.World.{asked_away, ticks_ticket_away, ticks_as_client_away, ticks_as_server_away, serves_away}
 use Rattle.bac_protocol.proofs.Aside.{IsAside, client_aside, server_aside, asked_aside}
 use Rattle.bac_protocol.specs.Moves.{taken_by_client, taken_by_server, ticket_ticked}
 use Rattle.bac_protocol.proofs.Keys.{decide_key, set_same, set_other}
 use Rattle.bac_protocol.proofs.Facts.{Grows, grows_same, grows_more}
-use Rattle.bac_liveness.specs.Runs.{Throughout}
+use Rattle.bac_protocol.proofs.Nets.{was_there}
+use Rattle.bac_protocol.proofs.Resting.{IsUnasked, IsUnserved, Unasked, Unserved, not_active, unasked_acts, unasked_anew, unasked_asks, unasked_restarts}
+use Rattle.bac_protocol.proofs.Resting.{unserved_acts, unserved_restarts}
+use Rattle.bac_liveness.specs.Runs.{StaysSince, Throughout}
 
 pub some_is : {A : Type 0} (a b : A) → Some a ≡ Some b → a ≡ b
 some_is a b e = cc
@@ -48,16 +54,38 @@ pub data Step (x : Rules) (Q : Net → ℕ → Bool → Service → Type 0) (n :
   Changes : (node : ℕ) (change : Octets) → Step x Q n (notes_change n node change)
   RestartsClient : (node exact : ℕ) → Step x Q n (client_restarted n node exact)
   RestartsServer : (node exact : ℕ) (store : Option Octets) → Step x Q n (server_restarted n node exact store)
+  BeginsClient : (node exact : ℕ) → IsUnasked n.tickets n.restarted n.sends_until node → Step x Q n (client_begun n node exact)
+  BeginsServer : (node exact : ℕ) → IsUnserved n.entries n.far.entries n.serves_from node → Step x Q n (server_begun n node exact)
+  BeginsNext : (node exact : ℕ) → is_quiet n node ≡ true
+      → ((key : Key) (t : ClientTransaction) → key.client ≡ node → n.tickets key ≡ Some t → n.made key < n.now) → Step x Q n (next_client n node exact)
   -- a step with a stranger: nothing of nodes among themselves changes
-  Strange : (asks : ℕ) (far : Strangers) (log : List Fact) → Grows n.log log → Step x Q n (record n { asks = asks; far = far; log = log })
+  Strange : (m : Net) (aside : IsAside n m) → Step x Q n
+      (record n { asks = aside.asks; asked = aside.asked; served = aside.served; far = aside.far; log = aside.log })
 
--- no ask was made later than now, and no client restarted later
+-- no ask was made later than now, and no client restarted later; what a node has that never asked, or never served
 pub record Bounded (n : Net) : Type 0 where
   pub made : (key : Key) → n.made key ≤ n.now
   pub lives : (node : ℕ) → n.restarted node ≤ n.now + 1
+  pub sends : (key : Key) (t : ClientTransaction) → n.tickets key ≡ Some t → n.made key < n.sends_until key.client
+  pub unasked : Unasked n
+  pub unserved : Unserved n
+
+-- an ask of that real moment was made by now, and then its client was to send for it
+pub record WasMade (now sends made : ℕ) : Type 0 where
+  pub by_now : made ≤ now
+  pub sent : made < sends
+
+abbrev pub WasMadeIn : Net → Key → (made : ℕ) → Type 0
+WasMadeIn n key made = WasMade n.now (n.sends_until key.client) made
 
 pub bounded_start : (pace : Pace) (clocks : ℕ → ℕ) → Bounded (net_start pace clocks)
-bounded_start pace clocks = record { made = λ key. omega arith; lives = λ node. omega arith }
+bounded_start pace clocks = record {
+  made = λ key. omega arith;
+  lives = λ node. omega arith;
+  sends = λ key t at. absurd cc;
+  unasked = λ node off. record { tickets = λ key is. refl; restarted = refl; sends = refl };
+  unserved = λ node off. record { entries = λ key is. refl; away = λ key is. refl; opens = refl };
+}
 
 pub data Path (x : Rules) (Q : Net → ℕ → Bool → Service → Type 0) (from : Net) : Net → Type 0 where
   Here : Path x Q from from
@@ -78,6 +106,21 @@ front_stays [] ys i q e = absurd cc
 front_stays (p ∷ xs) ys zero q e = e
 front_stays (p ∷ xs) ys (suc i) q e = front_stays xs ys i q e
 
+-- where another client may begin, all asks were made earlier
+pub quiet_before : (n : Net) (node : ℕ) → is_quiet n node ≡ true → (key : Key) (made : ℕ) → WasMadeIn n key made → key.client ≡ node → made < n.now
+quiet_before n node quiet key made was is =
+    let sent : made < n.sends_until node = subst (λ (m : ℕ). made < n.sends_until m) is was.sent in
+    let over : n.sends_until node + n.pace.life + most n.pace KEEP + n.pace.life ≤ n.now = grind (arith, nat_tests) in
+    omega arith
+
+-- the client of an ask that is made now is to send for it
+pub sent_now : (n : Net) (key : Key) → n.now < (if nat_eq key.client key.client then n.now + most n.pace DEADLINE + 1 else n.sends_until key.client)
+sent_now n key = go (nat_eq key.client key.client) (grind (arith, nat_tests))
+  where
+    go : (b : Bool) → b ≡ true → n.now < (if b then n.now + most n.pace DEADLINE + 1 else n.sends_until key.client)
+    go true e = omega arith
+    go false e = absurd cc
+
 module _ (x : Rules) (Q : Net → ℕ → Bool → Service → Type 0) where
   pub step_now : (n m : Net) → Step x Q n m → n.now ≤ m.now
   step_now n _ (Asks key choice whole front rest free) = omega arith
@@ -86,7 +129,10 @@ module _ (x : Rules) (Q : Net → ℕ → Bool → Service → Type 0) where
   step_now n _ (TicksTicket key t there) = omega arith
   step_now n _ (TicksEntry key) = omega arith
   step_now n _ (Passes by clients servers) = omega arith
-  step_now n _ (Strange asks far log g) = omega arith
+  step_now n _ (Strange m aside) = omega arith
+  step_now n _ (BeginsClient node exact off) = omega arith
+  step_now n _ (BeginsServer node exact off) = omega arith
+  step_now n _ (BeginsNext node exact quiet earlier) = omega arith
   step_now n _ (Changes node change) = omega arith
   step_now n _ (RestartsClient node exact) = omega arith
   step_now n _ (RestartsServer node exact store) = omega arith
@@ -102,7 +148,10 @@ module _ (x : Rules) (Q : Net → ℕ → Bool → Service → Type 0) where
       (client.ending_of (client.client_ticks (client_context x key (client_now n key)) t)) n.log
   step_log n _ (TicksEntry key) = grows_performed (n.numbers key) (server.server_ticks (server_context x key (server_now n key)) (n.entries key)).effect n.log
   step_log n _ (Passes by clients servers) = grows_same n.log
-  step_log n _ (Strange asks far log g) = g
+  step_log n _ (Strange m aside) = aside.grows
+  step_log n _ (BeginsClient node exact off) = grows_same n.log
+  step_log n _ (BeginsServer node exact off) = grows_same n.log
+  step_log n _ (BeginsNext node exact quiet earlier) = grows_same n.log
   step_log n _ (Changes node change) = grows_more (Changed node change) n.log
   step_log n _ (RestartsClient node exact) = grows_same n.log
   step_log n _ (RestartsServer node exact store) = grows_more (Restarted node store) n.log
@@ -122,7 +171,10 @@ module _ (x : Rules) (Q : Net → ℕ → Bool → Service → Type 0) where
   step_posts n _ (TicksEntry key) i q e =
       front_stays n.posts (map (post_of key n.now) (server.server_ticks (server_context x key (server_now n key)) (n.entries key)).sends) i q e
   step_posts n _ (Passes by clients servers) i q e = e
-  step_posts n _ (Strange asks far log g) i q e = e
+  step_posts n _ (Strange m aside) i q e = e
+  step_posts n _ (BeginsClient node exact off) i q e = e
+  step_posts n _ (BeginsServer node exact off) i q e = e
+  step_posts n _ (BeginsNext node exact quiet earlier) i q e = e
   step_posts n _ (Changes node change) i q e = e
   step_posts n _ (RestartsClient node exact) i q e = e
   step_posts n _ (RestartsServer node exact store) i q e = e
@@ -135,49 +187,173 @@ module _ (x : Rules) (Q : Net → ℕ → Bool → Service → Type 0) where
           (set_same n.made key n.now) in omega arith
       go (inr ne) = let e = set_other n.made key n.now k ne in let le = h.made k in omega arith
 
-  pub bounded_step : (n m : Net) → Step x Q n m → Bounded n → Bounded m
-  bounded_step n _ (Asks key choice whole front rest free) h = record { made = made_by n key h; lives = h.lives }
-  bounded_step n _ (Serves number p free service at up q) h = record { made = h.made; lives = h.lives }
-  bounded_step n _ (Hears number p t at down there) h = record { made = h.made; lives = h.lives }
-  bounded_step n _ (TicksTicket key t there) h = record { made = h.made; lives = h.lives }
-  bounded_step n _ (TicksEntry key) h = record { made = h.made; lives = h.lives }
-  bounded_step n _ (Passes by clients servers) h =
-      record { made = λ key. let le = h.made key in omega arith; lives = λ node. let le = h.lives node in omega arith }
-  bounded_step n _ (Strange asks far log g) h = record { made = h.made; lives = h.lives }
-  bounded_step n _ (Changes node change) h = record { made = h.made; lives = h.lives }
-  bounded_step n _ (RestartsClient node exact) h = record { made = h.made; lives = λ i. go i (nat_eq i node) }
+  -- while an ask is made, later asks do not shorten for how long its client sends
+  pub sends_asked : (b : Bool) (now made most old : ℕ) → made ≤ now → made < old → made < (if b then now + most + 1 else old)
+  sends_asked true now made most old on sends = omega arith
+  sends_asked false now made most old on sends = sends
+
+  sends_restarted : (b : Bool) (now made old : ℕ) → made ≤ now → made < old → made < (if b then min old (now + 1) else old)
+  sends_restarted true now made old on sends = omega arith
+  sends_restarted false now made old on sends = sends
+
+  asked_sends : (n : Net) (key : Key) → Bounded n → (made : ClientTransaction) (k : Key) (u : ClientTransaction) → set_at n.tickets key (Some made) k ≡ Some u
+      → set_at n.made key n.now k < (if nat_eq k.client key.client then n.now + most n.pace DEADLINE + 1 else n.sends_until k.client)
+  asked_sends n key h made k u at = go (decide_key key k)
     where
+      go : ((key ≡ k) ⊎ (key ≡ k → ⊥))
+          → set_at n.made key n.now k < (if nat_eq k.client key.client then n.now + most n.pace DEADLINE + 1 else n.sends_until k.client)
+      go (inl is) = subst (λ (j : Key). set_at n.made key n.now j < (if nat_eq j.client key.client then n.now + most n.pace DEADLINE + 1 else n.sends_until j.client)) is
+          (subst (λ (m : ℕ). m < (if nat_eq key.client key.client then n.now + most n.pace DEADLINE + 1 else n.sends_until key.client))
+          (sym (set_same n.made key n.now)) (sent_now n key))
+      go (inr ne) = subst (λ (m : ℕ). m < (if nat_eq k.client key.client then n.now + most n.pace DEADLINE + 1 else n.sends_until k.client))
+          (sym (set_other n.made key n.now k ne))
+          (sends_asked (nat_eq k.client key.client) n.now (n.made k) (most n.pace DEADLINE) (n.sends_until k.client) (h.made k)
+          (h.sends k u (sym (set_other n.tickets key (Some made) k ne) ∙ at)))
+
+  acted_sends : (n : Net) (key : Key) (t : ClientTransaction) → n.tickets key ≡ Some t → Bounded n → (r : client.Reaction) (k : Key) (u : ClientTransaction)
+      → set_at n.tickets key (Some (client.after (client_now n key) t r)) k ≡ Some u → n.made k < n.sends_until k.client
+  acted_sends n key t there h r k u at = go (decide_key key k)
+    where
+      go : ((key ≡ k) ⊎ (key ≡ k → ⊥)) → n.made k < n.sends_until k.client
+      go (inl is) = subst (λ (j : Key). n.made j < n.sends_until j.client) is (h.sends key t there)
+      go (inr ne) = h.sends k u (sym (set_other n.tickets key (Some (client.after (client_now n key) t r)) k ne) ∙ at)
+
+  pub bounded_step : (n m : Net) → Step x Q n m → Bounded n → Bounded m
+  bounded_step n _ (Asks key choice whole front rest free) h = record {
+    made = made_by n key h;
+    lives = h.lives;
+    sends = asked_sends n key h (client.asked_ticket (client_context x key (client_now n key)) (ask_of (client_now n key) choice whole front rest));
+    unasked = unasked_asks n h.unasked key
+        (Some (client.asked_ticket (client_context x key (client_now n key)) (ask_of (client_now n key) choice whole front rest)))
+        (n.now + most n.pace DEADLINE + 1);
+    unserved = h.unserved;
+  }
+  bounded_step n _ (Serves number p free service at up q) h = record {
+    made = h.made;
+    lives = h.lives;
+    sends = h.sends;
+    unasked = h.unasked;
+    unserved = unserved_acts n h.unserved p.key (server.server_on_apdu (server_context x p.key (server_now n p.key)) service (n.entries p.key)
+        (is_room n p.key free) p.copy.apdu).entry;
+  }
+  bounded_step n _ (Hears number p t at down there) h = record {
+    made = h.made;
+    lives = h.lives;
+    sends = acted_sends n p.key t there h (client.client_on_apdu (client_context x p.key (client_now n p.key)) x.readable t p.copy.apdu);
+    unasked = unasked_acts n h.unasked p.key t there (Some (client.after (client_now n p.key) t
+        (client.client_on_apdu (client_context x p.key (client_now n p.key)) x.readable t p.copy.apdu)));
+    unserved = h.unserved;
+  }
+  bounded_step n _ (TicksTicket key t there) h = record {
+    made = h.made;
+    lives = h.lives;
+    sends = acted_sends n key t there h (client.client_ticks (client_context x key (client_now n key)) t);
+    unasked = unasked_acts n h.unasked key t there (Some (client.after (client_now n key) t (client.client_ticks (client_context x key (client_now n key)) t)));
+    unserved = h.unserved;
+  }
+  bounded_step n _ (TicksEntry key) h = record {
+    made = h.made;
+    lives = h.lives;
+    sends = h.sends;
+    unasked = h.unasked;
+    unserved = unserved_acts n h.unserved key (server.server_ticks (server_context x key (server_now n key)) (n.entries key)).entry;
+  }
+  bounded_step n _ (Passes by clients servers) h = record {
+    made = λ key. let le = h.made key in omega arith;
+    lives = λ node. let le = h.lives node in omega arith;
+    sends = h.sends;
+    unasked = h.unasked;
+    unserved = h.unserved;
+  }
+  bounded_step n _ (Strange m aside) h = record { made = h.made; lives = h.lives; sends = h.sends; unasked = aside.unasked h.unasked; unserved = aside.unserved h.unserved }
+  bounded_step n _ (Changes node change) h = record { made = h.made; lives = h.lives; sends = h.sends; unasked = h.unasked; unserved = h.unserved }
+  bounded_step n _ (RestartsClient node exact) h =
+      record { made = h.made; lives = λ i. go i (nat_eq i node); sends = sends; unasked = unasked_restarts n h.unasked node; unserved = h.unserved }
+    where
+      sends : (k : Key) (u : ClientTransaction) → (if nat_eq k.client node then lost (n.tickets k) else n.tickets k) ≡ Some u
+          → n.made k < (if nat_eq k.client node then min (n.sends_until k.client) (n.now + 1) else n.sends_until k.client)
+      sends k u is = let t = was_there (n.tickets k) (nat_eq k.client node) u is in
+          sends_restarted (nat_eq k.client node) n.now (n.made k) (n.sends_until k.client) (h.made k) (h.sends k t.0 t.1)
+
       go : (i : ℕ) (b : Bool) → (if b then n.now + 1 else n.restarted i) ≤ n.now + 1
       go i true = omega arith
       go i false = h.lives i
-  bounded_step n _ (RestartsServer node exact store) h = record { made = h.made; lives = h.lives }
-
-  pub step_restarted : (n m : Net) → Step x Q n m → Bounded n → (i : ℕ) → n.restarted i ≤ m.restarted i
-  step_restarted n _ (Asks key choice whole front rest free) h i = omega arith
-  step_restarted n _ (Serves number p free service at up q) h i = omega arith
-  step_restarted n _ (Hears number p t at down there) h i = omega arith
-  step_restarted n _ (TicksTicket key t there) h i = omega arith
-  step_restarted n _ (TicksEntry key) h i = omega arith
-  step_restarted n _ (Passes by clients servers) h i = omega arith
-  step_restarted n _ (Strange asks far log g) h i = omega arith
-  step_restarted n _ (Changes node change) h i = omega arith
-  step_restarted n _ (RestartsClient node exact) h i = go (nat_eq i node)
+  bounded_step n _ (RestartsServer node exact store) h = record {
+    made = h.made;
+    lives = h.lives;
+    sends = h.sends;
+    unasked = h.unasked;
+    unserved = unserved_restarts n h.unserved node ((clock_at n.pace exact).shows + KEEP + 1);
+  }
+  bounded_step n _ (BeginsClient node exact off) h = record { made = h.made; lives = h.lives; sends = h.sends; unasked = h.unasked; unserved = h.unserved }
+  bounded_step n _ (BeginsServer node exact off) h = record { made = h.made; lives = h.lives; sends = h.sends; unasked = h.unasked; unserved = h.unserved }
+  bounded_step n _ (BeginsNext node exact quiet earlier) h = record {
+    made = h.made;
+    lives = λ i. go i (nat_eq i node);
+    sends = λ k u is. let t = was_there (n.tickets k) (nat_eq k.client node) u is in h.sends k t.0 t.1;
+    unasked = unasked_anew n h.unasked node n.now n.sends_until (λ m other none. none);
+    unserved = h.unserved;
+  }
     where
-      go : (b : Bool) → n.restarted i ≤ (if b then n.now + 1 else n.restarted i)
-      go true = h.lives i
-      go false = omega arith
-  step_restarted n _ (RestartsServer node exact store) h i = omega arith
+      go : (i : ℕ) (b : Bool) → (if b then n.now else n.restarted i) ≤ n.now + 1
+      go i true = omega arith
+      go i false = h.lives i
+
+  pub was_made_step : (n m : Net) → Step x Q n m → (key : Key) (made : ℕ) → WasMadeIn n key made → WasMadeIn m key made
+  was_made_step n _ (Asks k choice whole front rest free) key made h = record {
+    by_now = h.by_now;
+    sent = sends_asked (nat_eq key.client k.client) n.now made (most n.pace DEADLINE) (n.sends_until key.client) h.by_now h.sent;
+  }
+  was_made_step n _ (Serves number p free service at up q) key made h = h
+  was_made_step n _ (Hears number p t at down there) key made h = h
+  was_made_step n _ (TicksTicket k t there) key made h = h
+  was_made_step n _ (TicksEntry k) key made h = h
+  was_made_step n _ (Passes by clients servers) key made h = record { by_now = let le = h.by_now in omega arith; sent = h.sent }
+  was_made_step n _ (Strange m aside) key made h = h
+  was_made_step n _ (Changes node change) key made h = h
+  was_made_step n _ (RestartsClient node exact) key made h =
+      record { by_now = h.by_now; sent = sends_restarted (nat_eq key.client node) n.now made (n.sends_until key.client) h.by_now h.sent }
+  was_made_step n _ (RestartsServer node exact store) key made h = h
+  was_made_step n _ (BeginsClient node exact off) key made h = h
+  was_made_step n _ (BeginsServer node exact off) key made h = h
+  was_made_step n _ (BeginsNext node exact quiet earlier) key made h = h
+
+  pub was_made_path : (n m : Net) → Path x Q n m → (key : Key) (made : ℕ) → WasMadeIn n key made → WasMadeIn m key made
+  was_made_path n _ Here key made h = h
+  was_made_path n _ (Then l m p s) key made h = was_made_step l m s key made (was_made_path n l p key made h)
+
+  -- a client that has not restarted since an ask had not before
+  pub stays_before : (n m : Net) → Step x Q n m → Bounded n → (key : Key) (made : ℕ) → WasMadeIn n key made → StaysSince m key made → StaysSince n key made
+  stays_before n _ (Asks k choice whole front rest free) h key made was stays = stays
+  stays_before n _ (Serves number p free service at up q) h key made was stays = stays
+  stays_before n _ (Hears number p t at down there) h key made was stays = stays
+  stays_before n _ (TicksTicket k t there) h key made was stays = stays
+  stays_before n _ (TicksEntry k) h key made was stays = stays
+  stays_before n _ (Passes by clients servers) h key made was stays = stays
+  stays_before n _ (Strange m aside) h key made was stays = stays
+  stays_before n _ (Changes node change) h key made was stays = stays
+  stays_before n _ (RestartsClient node exact) h key made was stays = go (nat_eq key.client node) stays
+    where
+      go : (b : Bool) → (if b then n.now + 1 else n.restarted key.client) ≤ made → n.restarted key.client ≤ made
+      go true le = let lives = h.lives key.client in omega arith
+      go false le = le
+  stays_before n _ (RestartsServer node exact store) h key made was stays = stays
+  stays_before n _ (BeginsClient node exact off) h key made was stays = stays
+  stays_before n _ (BeginsServer node exact off) h key made was stays = stays
+  stays_before n _ (BeginsNext node exact quiet earlier) h key made was stays = go (nat_eq key.client node) refl stays
+    where
+      go : (b : Bool) → nat_eq key.client node ≡ b → (if b then n.now else n.restarted key.client) ≤ made → n.restarted key.client ≤ made
+      go true is le = let lt = quiet_before n node quiet key made was (grind (arith, nat_tests)) in absurd (omega arith)
+      go false is le = le
 
   pub path_bounded : (n m : Net) → Path x Q n m → Bounded n → Bounded m
   path_bounded n _ Here h = h
   path_bounded n _ (Then l m p s) h = bounded_step l m s (path_bounded n l p h)
 
-  pub path_restarted : (n m : Net) → Path x Q n m → Bounded n → (i : ℕ) → n.restarted i ≤ m.restarted i
-  path_restarted n _ Here h i = omega arith
-  path_restarted n _ (Then l m p s) h i =
-      let a = path_restarted n l p h i in
-      let b = step_restarted l m s (path_bounded n l p h) i in
-      omega arith
+  pub path_stays : (n m : Net) → Path x Q n m → Bounded n → (key : Key) (made : ℕ) → WasMadeIn n key made → StaysSince m key made → StaysSince n key made
+  path_stays n _ Here h key made was stays = stays
+  path_stays n _ (Then l m p s) h key made was stays = path_stays n l p h key made was
+      (stays_before l m s (path_bounded n l p h) key made (was_made_path n l p key made was) stays)
 
   pub path_now : (n m : Net) → Path x Q n m → n.now ≤ m.now
   path_now n _ Here = omega arith
@@ -200,7 +376,29 @@ module _ (x : Rules) (Q : Net → ℕ → Bool → Service → Type 0) where
 
   -- what a node does with strangers is a step
   pub aside_step : (n m : Net) → IsAside n m → Step x Q n m
-  aside_step n m h = subst (Step x Q n) (sym h.is) (Strange h.asks h.far h.log h.grows)
+  aside_step n m h = subst (Step x Q n) (sym h.is) (Strange m h)
+
+  -- a node begins, where it neither asked nor served
+  pub begin_path : (n : Net) → Bounded n → (node exact : ℕ) (b : Bool) → is_active n node ≡ b → Path x Q n (if b then n else begun n node exact)
+  begin_path n h node exact true is = Here
+  begin_path n h node exact false off =
+      let none = not_active n node off in
+      Then (server_begun n node exact) (begun n node exact) (Then n (server_begun n node exact) Here (BeginsServer node exact (h.unserved node none.1)))
+      (BeginsClient node exact (h.unasked node none.0))
+
+  -- another client begins at a node, and its server where that never served
+  pub begin_again_path : (n : Net) → Bounded n → (node exact : ℕ) (b : Bool) → is_quiet n node ≡ b → Path x Q n (if b then begun_again n node exact else n)
+  begin_again_path n h node exact false is = Here
+  begin_again_path n h node exact true quiet = go (n.served node) refl
+    where
+      earlier : (key : Key) (t : ClientTransaction) → key.client ≡ node → n.tickets key ≡ Some t → n.made key < n.now
+      earlier key t is at = quiet_before n node quiet key (n.made key) (record { by_now = h.made key; sent = h.sends key t at }) is
+
+      go : (b : Bool) → n.served node ≡ b
+          → Path x Q n (record (next_client n node exact) { server_clocks = if b then n.server_clocks else with_clock n.pace node exact n.server_clocks })
+      go true is = Then n (next_client n node exact) Here (BeginsNext node exact quiet earlier)
+      go false off = Then (server_begun n node exact) (next_client (server_begun n node exact) node exact)
+          (Then n (server_begun n node exact) Here (BeginsServer node exact (h.unserved node off))) (BeginsNext node exact quiet earlier)
 
   -- A run of events is a path.
   module _ (S : Type 0) (model : StoreModel S) where
@@ -274,18 +472,30 @@ module _ (x : Rules) (Q : Net → ℕ → Bool → Service → Type 0) where
         path_then w.net u.net (ticks_as_server_away S model x keys u).net (step_path w.net u.net (aside_step w.net u.net (server_aside w.net key v)))
         (far_servers keys u)
 
-    pub event_path : (w : World S) (e : Event) → Gives w e → Path x Q w.net (happens S model x w e).net
-    event_path w (MakeAsk key choice whole front rest) q = ask_path w key choice whole front rest (is_id_held w.net key) refl
-    event_path w (Deliver number free) q = delivered_path w number free q (slice_get w.net.posts number) refl
-    event_path w (Tick as_client as_server) q =
+    pub event_path : (w : World S) → Bounded w.net → (e : Event) → Gives w e → Path x Q w.net (happens S model x w e).net
+    event_path w bounded (MakeAsk key choice whole front rest) q = ask_path w key choice whole front rest (is_id_held w.net key) refl
+    event_path w bounded (Deliver number free) q = delivered_path w number free q (slice_get w.net.posts number) refl
+    event_path w bounded (Tick as_client as_server) q =
         let u = ticks_as_client S x as_client w in
         path_then w.net u.net (ticks_as_server S model x as_server u).net (clients_path as_client w) (servers_path as_server u)
-    event_path w Noise q = Here
-    event_path w (Advance by clients servers) q = step_path w.net (passes w.net by clients servers) (Passes by clients servers)
-    event_path w (Change node change) q = step_path w.net (notes_change w.net node change) (Changes node change)
-    event_path w (RestartClient node exact) q = step_path w.net (client_restarted w.net node exact) (RestartsClient node exact)
-    event_path w (RestartServer node exact store) q = step_path w.net (server_restarted w.net node exact store) (RestartsServer node exact store)
-    event_path w (Stray key free a) q = go (is_from_client a)
+    event_path w bounded Noise q = Here
+    event_path w bounded (Advance by clients servers) q = step_path w.net (passes w.net by clients servers) (Passes by clients servers)
+    event_path w bounded (Change node change) q = step_path w.net (notes_change w.net node change) (Changes node change)
+    event_path w bounded (RestartClient node exact) q = step_path w.net (client_restarted w.net node exact) (RestartsClient node exact)
+    event_path w bounded (RestartServer node exact store) q = step_path w.net (server_restarted w.net node exact store) (RestartsServer node exact store)
+    event_path w bounded (Begin node exact) q = go (is_active w.net node) (begin_path w.net bounded node exact (is_active w.net node) refl)
+      where
+        go : (b : Bool) → Path x Q w.net (if b then w.net else begun w.net node exact)
+            → Path x Q w.net (if b then w else record { net = begun w.net node exact; stores = w.stores }).net
+        go true p = p
+        go false p = p
+    event_path w bounded (BeginAgain node exact) q = go (is_quiet w.net node) (begin_again_path w.net bounded node exact (is_quiet w.net node) refl)
+      where
+        go : (b : Bool) → Path x Q w.net (if b then begun_again w.net node exact else w.net)
+            → Path x Q w.net (if b then record { net = begun_again w.net node exact; stores = w.stores } else w).net
+        go true p = p
+        go false p = p
+    event_path w bounded (Stray key free a) q = go (is_from_client a)
       where
         to_client : (o : Option ClientTransaction) → Path x Q w.net (strays_to_client S x w key a o).net
         to_client None = Here
@@ -301,7 +511,7 @@ module _ (x : Rules) (Q : Net → ℕ → Bool → Service → Type 0) where
             let m = server_acts_away w.net key v in
             step_path w.net m (aside_step w.net m (server_aside w.net key v))
         go false = to_client (w.net.far.tickets key)
-    event_path w (AskAway key choice whole front rest) q = go (is_id_held_away w.net key)
+    event_path w bounded (AskAway key choice whole front rest) q = go (is_id_held_away w.net key)
       where
         go : (b : Bool) → Path x Q w.net (if b then w else asked_away S x w key (ask_of (client_now w.net key) choice whole front rest)).net
         go true = Here
@@ -309,15 +519,16 @@ module _ (x : Rules) (Q : Net → ℕ → Bool → Service → Type 0) where
             let ask = ask_of (client_now w.net key) choice whole front rest in
             let m = asked_away_at x w.net key ask in
             step_path w.net m (aside_step w.net m (asked_aside x w.net key ask))
-    event_path w (TickAway as_client as_server) q =
+    event_path w bounded (TickAway as_client as_server) q =
         let u = ticks_as_client_away S x as_client w in
         path_then w.net u.net (ticks_as_server_away S model x as_server u).net (far_clients as_client w) (far_servers as_server u)
 
-    pub run_path : (events : List Event) (w : World S) → Throughout S model x Gives events w → Path x Q w.net (run S model x events w).net
-    run_path [] w q = Here
-    run_path (e ∷ es) w q =
+    pub run_path : (events : List Event) (w : World S) → Bounded w.net → Throughout S model x Gives events w → Path x Q w.net (run S model x events w).net
+    run_path [] w bounded q = Here
+    run_path (e ∷ es) w bounded q =
         let u = happens S model x w e in
-        path_then w.net u.net (run S model x es u).net (event_path w e q.0) (run_path es u q.1)
+        let first = event_path w bounded e q.0 in
+        path_then w.net u.net (run S model x es u).net first (run_path es u (path_bounded w.net u.net first bounded) q.1)
 
 -- Where nothing is said of deliveries, each run is a path.
 
@@ -337,13 +548,15 @@ module _ (x : Rules) (S : Type 0) (model : StoreModel S) where
   any_event w (Change node change) = tt
   any_event w (RestartClient node exact) = tt
   any_event w (RestartServer node exact store) = tt
+  any_event w (Begin node exact) = tt
+  any_event w (BeginAgain node exact) = tt
 
   any_run : (events : List Event) (w : World S) → Throughout S model x (Gives x Any S model) events w
   any_run [] w = tt
   any_run (e ∷ es) w = (any_event w e, any_run es (happens S model x w e))
 
-  pub event_steps : (w : World S) (e : Event) → Path x Any w.net (happens S model x w e).net
-  event_steps w e = event_path x Any S model w e (any_event w e)
+  pub event_steps : (w : World S) → Bounded w.net → (e : Event) → Path x Any w.net (happens S model x w e).net
+  event_steps w bounded e = event_path x Any S model w bounded e (any_event w e)
 
-  pub run_steps : (events : List Event) (w : World S) → Path x Any w.net (run S model x events w).net
-  run_steps events w = run_path x Any S model events w (any_run events w)
+  pub run_steps : (events : List Event) (w : World S) → Bounded w.net → Path x Any w.net (run S model x events w).net
+  run_steps events w bounded = run_path x Any S model events w bounded (any_run events w)

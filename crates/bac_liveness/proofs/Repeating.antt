@@ -26,7 +26,7 @@ use Rattle.bac_protocol.specs.Moves.{taken_by_client}
 use Rattle.bac_protocol.specs.Straight.{KindFits}
 use Rattle.bac_protocol.specs.Claims as claims
 use Rattle.bac_protocol.specs.Pace.{Pace, Clock, most, IsTimely}
-use Rattle.bac_protocol.proofs.SingleMoves.{reached_net, reached_calm}
+use Rattle.bac_protocol.proofs.SingleMoves.{reached_stands}
 use Rattle.bac_slots.specs.Slots.{value_at}
 use Rattle.bac_transaction.specs.Keys.{PeerKey, same_key}
 use Rattle.bac_transaction.specs.Sends.{Pairwise}
@@ -164,8 +164,7 @@ module _ (links : ℕ → Option Octets) (apart : (i j : ℕ) (l : Octets) → l
   first_on : On first
   first_on = subst (λ (b : Bool). Waits x its_key (ask_of (here_at n c) (choice_of r) b p.front p.rest) n.asks n.now
       (asked_at x n its_key (ask_of (here_at n c) (choice_of r) b p.front p.rest))) (sym whole)
-      (asked_on W x n (reached_net W x bound h.sound.0 h.sound.2 h.sound.1 n h.sound.3) its_key (choice_of r) p.front p.rest
-      (reached_calm W x bound h.sound.0 h.sound.2 h.sound.1 n h.sound.3)
+      (asked_on W x n (reached_stands W x bound h.sound.0 h.sound.2 h.sound.1 n h.sound.3) its_key (choice_of r) p.front p.rest
       (asked_free links apart W x bound readable old n h c s limits r asked a p))
 
   followed : (events : List Event) (w : World) (run : WorldRun x.overtake asked events w) → Throughout x.overtake Finding asked events w run

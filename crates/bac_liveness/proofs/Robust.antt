@@ -17,21 +17,20 @@ use Rattle.bac_protocol.specs.Log.Fact.{Asked, Performed, Ended}
 use Rattle.bac_protocol.specs.Transaction.{Key, Rules, client_context}
 use Rattle.bac_protocol.specs.World.{Net, World, Post, Event, is_deliverable, is_id_held, asked_at, ask_made, happens, run, start, post_of, later, copies_of}
 use Rattle.bac_protocol.specs.World.{service_of, client_now, server_now}
-use Rattle.bac_protocol.specs.World.Event.{MakeAsk, Deliver, Tick, Noise, Advance, Change, RestartClient, RestartServer, Stray, AskAway, TickAway}
+use Rattle.bac_protocol.specs.World.Event.{MakeAsk, Deliver, Tick, Noise, Advance, Change, RestartClient, RestartServer, Begin, BeginAgain, Stray, AskAway, TickAway}
 use Rattle.bac_protocol.specs.Claims.{IsBounded}
 use Rattle.bac_protocol.specs.Pace.{Pace, IsTimely}
 use Rattle.bac_protocol.proofs.Alone.{one}
 use Rattle.bac_protocol.proofs.Asks.{IsSpent}
 use Rattle.bac_protocol.proofs.Facts.{Grows}
-use Rattle.bac_protocol.proofs.Nets.{NetSound}
-use Rattle.bac_protocol.proofs.Calm.{Calm, spent_free}
+use Rattle.bac_protocol.proofs.Standing.{Stands, spent_stands}
 use Rattle.bac_protocol.proofs.Headline.{Kept, run_kept, event_kept, start_kept}
 use Rattle.bac_protocol.proofs.Keys.{copy_at, set_same}
 use Rattle.bac_protocol.proofs.Paces.{since_now}
 use Rattle.bac_liveness.specs.Runs.{Throughout, IsOnItsWay, StaysSince}
 use Rattle.bac_liveness.specs.RoundTrip.{FitsInOne, CanPerform, HasPerformed, IsServed, request_to, answer_to}
 use Rattle.bac_liveness.specs.Repeats.{PATIENCE, FindsServer, IsAnswered, IsWaiting, IsSentAgain, IsRobust, RepeatsSuffice}
-use Rattle.bac_liveness.proofs.Paths.{Bounded, path_bounded, some_is, ask_of, Gives, event_steps, run_steps, path_log, path_posts, run_path, Any}
+use Rattle.bac_liveness.proofs.Paths.{Bounded, Path, sent_now, path_bounded, some_is, ask_of, Gives, event_steps, run_steps, path_log, path_posts, run_path, Any}
 use Rattle.bac_liveness.proofs.RoundTrips.{room_is, trip, bounded_in}
 use Rattle.bac_liveness.proofs.Clocks.{AskedIn, SoonIn, made_of, soon_of, asked_path, soon_since}
 use Rattle.bac_liveness.proofs.Ticking.{tick_sends}
@@ -70,28 +69,30 @@ module _ (S : Type 0) (model : StoreModel S) (x : Rules) (key : Key) (ask : Ask)
   finds_event w (Change node change) h = tt
   finds_event w (RestartClient node exact) h = tt
   finds_event w (RestartServer node exact store) h = tt
+  finds_event w (Begin node exact) h = tt
+  finds_event w (BeginAgain node exact) h = tt
 
   finds_run : (events : List Event) (w : World S) → Throughout S model x (FindsServer S model x key ask) events w
       → Throughout S model x (Gives x (Finds x key ask number made) S model) events w
   finds_run [] w h = tt
   finds_run (e ∷ es) w h = (finds_event w e h.0, finds_run es (happens S model x w e) h.1)
 
-  run_on : (events : List Event) (w : World S) → Throughout S model x (FindsServer S model x key ask) events w → On w
+  run_on : (events : List Event) (w : World S) → Bounded w.net → Throughout S model x (FindsServer S model x key ask) events w → On w
       → Soon_ (run S model x events w) → On (run S model x events w)
-  run_on events w served h soon = waits_path x key ask number made whole w.net (run S model x events w).net
-      (run_path x (Finds x key ask number made) S model events w (finds_run events w served)) h soon
+  run_on events w bounded served h soon = waits_path x key ask number made whole w.net (run S model x events w).net
+      (run_path x (Finds x key ask number made) S model events w bounded (finds_run events w served)) h soon
 
-  event_on : (w : World S) (e : Event) → FindsServer S model x key ask w e → On w → Soon_ (happens S model x w e) → On (happens S model x w e)
-  event_on w e served h soon = run_on (e ∷ []) w (served, tt) h soon
+  event_on : (w : World S) (e : Event) → Bounded w.net → FindsServer S model x key ask w e → On w → Soon_ (happens S model x w e) → On (happens S model x w e)
+  event_on w e bounded served h soon = run_on (e ∷ []) w bounded (served, tt) h soon
 
   -- a client that has not restarted, and is in time, is not late by real time
   soon_at : (v : World S) → AskedIn v.net key ask.first made → Stays_ v → Young v → Soon_ v
   soon_at v h stays young = soon_of v.net key ask.first made h stays (omega arith)
 
-  on_at : (events : List Event) (w : World S) → Throughout S model x (FindsServer S model x key ask) events w → On w
+  on_at : (events : List Event) (w : World S) → Bounded w.net → Throughout S model x (FindsServer S model x key ask) events w → On w
       → Stays_ (run S model x events w) → Young (run S model x events w) → On (run S model x events w)
-  on_at events w served h stays young = run_on events w served h (soon_at (run S model x events w)
-      (asked_path x Any key ask.first made w.net (run S model x events w).net (run_steps x S model events w) h.clock) stays young)
+  on_at events w bounded served h stays young = run_on events w bounded served h (soon_at (run S model x events w)
+      (asked_path x Any key ask.first made w.net (run S model x events w).net (run_steps x S model events w bounded) h.clock) stays young)
 
   split : (before : List Event) (e : Event) (between : List Event) (w : World S)
       → Throughout S model x (FindsServer S model x key ask) (before ++ e ∷ between) w
@@ -176,6 +177,12 @@ module _ (S : Type 0) (model : StoreModel S) (x : Rules) (key : Key) (ask : Ask)
         u : World S
         u = run S model x between (happens S model x v (Deliver i free))
 
+        bounded_b : Bounded b.net
+        bounded_b = path_bounded x Any v.net b.net (event_steps x S model v bounded (Deliver i free)) bounded
+
+        to_u : Path x Any b.net u.net
+        to_u = run_steps x S model between b bounded_b
+
         z : World S
         z = happens S model x (run S model x between (happens S model x v (Deliver i free))) (Deliver (length v.net.posts) other)
 
@@ -189,18 +196,19 @@ module _ (S : Type 0) (model : StoreModel S) (x : Rules) (key : Key) (ask : Ask)
         in_b = ap (λ (ps : List Post). slice_get ps (length v.net.posts)) (r.served).sent ∙ at_end v.net.posts post
 
         in_u : slice_get u.net.posts (length v.net.posts) ≡ Some post
-        in_u = path_posts x Any b.net u.net (run_steps x S model between b) (length v.net.posts) post in_b
+        in_u = path_posts x Any b.net u.net to_u (length v.net.posts) post in_b
 
         arrives : is_deliverable x u.net (length v.net.posts) post ≡ true
         arrives = subst (λ (q : Post). is_deliverable x u.net (length v.net.posts) q ≡ true)
             (some_is m_u.post post (sym m_u.at ∙ in_u)) m_u.arrives
 
         grown : Grows u.net.log z.net.log
-        grown = path_log x Any u.net z.net (event_steps x S model u (Deliver (length v.net.posts) other))
+        grown = path_log x Any u.net z.net (event_steps x S model u (path_bounded x Any b.net u.net to_u bounded_b)
+            (Deliver (length v.net.posts) other))
 
         performed : Has (Performed number (request_of ask) r.reply) z.net.log
         performed = grown (Performed number (request_of ask) r.reply)
-            (path_log x Any b.net u.net (run_steps x S model between b) (Performed number (request_of ask) r.reply)
+            (path_log x Any b.net u.net to_u (Performed number (request_of ask) r.reply)
             (subst (λ (k : ℕ). Has (Performed k (request_of ask) r.reply) b.net.log) h.number_is (r.served).performed))
 
         go : PatientOrOver x key ask number made (u.net.restarted key.client) (client_now u.net key) on.ticket.ticket u.net.log
@@ -223,43 +231,49 @@ module _ (S : Type 0) (model : StoreModel S) (x : Rules) (key : Key) (ask : Ask)
       waits = λ events served stays young.
           let v = run S model x events w in
           let kept = stays_at w v h stays in
-          waiting_of v (on_at events w served h kept young) kept young;
+          waiting_of v (on_at events w bounded served h kept young) kept young;
       repeats = λ events as_client as_server served stays young t at awaits due there.
           let v = run S model x events w in
           let kept = stays_at w v h stays in
-          sent_again v (on_at events w served h kept young) kept young t at awaits due as_client as_server there;
+          sent_again v (on_at events w bounded served h kept young) kept young t at awaits due as_client as_server there;
       answered = λ before between i free other answer served stays young m m_u.
           let sp = split before (Deliver i free) between w served in
           let v = run S model x before w in
           let b = happens S model x v (Deliver i free) in
           let u = run S model x between b in
           let kept = stays_at w u h stays in
-          let asked_v = asked_path x Any key ask.first made w.net v.net (run_steps x S model before w) h.clock in
-          let asked_b = asked_path x Any key ask.first made v.net b.net (event_steps x S model v (Deliver i free)) asked_v in
-          let asked_u = asked_path x Any key ask.first made b.net u.net (run_steps x S model between b) asked_b in
+          let to_v = run_steps x S model before w bounded in
+          let bounded_v = path_bounded x Any w.net v.net to_v bounded in
+          let to_b = event_steps x S model v bounded_v (Deliver i free) in
+          let bounded_b = path_bounded x Any v.net b.net to_b bounded_v in
+          let to_u = run_steps x S model between b bounded_b in
+          let asked_v = asked_path x Any key ask.first made w.net v.net to_v h.clock in
+          let asked_b = asked_path x Any key ask.first made v.net b.net to_b asked_v in
+          let asked_u = asked_path x Any key ask.first made b.net u.net to_u asked_b in
           let soon_u = soon_at u asked_u kept young in
-          let soon_b = soon_since x Any key ask.first made b.net u.net (run_steps x S model between b) soon_u in
-          let soon_v = soon_since x Any key ask.first made v.net b.net (event_steps x S model v (Deliver i free)) soon_b in
-          let on_v = run_on before w sp.0 h soon_v in
-          let on_b = event_on v (Deliver i free) sp.1 on_v soon_b in
-          through v (run_kept S model opening W x bound before w s) (path_bounded x Any w.net v.net (run_steps x S model before w) bounded) on_v soon_v
-          i free m sp.1 between answer other (run_on between b sp.2 on_b soon_u) kept young m_u;
+          let soon_b = soon_since x Any key ask.first made b.net u.net to_u soon_u in
+          let soon_v = soon_since x Any key ask.first made v.net b.net to_b soon_b in
+          let on_v = run_on before w bounded sp.0 h soon_v in
+          let on_b = event_on v (Deliver i free) bounded_v sp.1 on_v soon_b in
+          through v (run_kept S model opening W x bound before w s) bounded_v on_v soon_v
+          i free m sp.1 between answer other (run_on between b bounded_b sp.2 on_b soon_u) kept young m_u;
     }
       where
         stays_at : (y u : World S) → On y → StaysSince u.net key (y.net.made key) → Stays_ u
         stays_at y u on stays = subst (λ (k : ℕ). StaysSince u.net key k) on.made_is stays
 
 -- An ask is made.
-pub asked_on : (W : ℕ) (x : Rules) (n : Net) → NetSound W n → (key : Key) (choice : ℕ) (front : Octets) (rest : List Octets)
-    → Calm n → is_id_held n key ≡ false
+pub asked_on : (W : ℕ) (x : Rules) (n : Net) → Stands W n → (key : Key) (choice : ℕ) (front : Octets) (rest : List Octets)
+    → is_id_held n key ≡ false
     → Waits x key (ask_of (client_now n key) choice true front rest) n.asks n.now (asked_at x n key (ask_of (client_now n key) choice true front rest))
-asked_on W x n s key choice front rest calm free = record {
+asked_on W x n s key choice front rest free = record {
   clock = record {
-    timely = (calm key).timely;
-    client_told = (calm key).client;
-    server_told = (calm key).server;
+    timely = (s.calm key).timely;
+    sent = sent_now n key;
+    client_told = (s.calm key).client;
+    server_told = (s.calm key).server;
     on = omega arith;
-    life = inl (record { stays = spent.lives; since = since_now n.pace n.now (n.client_clocks key.client) (calm key).client });
+    life = inl (record { stays = spent.lives; since = since_now n.pace n.now (n.client_clocks key.client) (s.calm key).client });
   };
   entry = inl (none_live (n.entries key) (λ e at. spent.dead e at));
   posts = λ i q at is young. posts i q at is young (got n.posts (post_of key n.now (request_to x key ask) ∷ []) i q at);
@@ -277,7 +291,7 @@ asked_on W x n s key choice front rest calm free = record {
     ask = ask_of (client_now n key) choice true front rest
 
     spent : IsSpent (one n key)
-    spent = spent_free W n s calm key free
+    spent = spent_stands W n s key free
 
     none_live : (o : Option ServerTransaction) → ((e : ServerTransaction) → o ≡ Some e → e.begin + KEEP < server_now n key)
         → is_none_live (server_now n key) o ≡ true
@@ -309,8 +323,8 @@ module _ (S : Type 0) (model : StoreModel S) (opening : ℕ → S) (W : ℕ) (x 
       (robust S model x key ask w.net.asks w.net.now refl opening W bound (ask_made S x w key ask)
       (subst (λ (u : World S). Kept S model opening W x bound u) path (event_kept S model opening W x bound w s (MakeAsk key choice true front rest)))
       (subst (λ (u : World S). Bounded u.net) path (path_bounded x Any w.net (happens S model x w (MakeAsk key choice true front rest)).net
-      (event_steps x S model w (MakeAsk key choice true front rest)) bounded))
-      (asked_on W x w.net s.net key choice front rest s.calm free))
+      (event_steps x S model w bounded (MakeAsk key choice true front rest)) bounded))
+      (asked_on W x w.net s.stands key choice front rest free))
     where
       ask : Ask
       ask = ask_of (client_now w.net key) choice true front rest

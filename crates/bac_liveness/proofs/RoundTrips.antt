@@ -35,7 +35,7 @@ use Rattle.bac_protocol.proofs.Paces.{since_now}
 use Rattle.bac_liveness.specs.Runs.{IsOnItsWay, StaysSince}
 use Rattle.bac_liveness.specs.RoundTrip.{request_to, segment_to, answer_to, FitsInOne, CanPerform, HasPerformed, IsOpenInTime, IsAnsweredNow, IsServed}
 use Rattle.bac_liveness.specs.RoundTrip.{RoundTripSuffices}
-use Rattle.bac_liveness.proofs.Paths.{Path, Bounded, bounded_start, path_bounded, path_restarted, event_steps, some_is, Any, run_steps}
+use Rattle.bac_liveness.proofs.Paths.{Path, Bounded, WasMadeIn, bounded_start, path_bounded, path_stays, was_made_path, event_steps, some_is, Any, run_steps}
 use Rattle.bac_liveness.proofs.Endings.{request_now, answer_now}
 use Rattle.bac_liveness.proofs.Serving.{answer_any_time, answer_not_from_client, answer_ends, answer_ends_sending, performed_entry, answers_first}
 use Rattle.bac_liveness.proofs.Serving.{answers_again, serves_new, serves_again, serves_segment}
@@ -180,7 +180,7 @@ module _ (S : Type 0) (model : StoreModel S) (opening : ℕ → S) (W : ℕ) (x 
 
   pub sound : (w : World S) → Kept S model opening W x bound w → (key : Key) (t : ClientTransaction) → w.net.tickets key ≡ Some t
       → (up : Up) × (down : Down) × SoundWith w key t up down
-  sound w s key t at = sound_at W w.net key (Some t) at s.net
+  sound w s key t at = sound_at W w.net key (Some t) at s.stands.net
 
   pub begun_for : (w : World S) (key : Key) (t : ClientTransaction) (up : Up) (down : Down) → SoundWith w key t up down → (e : ServerTransaction)
       → w.net.entries key ≡ Some e
@@ -208,12 +208,12 @@ module _ (S : Type 0) (model : StoreModel S) (opening : ℕ → S) (W : ℕ) (x 
     abbrev KeptIn : World S → Type 0
     KeptIn u = IsKept x Any key number ask made begin (answer_to x key ask p) u.net
 
-    answered : (u : World S) → Kept S model opening W x bound u → Bounded u.net → (StaysSince u.net key made → KeptIn u) → (ask.whole ≡ true)
+    answered : (u : World S) → Kept S model opening W x bound u → Bounded u.net → WasMadeIn u.net key made → (StaysSince u.net key made → KeptIn u) → (ask.whole ≡ true)
         ⊎ SendsAll key ask p u
         → (events : List Event) → (let v = run S model x events u in StaysSince v.net key made → IsOpenInTime v.net key ask
         → (k : ℕ) → IsOnItsWay x v.net key (answer_to x key ask p) k → (free : Bool)
         → IsAnsweredNow S key number p v (happens S model x v (Deliver k free)))
-    answered u s b kept_since ready events stays o k m free = record {
+    answered u s b was kept_since ready events stays o k m free = record {
       log = ap (λ (y : World S). y.net.log) path ∙ ap (λ (n : ℕ). Ended n (Answered p) ∷ v.net.log) there.there.number_is;
       over = ap (λ (y : World S). is_ended (y.net.tickets key)) path
           ∙ ap is_ended (set_same v.net.tickets key (Some (client.after v.net.now there.there.ticket (Ends [] (Answered p)))));
@@ -223,10 +223,10 @@ module _ (S : Type 0) (model : StoreModel S) (opening : ℕ → S) (W : ℕ) (x 
         v = run S model x events u
 
         on : Path x Any u.net v.net
-        on = run_steps x S model events u
+        on = run_steps x S model events u b
 
         stays_u : StaysSince u.net key made
-        stays_u = let le = path_restarted x Any u.net v.net on b key.client in let last = stays in omega arith
+        stays_u = path_stays x Any u.net v.net on b key made was stays
 
         h : KeptIn u
         h = kept_since stays_u
@@ -243,7 +243,7 @@ module _ (S : Type 0) (model : StoreModel S) (opening : ℕ → S) (W : ℕ) (x 
 
         there : IsAwaited x Any key number ask made (answer_to x key ask p) (answer_whole x key ask p) v.net
         there = awaited_path x Any key number ask made (answer_to x key ask p) (answer_whole x key ask p) u.net v.net on b
-            (awaited_at W x key ask number begin p made u.net s.net h early (is_ready ready)) stays o.in_time
+            (awaited_at W x key ask number begin p made u.net s.stands.net h early (is_ready ready)) stays o.in_time
 
         same : o.ticket ≡ there.there.ticket
         same = some_is o.ticket there.there.ticket (sym o.at ∙ there.there.at)
@@ -260,7 +260,17 @@ module _ (S : Type 0) (model : StoreModel S) (opening : ℕ → S) (W : ℕ) (x 
       (p : Reply)
       (fits : FitsInOne x key t.ask p) where
     runs_in : IsTimed (moments_of w.net key) t.ask.first → StaysSince w.net key (w.net.made key) → MadeIn w.net key t.ask.first (w.net.made key)
-    runs_in c stays = record { timely = c.timely; client_told = c.client; server_told = c.server; stays = stays; since = (c.counts stays).since }
+    runs_in c stays = record {
+      timely = c.timely;
+      sent = bounded.sends key t at;
+      client_told = c.client;
+      server_told = c.server;
+      stays = stays;
+      since = (c.counts stays).since;
+    }
+
+    was_made : WasMadeIn w.net key (w.net.made key)
+    was_made = record { by_now = bounded.made key; sent = bounded.sends key t at }
 
     begun_now : IsTimed (moments_of w.net key) t.ask.first → BegunIn w.net key (w.net.made key) (server_now w.net key)
     begun_now c = record {
@@ -280,11 +290,14 @@ module _ (S : Type 0) (model : StoreModel S) (opening : ℕ → S) (W : ℕ) (x 
       performed = subst (λ (y : World S). Has (Performed (w.net.numbers key) (client.request_of t.ask) p) y.net.log) (sym path) has;
       sent = ap (λ (y : World S). y.net.posts) path;
       answered = answered key t.ask (w.net.numbers key) e.begin p (w.net.made key) fits u (event_kept S model opening W x bound w s (Deliver number free))
-          (path_bounded x Any w.net u.net (event_steps x S model w (Deliver number free)) bounded) kept ready;
+          (path_bounded x Any w.net u.net to_u bounded) (was_made_path x Any w.net u.net to_u key (w.net.made key) was_made) kept ready;
     }
       where
         u : World S
         u = happens S model x w (Deliver number free)
+
+        to_u : Path x Any w.net u.net
+        to_u = event_steps x S model w bounded (Deliver number free)
 
         kept : StaysSince u.net key (w.net.made key) → IsKept x Any key (w.net.numbers key) t.ask (w.net.made key) e.begin (answer_to x key t.ask p) u.net
         kept stays = subst (λ (y : World S). IsKept x Any key (w.net.numbers key) t.ask (w.net.made key) e.begin (answer_to x key t.ask p) y.net) (sym path)
@@ -294,11 +307,7 @@ module _ (S : Type 0) (model : StoreModel S) (opening : ℕ → S) (W : ℕ) (x 
               at = set_same w.net.entries key (Some e);
               begun = refl;
               state = state;
-              runs = runs_in (((sound w s key t at).2).clock) (
-                  let le = path_restarted x Any w.net u.net (event_steps x S model w (Deliver number free)) bounded key.client in
-                  let last = stays in
-                  omega arith
-                  );
+              runs = runs_in (((sound w s key t at).2).clock) (path_stays x Any w.net u.net to_u bounded key (w.net.made key) was_made stays);
               since = since;
             })
 
@@ -362,7 +371,7 @@ module _ (S : Type 0) (model : StoreModel S) (opening : ℕ → S) (W : ℕ) (x 
 
     pub bounded_in : (events : List Event) → Bounded (run S model x events (start S pace clocks opening)).net
     bounded_in events = path_bounded x Any (start S pace clocks opening).net (run S model x events (start S pace clocks opening)).net
-        (run_steps x S model events (start S pace clocks opening)) (bounded_start pace clocks)
+        (run_steps x S model events (start S pace clocks opening) (bounded_start pace clocks)) (bounded_start pace clocks)
 
     pub round_trips : (events : List Event) → RoundTripSuffices S model x (run S model x events (start S pace clocks opening))
     round_trips events key t at whole p fits free can number m =

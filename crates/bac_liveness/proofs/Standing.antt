@@ -294,7 +294,7 @@ stands_in_step S model opening W x bound pace timely clocks events key windows t
     let some : 0 < lesser_window x key = omega arith in
     let flow = flows_in_run W x bound key some S model opening pace timely clocks events t at in
     let own = own_in_run x S model pace clocks opening events in
-    let f = sound_at W w.net key (Some t) at s.net in
+    let f = sound_at W w.net key (Some t) at s.stands.net in
     in_step W x bound key some (moments_of w.net key) w.net.asks (w.net.numbers key) t (w.net.entries key)
     (copies_of key w.net.posts) w.net.log flow f.0 f.1 f.2
     stays young (own.entries key) (subst (λ (y : Option ClientTransaction). TicketHas (IsLesser x key) y) at (own.tickets key))

@@ -26,7 +26,7 @@ use Rattle.bac_liveness.specs.RoundTrip.{request_to, answer_to, FitsInOne, CanPe
 use Rattle.bac_liveness.specs.Turns.{IsDue, OneTurnSuffices}
 use Rattle.bac_liveness.proofs.Endings.{request_now}
 use Rattle.bac_liveness.proofs.RoundTrips.{trip, sound, bounded_in}
-use Rattle.bac_liveness.proofs.Paths.{Bounded}
+use Rattle.bac_liveness.proofs.Paths.{Any, Bounded, event_steps, path_bounded}
 use Rattle.bac_liveness.proofs.Robust.{at_end}
 
 -- the last copy that was sent has no later ones, and may arrive at once
@@ -114,7 +114,8 @@ module _ (S : Type 0) (model : StoreModel S) (opening : ℕ → S) (W : ℕ) (x 
     u_is = request_now S model x v key (request_to x key t.ask) (length w.net.posts) free refl request
 
     v_bounded : Bounded v.net
-    v_bounded = record { made = bounded.made; lives = bounded.lives }
+    v_bounded = subst (λ (y : World S). Bounded y.net) ticked (path_bounded x Any w.net (happens S model x w (Tick (key ∷ []) [])).net
+        (event_steps x S model w bounded (Tick (key ∷ []) [])) bounded)
 
     stays : StaysSince w.net key (w.net.made key)
     stays = (((sound S model opening W x bound w s key t at).2).lives (ap is_idle d.waits))

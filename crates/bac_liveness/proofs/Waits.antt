@@ -31,10 +31,12 @@ use Rattle.bac_liveness.specs.Runs.{IsOnItsWay, StaysSince}
 use Rattle.bac_liveness.specs.RoundTrip.{FitsInOne, request_to, answer_to}
 use Rattle.bac_liveness.specs.Repeats.{IsAnswered, PATIENCE}
 use Rattle.bac_liveness.proofs.Paths.{some_is, ask_of, Comes, Step, Path, grows_ended, grows_performed}
-use Rattle.bac_liveness.proofs.Paths.Step.{Asks, Serves, Hears, TicksTicket, TicksEntry, Passes, Changes, RestartsClient, RestartsServer, Strange}
-use Rattle.bac_protocol.specs.World.{Strangers}
+use Rattle.bac_liveness.proofs.Paths.Step.{Asks, Serves, Hears, TicksTicket, TicksEntry, Passes, Changes, RestartsClient, RestartsServer, BeginsClient, BeginsServer, BeginsNext, Strange}
+use Rattle.bac_protocol.specs.World.{client_begun, server_begun, is_quiet, next_client}
+use Rattle.bac_protocol.proofs.Aside.{IsAside}
+use Rattle.bac_protocol.proofs.Resting.{IsUnasked, IsUnserved}
 use Rattle.bac_liveness.proofs.Paths.Path.{Here, Then}
-use Rattle.bac_liveness.proofs.Clocks.{IsBegunAfter, AskedIn, SoonIn, alive_soon, asks_no_more, asked_step, soon_before, begun_passes}
+use Rattle.bac_liveness.proofs.Clocks.{IsBegunAfter, AskedIn, SoonIn, alive_soon, asks_no_more, asked_asks, asked_step, soon_before, begun_passes}
 use Rattle.bac_liveness.proofs.Kept.{held_in_time}
 use Rattle.bac_liveness.proofs.Serving.{answer_any_time, answer_not_from_client, answer_from_server, late_gets, answer_ends, performed_entry, answers_first}
 use Rattle.bac_liveness.proofs.Serving.{serves_new, serves_again}
@@ -556,7 +558,7 @@ module _ (x : Rules) (key : Key) (ask : Ask) (number made : ℕ) where
   -- another transaction's ask
   asked_waits : (n : Net) (k : Key) (other : Ask) → (k ≡ key → ⊥) → Waits n → Waits (asked_at x n k other)
   asked_waits n k other ne h = record {
-    clock = h.clock;
+    clock = asked_asks x Finds key ask.first made n k other h.clock;
     entry = entry_grows n.pace n.now (n.server_clocks key.server) (n.entries key) n.log log g h.entry;
     posts = posts_on n k (sends_of (client.asks (client_context x k (client_now n k)) other)) log h g (λ is. absurd (ne is));
     ticket = subst (λ (o : Option ClientTransaction). TicketFits (n.restarted key.client) (client_now n key) o log)
@@ -635,37 +637,88 @@ module _ (x : Rules) (key : Key) (ask : Ask) (number made : ℕ) where
       g = grows_more (Changed node change) n.log
 
   -- a step with a stranger
-  strange_waits : (n : Net) (asks : ℕ) (far : Strangers) (log : List Fact) → Grows n.log log → Waits n → Waits (record n { asks = asks; far = far; log = log })
-  strange_waits n asks far log g h = record {
+  strange_waits : (n m : Net) (aside : IsAside n m) → Waits n
+      → Waits (record n { asks = aside.asks; asked = aside.asked; served = aside.served; far = aside.far; log = aside.log })
+  strange_waits n m aside h = record {
     clock = h.clock;
-    entry = entry_grows n.pace n.now (n.server_clocks key.server) (n.entries key) n.log log g h.entry;
-    posts = λ i q at is young. fine_grows n.log log g q.copy.apdu (h.posts i q at is young);
-    ticket = ticket_grows (n.restarted key.client) (client_now n key) (n.tickets key) n.log log g h.ticket;
+    entry = entry_grows n.pace n.now (n.server_clocks key.server) (n.entries key) n.log aside.log aside.grows h.entry;
+    posts = λ i q at is young. fine_grows n.log aside.log aside.grows q.copy.apdu (h.posts i q at is young);
+    ticket = ticket_grows (n.restarted key.client) (client_now n key) (n.tickets key) n.log aside.log aside.grows h.ticket;
     number_is = h.number_is;
     made_is = h.made_is;
   }
 
-  -- its client's restart loses the ticket, and its server's the entry
+  -- its client begins anew, and the ticket is lost
+  ticket_lost : (n : Net) → Waits n → (node exact at : ℕ) → (key.client ≡ node → made < at)
+      → TicketFits (if nat_eq key.client node then at else n.restarted key.client)
+      (if nat_eq key.client node then clock_at n.pace exact else n.client_clocks key.client).shows
+      (if nat_eq key.client node then lost (n.tickets key) else n.tickets key) n.log
+  ticket_lost n h node exact at later = go (nat_eq key.client node) refl
+    where
+      go : (b : Bool) → nat_eq key.client node ≡ b → TicketFits (if b then at else n.restarted key.client)
+          (if b then clock_at n.pace exact else n.client_clocks key.client).shows (if b then lost (n.tickets key) else n.tickets key) n.log
+      go true is = record {
+        ticket = record (h.ticket.ticket) { phase = Idle };
+        at = ap lost h.ticket.at;
+        is = h.ticket.is;
+        state = inr (refl, inr (inl (later (grind (arith, nat_tests)))));
+      }
+      go false is = h.ticket
+
   client_lost : (n : Net) (node exact : ℕ) → Waits n → Waits (client_restarted n node exact)
   client_lost n node exact h = record {
     clock = asked_step x Finds key ask.first made n (client_restarted n node exact) (RestartsClient node exact) h.clock;
     entry = h.entry;
     posts = h.posts;
-    ticket = go (nat_eq key.client node);
+    ticket = ticket_lost n h node exact (n.now + 1) (λ is. let on = h.clock.on in omega arith);
+    number_is = h.number_is;
+    made_is = h.made_is;
+  }
+
+  next_waits : (n : Net) (node exact : ℕ) (quiet : is_quiet n node ≡ true)
+      → ((k : Key) (t : ClientTransaction) → k.client ≡ node → n.tickets k ≡ Some t → n.made k < n.now) → Waits n → Waits (next_client n node exact)
+  next_waits n node exact quiet earlier h = record {
+    clock = asked_step x Finds key ask.first made n (next_client n node exact) (BeginsNext node exact quiet earlier) h.clock;
+    entry = h.entry;
+    posts = h.posts;
+    ticket = ticket_lost n h node exact n.now
+        (λ is. let lt = earlier key h.ticket.ticket is h.ticket.at in let e = h.made_is in omega arith);
+    number_is = h.number_is;
+    made_is = h.made_is;
+  }
+
+  client_begins : (n : Net) (node exact : ℕ) (off : IsUnasked n.tickets n.restarted n.sends_until node) → Waits n → Waits (client_begun n node exact)
+  client_begins n node exact off h = record {
+    clock = asked_step x Finds key ask.first made n (client_begun n node exact) (BeginsClient node exact off) h.clock;
+    entry = h.entry;
+    posts = h.posts;
+    ticket = go (nat_eq key.client node) refl;
     number_is = h.number_is;
     made_is = h.made_is;
   }
     where
-      go : (b : Bool) → TicketFits (if b then n.now + 1 else n.restarted key.client)
-          (if b then clock_at n.pace exact else n.client_clocks key.client).shows (if b then lost (n.tickets key) else n.tickets key) n.log
-      go true = record {
-        ticket = record (h.ticket.ticket) { phase = Idle };
-        at = ap lost h.ticket.at;
-        is = h.ticket.is;
-        state = inr (refl, inr (inl (let on = h.clock.on in omega arith)));
-      }
-      go false = h.ticket
+      go : (b : Bool) → nat_eq key.client node ≡ b
+          → TicketFits (n.restarted key.client) (if b then clock_at n.pace exact else n.client_clocks key.client).shows (n.tickets key) n.log
+      go true is = let none = off.tickets key (grind (arith, nat_tests)) in let some = h.ticket.at in absurd cc
+      go false is = h.ticket
 
+  server_begins : (n : Net) (node exact : ℕ) (off : IsUnserved n.entries n.far.entries n.serves_from node) → Waits n → Waits (server_begun n node exact)
+  server_begins n node exact off h = record {
+    clock = asked_step x Finds key ask.first made n (server_begun n node exact) (BeginsServer node exact off) h.clock;
+    entry = go (nat_eq key.server node) refl;
+    posts = h.posts;
+    ticket = h.ticket;
+    number_is = h.number_is;
+    made_is = h.made_is;
+  }
+    where
+      go : (b : Bool) → nat_eq key.server node ≡ b
+          → EntryFits n.pace n.now (if b then clock_at n.pace exact else n.server_clocks key.server) (n.entries key) n.log
+      go true is = subst (λ (o : Option ServerTransaction). EntryFits n.pace n.now (clock_at n.pace exact) o n.log)
+          (sym (off.entries key (grind (arith, nat_tests)))) (inl refl)
+      go false is = h.entry
+
+  -- its server restarts, and the entry is lost
   server_lost : (n : Net) (node exact : ℕ) (store : Option Octets) → Waits n → Waits (server_restarted n node exact store)
   server_lost n node exact store h = record {
     clock = asked_step x Finds key ask.first made n (server_restarted n node exact store) (RestartsServer node exact store) h.clock;
@@ -716,9 +769,12 @@ module _ (x : Rules) (key : Key) (ask : Ask) (number made : ℕ) where
       (ticks_entry n h.clock soon h.entry))
   waits_step whole n _ (Passes by clients servers) h soon = passes_waits n by clients servers h
   waits_step whole n _ (Changes node change) h soon = changes_waits n node change h
-  waits_step whole n _ (Strange asks far log g) h soon = strange_waits n asks far log g h
+  waits_step whole n _ (Strange m aside) h soon = strange_waits n m aside h
   waits_step whole n _ (RestartsClient node exact) h soon = client_lost n node exact h
   waits_step whole n _ (RestartsServer node exact store) h soon = server_lost n node exact store h
+  waits_step whole n _ (BeginsClient node exact off) h soon = client_begins n node exact off h
+  waits_step whole n _ (BeginsServer node exact off) h soon = server_begins n node exact off h
+  waits_step whole n _ (BeginsNext node exact quiet earlier) h soon = next_waits n node exact quiet earlier h
 
   pub waits_path : ask.whole ≡ true → (n m : Net) → Path x Finds n m → Waits n → Soon m → Waits m
   waits_path whole n _ Here h soon = h

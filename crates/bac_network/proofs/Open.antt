@@ -14,7 +14,7 @@ use Rattle.bac_protocol.specs.Claims as claims
 use Rattle.bac_protocol.specs.Claims.{ClientStays}
 use Rattle.bac_protocol.proofs.ClientKeeps as keeps
 use Rattle.bac_protocol.proofs.Facts.{below_unended}
-use Rattle.bac_protocol.proofs.Headline.{net_log}
+use Rattle.bac_protocol.proofs.Nets.{net_log}
 use Rattle.bac_protocol.proofs.Nets.{sound_at}
 use Rattle.bac_protocol.proofs.SingleMoves.{reached_net}
 use Rattle.bac_liveness.specs.Runs.{StaysSince}

@@ -5,10 +5,10 @@ use Rattle.bac_protocol.specs.Transaction.{Key, Rules}
 use Rattle.bac_protocol.specs.World.{Net, client_now, is_id_held}
 use Rattle.bac_liveness.specs.Runs.{StaysSince}
 use Rattle.bac_liveness.specs.StraightRuns.{deliveries}
-use Rattle.bac_liveness.proofs.Paths.{Any, Bounded, Step, Path, path_bounded}
+use Rattle.bac_liveness.proofs.Paths.{Any, Bounded, Step, Path}
 use Rattle.bac_liveness.proofs.Paths.Path.{Here, Then}
-use Rattle.bac_liveness.proofs.Changes.{IsThere, stays_before, there_step}
-use Rattle.bac_liveness.proofs.Clocks.{MadeIn, here_step, made_path}
+use Rattle.bac_liveness.proofs.Changes.{IsThere, there_step}
+use Rattle.bac_liveness.proofs.Clocks.{MadeIn, here_step, made_path, stays_at}
 use Rattle.bac_liveness.proofs.Kept.{held_in_time}
 use Rattle.bac_world.specs.World.{World, WorldRun, IsDelivered, DeliversIf, is_deliverable}
 
@@ -29,7 +29,7 @@ module _ (x : Rules) (key : Key) (number : ℕ) (ask : Ask) (made : ℕ) where
       → IsThere x Any key number ask made n → IsThere x Any key number ask made m
   stays_there n _ Here b stays clock early h = h
   stays_there n m (Then l _ p s) b stays clock early h =
-      let before : StaysSince l key made = stays_before x Any l m s (path_bounded x Any n l p b) key made stays in
+      let before : StaysSince l key made = stays_at x Any key ask.first made n l m p s b stays clock in
       let on : client_now l key ≤ client_now m key =
       here_step x Any key ask.first made l m s stays (made_path x Any key ask.first made n l p b before clock) in
       let sooner : client_now l key ≤ ask.first = omega arith in

@@ -20,7 +20,7 @@ use Rattle.bac_protocol.specs.Log.{Fact, asks_in, IsUnperformed, IsUnended, IsOr
 use Rattle.bac_protocol.specs.Log.Fact.{Asked, Performed, Ended, Changed, Restarted, Served, AskedAway, EndedAway}
 use Rattle.bac_protocol.specs.Transaction.{Key, Rules, ended, performed, client_context}
 use Rattle.bac_protocol.specs.World.{Net, set_at, client_acts, server_acts, asked_at, notes_change, is_room, net_start}
-use Rattle.bac_protocol.specs.World.{Strangers, lost, client_restarted, server_restarted, client_now, server_now, passes, is_lost, is_in_time}
+use Rattle.bac_protocol.specs.World.{Strangers, lost, client_restarted, server_restarted, client_begun, server_begun, next_client, client_now, server_now, passes, is_lost, is_in_time}
 use Rattle.bac_protocol.proofs.Alone.{Transaction, client_does, server_does, asked_by, one}
 use Rattle.bac_protocol.proofs.Sound.{OfAsk, IsOfOther, IsBelow, Up, Down, IsKeptFor, IsUnbegun, StateFits, WasGiven, ServerFits, IsOpenIn, IsCounted, IsTimed, IsSoundAt, IsSound}
 use Rattle.bac_protocol.proofs.Sound.Up.{Reading}
@@ -28,6 +28,7 @@ use Rattle.bac_protocol.proofs.Sound.Down.{Unsent, Sent}
 use Rattle.bac_protocol.proofs.ClientKeeps.{lost_more, state_read, state_performed}
 use Rattle.bac_protocol.proofs.Facts.{below_more, of_ask, below_has, says_goes, says_later, up_same, down_same, grows_more}
 use Rattle.bac_protocol.proofs.Asks.{IsSpent, asked_sound}
+use Rattle.bac_protocol.proofs.Resting.{IsUnasked, IsUnserved}
 use Rattle.bac_protocol.proofs.Keys.{decide_key, set_same, set_other, copies_posted, copies_other}
 
 -- What one transaction does is nothing to another.
@@ -399,16 +400,16 @@ net_server_restarted W n node exact store s = record { each = λ key. each key (
     each key false = elsewhere W n.asks key (Restarted node store) (one n key) (n.tickets key) (log key) (λ t at. tt) (s.each key)
 
 -- its times, where its client restarts now
-abbrev renewing : (exact : ℕ) → Moments → Moments
-renewing exact times = record times { client = clock_at times.pace exact; restarted = times.now + 1 }
+abbrev renewing : (exact at : ℕ) → Moments → Moments
+renewing exact at times = record times { client = clock_at times.pace exact; restarted = at }
 
-begun_renewing : (exact : ℕ) (times : Moments) (begin : ℕ) → IsBegunSince times begin → IsBegunSince (renewing exact times) begin
-begun_renewing exact times begin h = record { began = h.began; after = h.after; before = h.before; since = h.since }
+begun_renewing : (exact at : ℕ) (times : Moments) (begin : ℕ) → IsBegunSince times begin → IsBegunSince (renewing exact at times) begin
+begun_renewing exact at times begin h = record { began = h.began; after = h.after; before = h.before; since = h.since }
 
-server_renewing : (W exact : ℕ) (times : Moments) (number : ℕ) (ask : Ask) (log : List Fact) (up : Up) (down : Down) (o : Option ServerTransaction)
-    → ServerFits W times number ask o up down log → ServerFits W (renewing exact times) number ask o up down log
-server_renewing W exact times number ask log up down None (inl h) = inl h
-server_renewing W exact times number ask log up down None (inr h) = inr (record {
+server_renewing : (W exact at : ℕ) (times : Moments) (number : ℕ) (ask : Ask) (log : List Fact) (up : Up) (down : Down) (o : Option ServerTransaction)
+    → ServerFits W times number ask o up down log → ServerFits W (renewing exact at times) number ask o up down log
+server_renewing W exact at times number ask log up down None (inl h) = inl h
+server_renewing W exact at times number ask log up down None (inr h) = inr (record {
   before = record {
     restarted = h.before.restarted;
     shown = h.before.shown;
@@ -418,15 +419,16 @@ server_renewing W exact times number ask log up down None (inr h) = inr (record 
   };
   given = h.given;
 })
-server_renewing W exact times number ask log up down (Some e) (inl h) = inl (record { dead = h.dead; unbegun = h.unbegun })
-server_renewing W exact times number ask log up down (Some e) (inr h) =
-    inr (record { begun = begun_renewing exact times e.begin h.begun; choice = h.choice; first = h.first; state = h.state })
+server_renewing W exact at times number ask log up down (Some e) (inl h) = inl (record { dead = h.dead; unbegun = h.unbegun })
+server_renewing W exact at times number ask log up down (Some e) (inr h) =
+    inr (record { begun = begun_renewing exact at times e.begin h.begun; choice = h.choice; first = h.first; state = h.state })
 
 -- the ticket is lost
-loses_ticket : (W exact : ℕ) (key : Key) (w : Transaction) (o : Option ClientTransaction) → IsSoundAt W key o w
-    → IsSoundAt W key (lost o) (record w { times = renewing exact w.times })
-loses_ticket W exact key w None s = record { no_entry = s.no_entry; no_copies = s.no_copies; numbers = s.numbers; counted = s.counted; orderly = s.orderly }
-loses_ticket W exact key w (Some t) s = (
+loses_ticket : (W exact at : ℕ) (key : Key) (w : Transaction) (o : Option ClientTransaction)
+    → ((t : ClientTransaction) → o ≡ Some t → w.times.made ≤ w.times.now → w.times.made < at) → IsSoundAt W key o w
+    → IsSoundAt W key (lost o) (record w { times = renewing exact at w.times })
+loses_ticket W exact at key w None before s = record { no_entry = s.no_entry; no_copies = s.no_copies; numbers = s.numbers; counted = s.counted; orderly = s.orderly }
+loses_ticket W exact at key w (Some t) before s = (
   s.0,
   s.1,
   record {
@@ -437,7 +439,7 @@ loses_ticket W exact key w (Some t) s = (
       on = (s.2).clock.on;
       until_on = (s.2).clock.until_on;
       early = (s.2).clock.early;
-      counts = λ le. let on = (s.2).clock.on in absurd (omega arith);
+      counts = λ le. let early = before t refl (s.2).clock.on in absurd (omega arith);
     };
     numbers = (s.2).numbers;
     counted = (s.2).counted;
@@ -447,7 +449,7 @@ loses_ticket W exact key w (Some t) s = (
     lives = λ going. absurd cc;
     client = tt;
     passes = (s.2).passes;
-    server = server_renewing W exact w.times w.number t.ask w.log s.0 s.1 w.entry (s.2).server;
+    server = server_renewing W exact at w.times w.number t.ask w.log s.0 s.1 w.entry (s.2).server;
     upload = (s.2).upload;
     download = (s.2).download;
     arriving = (s.2).arriving;
@@ -465,27 +467,116 @@ was_there None true x e = absurd cc
 was_there None false x e = absurd cc
 was_there (Some t) b x e = (t, refl)
 
-pub net_client_restarted : (W : ℕ) (n : Net) (node exact : ℕ) → NetSound W n → NetSound W (client_restarted n node exact)
-net_client_restarted W n node exact s = record { each = λ key. each key (nat_eq key.client node); apart = apart }
-  where
-    each : (key : Key) (b : Bool) → IsSoundAt W key (if b then lost (n.tickets key) else n.tickets key)
-        (record (one n key) {
-          ticket = if b then lost (n.tickets key) else n.tickets key;
-          times = record (moments_of n key) {
-            client = if b then clock_at n.pace exact else n.client_clocks key.client;
-            restarted = if b then n.now + 1 else n.restarted key.client;
-          };
-        })
-    each key true = with_ticket W key (record (one n key) { times = renewing exact (moments_of n key) }) (lost (n.tickets key)) (lost (n.tickets key))
-        (loses_ticket W exact key (one n key) (n.tickets key) (s.each key))
-    each key false = s.each key
+-- its tickets are lost at that moment, after its asks
+loses_tickets : (W : ℕ) (n : Net) (node exact at : ℕ) → NetSound W n
+    → ((key : Key) (t : ClientTransaction) → key.client ≡ node → n.tickets key ≡ Some t → n.made key ≤ n.now → n.made key < at)
+    → (key : Key) (b : Bool) → nat_eq key.client node ≡ b → IsSoundAt W key (if b then lost (n.tickets key) else n.tickets key)
+    (record (one n key) {
+      ticket = if b then lost (n.tickets key) else n.tickets key;
+      times = record (moments_of n key) {
+        client = if b then clock_at n.pace exact else n.client_clocks key.client;
+        restarted = if b then at else n.restarted key.client;
+      };
+    })
+loses_tickets W n node exact at s before key true is =
+    with_ticket W key (record (one n key) { times = renewing exact at (moments_of n key) }) (lost (n.tickets key)) (lost (n.tickets key))
+    (loses_ticket W exact at key (one n key) (n.tickets key) (λ t has on. before key t (grind (arith, nat_tests)) has on) (s.each key))
+loses_tickets W n node exact at s before key false is = s.each key
 
-    apart : (a b : Key) (x y : ClientTransaction) → (client_restarted n node exact).tickets a ≡ Some x → (client_restarted n node exact).tickets b ≡ Some y
-        → n.numbers a ≡ n.numbers b → a ≡ b
-    apart a b x y at at' same =
-        let t = was_there (n.tickets a) (nat_eq a.client node) x at in
-        let u = was_there (n.tickets b) (nat_eq b.client node) y at' in
-        s.apart a b t.0 u.0 t.1 u.1 same
+lost_apart : (W : ℕ) (n : Net) (node : ℕ) → NetSound W n → (a b : Key) (x y : ClientTransaction)
+    → (if nat_eq a.client node then lost (n.tickets a) else n.tickets a) ≡ Some x → (if nat_eq b.client node then lost (n.tickets b) else n.tickets b) ≡ Some y
+    → n.numbers a ≡ n.numbers b → a ≡ b
+lost_apart W n node s a b x y at at' same =
+    let t = was_there (n.tickets a) (nat_eq a.client node) x at in
+    let u = was_there (n.tickets b) (nat_eq b.client node) y at' in
+    s.apart a b t.0 u.0 t.1 u.1 same
+
+pub net_client_restarted : (W : ℕ) (n : Net) (node exact : ℕ) → NetSound W n → NetSound W (client_restarted n node exact)
+net_client_restarted W n node exact s = record {
+  each = λ key. loses_tickets W n node exact (n.now + 1) s (λ k t is has on. omega arith) key (nat_eq key.client node) refl;
+  apart = lost_apart W n node s;
+}
+
+-- another client begins, where the asks of the one before were made earlier
+pub net_next_client : (W : ℕ) (n : Net) (node exact : ℕ) → ((key : Key) (t : ClientTransaction) → key.client ≡ node → n.tickets key ≡ Some t → n.made key < n.now)
+    → NetSound W n → NetSound W (next_client n node exact)
+net_next_client W n node exact before s = record {
+  each = λ key. loses_tickets W n node exact n.now s (λ k t is has on. before k t is has) key (nat_eq key.client node) refl;
+  apart = lost_apart W n node s;
+}
+
+-- A node begins.
+
+-- its times, where its server begins now
+abbrev beginning : (exact : ℕ) → Moments → Moments
+beginning exact times = record times { server = clock_at times.pace exact }
+
+fits_beginning : (W exact : ℕ) (times : Moments) (number : ℕ) (ask : Ask) (log : List Fact) (up : Up) (down : Down) → times.opens ≡ 0
+    → ServerFits W times number ask None up down log → ServerFits W (beginning exact times) number ask None up down log
+fits_beginning W exact times number ask log up down none (inl h) = inl h
+fits_beginning W exact times number ask log up down none (inr h) = absurd (let is = h.before.opens_is in omega arith)
+
+server_begins : (W exact : ℕ) (key : Key) (w : Transaction) (o : Option ClientTransaction) → w.entry ≡ None → w.times.opens ≡ 0 → IsSoundAt W key o w
+    → IsSoundAt W key o (record w { times = beginning exact w.times })
+server_begins W exact key w None nil none s =
+    record { no_entry = s.no_entry; no_copies = s.no_copies; numbers = s.numbers; counted = s.counted; orderly = s.orderly }
+server_begins W exact key w (Some t) nil none s = (
+  s.0,
+  s.1,
+  record {
+    clock = record {
+      timely = (s.2).clock.timely;
+      client = (s.2).clock.client;
+      server = shown_at w.times.pace (s.2).clock.timely.some exact;
+      on = (s.2).clock.on;
+      until_on = (s.2).clock.until_on;
+      early = (s.2).clock.early;
+      counts = λ le. let h = (s.2).clock.counts le in record
+          { since = h.since; sends = h.sends; last = h.last; last_early = h.last_early; last_since = h.last_since };
+    };
+    numbers = (s.2).numbers;
+    counted = (s.2).counted;
+    orderly = (s.2).orderly;
+    asked = (s.2).asked;
+    unended = (s.2).unended;
+    lives = (s.2).lives;
+    client = (s.2).client;
+    passes = (s.2).passes;
+    server = subst (λ (e : Option ServerTransaction). ServerFits W (beginning exact w.times) w.number t.ask e s.0 s.1 w.log) (sym nil)
+        (fits_beginning W exact w.times w.number t.ask w.log s.0 s.1 none
+        (subst (λ (e : Option ServerTransaction). ServerFits W w.times w.number t.ask e s.0 s.1 w.log) nil (s.2).server));
+    upload = (s.2).upload;
+    download = (s.2).download;
+    arriving = (s.2).arriving;
+  },
+)
+
+pub net_server_begins : (W : ℕ) (n : Net) (node exact : ℕ) → IsUnserved n.entries n.far.entries n.serves_from node → NetSound W n
+    → NetSound W (server_begun n node exact)
+net_server_begins W n node exact unserved s = record { each = λ key. each key (nat_eq key.server node) refl; apart = s.apart }
+  where
+    each : (key : Key) (b : Bool) → nat_eq key.server node ≡ b → IsSoundAt W key (n.tickets key)
+        (record (one n key) { times = record (moments_of n key) { server = if b then clock_at n.pace exact else n.server_clocks key.server } })
+    each key true is =
+        let at : key.server ≡ node = grind (arith, nat_tests) in
+        server_begins W exact key (one n key) (n.tickets key) (unserved.entries key at) (ap n.serves_from at ∙ unserved.opens) (s.each key)
+    each key false is = s.each key
+
+-- where nothing was asked, no time matters
+untimed : (W : ℕ) (key : Key) (w : Transaction) (times : Moments) (o : Option ClientTransaction) → o ≡ None → IsSoundAt W key o w
+    → IsSoundAt W key o (record w { times = times })
+untimed W key w times None nil s =
+    record { no_entry = s.no_entry; no_copies = s.no_copies; numbers = s.numbers; counted = s.counted; orderly = s.orderly }
+untimed W key w times (Some t) nil s = absurd cc
+
+pub net_client_begins : (W : ℕ) (n : Net) (node exact : ℕ) → IsUnasked n.tickets n.restarted n.sends_until node → NetSound W n → NetSound W (client_begun n node exact)
+net_client_begins W n node exact unasked s = record { each = λ key. each key (nat_eq key.client node) refl; apart = s.apart }
+  where
+    each : (key : Key) (b : Bool) → nat_eq key.client node ≡ b → IsSoundAt W key (n.tickets key)
+        (record (one n key) { times = record (moments_of n key) { client = if b then clock_at n.pace exact else n.client_clocks key.client } })
+    each key true is = untimed W key (one n key) (record (moments_of n key) { client = clock_at n.pace exact })
+        (n.tickets key) (unasked.tickets key (grind (arith, nat_tests))) (s.each key)
+    each key false is = s.each key
 
 -- A change at a node.
 
@@ -518,20 +609,20 @@ pub log_away : (asks asks' : ℕ) (f : Fact) (log : List Fact) → IsAway f → 
 log_away asks asks' f log away le h counted orderly =
     record { numbers = (away_of_none (λ m. m < asks') f away, below_more asks asks' log le h.numbers); counted = counted; orderly = orderly }
 
-pub net_log_of : (W : ℕ) (n : Net) → NetSound W n → IsLogOf n.asks n.log
-net_log_of W n s = let key : Key = record { client = 0; server = 0; invoke_id = 0 } in log_of W key (n.tickets key) (one n key) (s.each key)
+pub net_log : (W : ℕ) (n : Net) → NetSound W n → IsLogOf n.asks n.log
+net_log W n s = let key : Key = record { client = 0; server = 0; invoke_id = 0 } in log_of W key (n.tickets key) (one n key) (s.each key)
 
--- it enters the log, and the tables of strangers change
-pub net_away : (W : ℕ) (n : Net) (asks' : ℕ) (far : Strangers) (f : Fact) → IsAway f → IsLogOf asks' (f ∷ n.log) → NetSound W n
-    → NetSound W (record n { asks = asks'; far = far; log = f ∷ n.log })
-net_away W n asks' far f away log s = record {
+-- it enters the log, and the tables of strangers change, and who asked or served
+pub net_away : (W : ℕ) (n : Net) (asks' : ℕ) (asked served : ℕ → Bool) (far : Strangers) (f : Fact) → IsAway f → IsLogOf asks' (f ∷ n.log) → NetSound W n
+    → NetSound W (record n { asks = asks'; asked = asked; served = served; far = far; log = f ∷ n.log })
+net_away W n asks' asked served far f away log s = record {
   each = λ key. elsewhere W asks' key f (one n key) (n.tickets key) log (λ t at. away_of_none (λ m. m ≢ n.numbers key) f away) (s.each key);
   apart = s.apart;
 }
 
--- these tables alone change
-pub net_far : (W : ℕ) (n : Net) (far : Strangers) → NetSound W n → NetSound W (record n { far = far })
-net_far W n far s = record { each = s.each; apart = s.apart }
+-- nothing enters the log
+pub net_far : (W : ℕ) (n : Net) (served : ℕ → Bool) (far : Strangers) → NetSound W n → NetSound W (record n { served = served; far = far })
+net_far W n served far s = record { each = s.each; apart = s.apart }
 
 -- Time.
 

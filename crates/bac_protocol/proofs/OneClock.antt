@@ -10,8 +10,8 @@ use Rattle.bac_protocol.specs.Log.{StoreModel}
 use Rattle.bac_protocol.specs.Transaction.{Key, Rules, server_context}
 use Rattle.bac_protocol.specs.Server.{server_ticks}
 use Rattle.bac_protocol.specs.World.{Net, World, Post, Event, is_deliverable, is_id_held, ask_made, arrives, takes_at_client, takes_at_server}
-use Rattle.bac_protocol.specs.World.{delivered, ticks_ticket, ticks_as_client, ticks_as_server, serves, happens, run, start, client_now, server_now}
-use Rattle.bac_protocol.specs.World.Event.{MakeAsk, Deliver, Tick, Noise, Advance, Change, RestartClient, RestartServer, Stray, AskAway, TickAway}
+use Rattle.bac_protocol.specs.World.{delivered, ticks_ticket, ticks_as_client, ticks_as_server, serves, with_clock, is_active, begun, is_quiet, begun_again, happens, run, start, client_now, server_now}
+use Rattle.bac_protocol.specs.World.Event.{MakeAsk, Deliver, Tick, Noise, Advance, Change, RestartClient, RestartServer, Begin, BeginAgain, Stray, AskAway, TickAway}
 use Rattle.bac_protocol.specs.World.{serves_away, is_id_held_away, strays_to_server, strays_to_client, asked_away, ticks_ticket_away, ticks_as_client_away}
 use Rattle.bac_protocol.specs.World.{ticks_as_server_away}
 use Rattle.bac_protocol.proofs.Paces.{steps_low, steps_high}
@@ -81,9 +81,14 @@ module _ (S : Type 0) (model : StoreModel S) (x : Rules) where
   anew : (p : Pace) → p ≡ one_clock → (now exact : ℕ) → exact ≡ now → IsTrue now (clock_at p exact)
   anew p is now exact same = record { exact = same; shows = (λ i. same i / (is i).grain) ∙ by_one now }
 
-  either : (b : Bool) (now : ℕ) (c d : Clock) → IsTrue now c → IsTrue now d → IsTrue now (if b then c else d)
-  either true now c d h k = h
-  either false now c d h k = k
+  -- clocks of which one begins anew
+  begin_so : (w : World S) → Is w.net → (node exact : ℕ) → exact ≡ w.net.now → (clocks : ℕ → Clock) → ((m : ℕ) → IsTrue w.net.now (clocks m))
+      → (m : ℕ) → IsTrue w.net.now (with_clock w.net.pace node exact clocks m)
+  begin_so w h node exact same clocks old m = go (nat_eq m node)
+    where
+      go : (b : Bool) → IsTrue w.net.now (if b then clock_at w.net.pace exact else clocks m)
+      go true = anew w.net.pace h.pace w.net.now exact same
+      go false = old m
 
   happened : (w : World S) → Is w.net → (e : Event) → KeepsTime S w e → Is (happens S model x w e).net
   happened w h (MakeAsk key choice whole front rest) t =
@@ -99,16 +104,36 @@ module _ (S : Type 0) (model : StoreModel S) (x : Rules) where
   happened w h (Change node change) t = record { pace = h.pace; clients = h.clients; servers = h.servers }
   happened w h (RestartClient node exact) t = record {
     pace = h.pace;
-    clients = λ m. either (nat_eq m node) w.net.now (clock_at w.net.pace exact) (w.net.client_clocks m)
-        (anew w.net.pace h.pace w.net.now exact t) (h.clients m);
+    clients = begin_so w h node exact t w.net.client_clocks h.clients;
     servers = h.servers;
   }
   happened w h (RestartServer node exact store) t = record {
     pace = h.pace;
     clients = h.clients;
-    servers = λ m. either (nat_eq m node) w.net.now (clock_at w.net.pace exact) (w.net.server_clocks m)
-        (anew w.net.pace h.pace w.net.now exact t) (h.servers m);
+    servers = begin_so w h node exact t w.net.server_clocks h.servers;
   }
+  happened w h (Begin node exact) t = begins (is_active w.net node)
+    where
+      begins : (b : Bool) → Is (if b then w else record { net = begun w.net node exact; stores = w.stores }).net
+      begins true = h
+      begins false = record {
+        pace = h.pace;
+        clients = begin_so w h node exact t w.net.client_clocks h.clients;
+        servers = begin_so w h node exact t w.net.server_clocks h.servers;
+      }
+  happened w h (BeginAgain node exact) t = begins (is_quiet w.net node)
+    where
+      serving : (b : Bool) (m : ℕ) → IsTrue w.net.now ((if b then w.net.server_clocks else with_clock w.net.pace node exact w.net.server_clocks) m)
+      serving true m = h.servers m
+      serving false m = begin_so w h node exact t w.net.server_clocks h.servers m
+
+      begins : (b : Bool) → Is (if b then record { net = begun_again w.net node exact; stores = w.stores } else w).net
+      begins true = record {
+        pace = h.pace;
+        clients = begin_so w h node exact t w.net.client_clocks h.clients;
+        servers = serving (w.net.served node);
+      }
+      begins false = h
   happened w h (Stray key free a) t = strayed (is_from_client a)
     where
       to_client : (o : Option ClientTransaction) → Is (strays_to_client S x w key a o).net

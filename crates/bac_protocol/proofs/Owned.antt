@@ -15,8 +15,8 @@ use Rattle.bac_protocol.specs.Log.{StoreModel}
 use Rattle.bac_protocol.specs.Transaction.{Key, Rules, client_context, server_context}
 use Rattle.bac_protocol.specs.World.{Net, World, Post, Event, post_of, set_at, later, client_acts, server_acts, is_id_held, is_room, lost, ask_made}
 use Rattle.bac_protocol.specs.World.{takes_at_client, takes_at_server, arrives, delivered, ticks_ticket, ticks_as_client, ticks_as_server, serves}
-use Rattle.bac_protocol.specs.World.{service_of, happens, run, start}
-use Rattle.bac_protocol.specs.World.Event.{MakeAsk, Deliver, Tick, Noise, Advance, Change, RestartClient, RestartServer, Stray, AskAway, TickAway}
+use Rattle.bac_protocol.specs.World.{service_of, is_active, begun, is_quiet, begun_again, happens, run, start}
+use Rattle.bac_protocol.specs.World.Event.{MakeAsk, Deliver, Tick, Noise, Advance, Change, RestartClient, RestartServer, Begin, BeginAgain, Stray, AskAway, TickAway}
 use Rattle.bac_protocol.specs.Own.{EntryHas, PhaseHas, TicketHas, IsLesser, IsSentByClient, IsSentByServer, IsOwnPost, AreOwn}
 use Rattle.bac_protocol.specs.World.{serves_away, is_id_held_away, strays_to_server, strays_to_client, asked_away, ticks_ticket_away, ticks_as_client_away}
 use Rattle.bac_protocol.specs.World.{ticks_as_server_away}
@@ -198,6 +198,14 @@ module _ (x : Rules) where
         servers_owned keys (serves S model w key v) (server_owned w.net h key v
         (server_ticks_own c (IsSentByServer x key) (IsLesser x key) (server_has key (server_now w.net key)) (w.net.entries key) (h.entries key)))
 
+    lost_owned : (w : World S) → Owned w.net → (key : Key) (b : Bool) → TicketHas (IsLesser x key) (if b then lost (w.net.tickets key) else w.net.tickets key)
+    lost_owned w h key true = over (w.net.tickets key)
+      where
+        over : (o : Option ClientTransaction) → TicketHas (IsLesser x key) (lost o)
+        over None = tt
+        over (Some t) = tt
+    lost_owned w h key false = h.tickets key
+
     event_owned : (w : World S) → Owned w.net → (e : Event) → Owned (happens S model x w e).net
     event_owned w h (MakeAsk key choice whole front rest) = ask_owned w h key
         (record { first = client_now w.net key; choice = choice; whole = whole; pieces = front ∷ rest }) (is_id_held w.net key)
@@ -206,20 +214,22 @@ module _ (x : Rules) where
     event_owned w h Noise = h
     event_owned w h (Advance by clients servers) = record { posts = h.posts; entries = h.entries; tickets = h.tickets }
     event_owned w h (Change node change) = record { posts = h.posts; entries = h.entries; tickets = h.tickets }
-    event_owned w h (RestartClient node exact) = record { posts = h.posts; entries = h.entries; tickets = λ key. go key (nat_eq key.client node) }
-      where
-        go : (key : Key) (b : Bool) → TicketHas (IsLesser x key) (if b then lost (w.net.tickets key) else w.net.tickets key)
-        go key true = over (w.net.tickets key)
-          where
-            over : (o : Option ClientTransaction) → TicketHas (IsLesser x key) (lost o)
-            over None = tt
-            over (Some t) = tt
-        go key false = h.tickets key
+    event_owned w h (RestartClient node exact) = record { posts = h.posts; entries = h.entries; tickets = λ key. lost_owned w h key (nat_eq key.client node) }
     event_owned w h (RestartServer node exact store) = record { posts = h.posts; entries = λ key. go key (nat_eq key.server node); tickets = h.tickets }
       where
         go : (key : Key) (b : Bool) → EntryHas (IsSentByServer x key) (IsLesser x key) (if b then None else w.net.entries key)
         go key true = tt
         go key false = h.entries key
+    event_owned w h (Begin node exact) = begins (is_active w.net node)
+      where
+        begins : (b : Bool) → Owned (if b then w else record { net = begun w.net node exact; stores = w.stores }).net
+        begins true = h
+        begins false = record { posts = h.posts; entries = h.entries; tickets = h.tickets }
+    event_owned w h (BeginAgain node exact) = begins (is_quiet w.net node)
+      where
+        begins : (b : Bool) → Owned (if b then record { net = begun_again w.net node exact; stores = w.stores } else w).net
+        begins true = record { posts = h.posts; entries = h.entries; tickets = λ key. lost_owned w h key (nat_eq key.client node) }
+        begins false = h
     event_owned w h (Stray key free a) = strayed (is_from_client a)
       where
         to_client : (o : Option ClientTransaction) → Owned (strays_to_client S x w key a o).net

@@ -19,11 +19,12 @@ use Rattle.bac_protocol.specs.Transaction.{Key, ended, performed, ended_away, se
 use Rattle.bac_protocol.specs.Claims.{HasReply, HasSinceRestart, AreSpaced, AreServedApart}
 use Rattle.bac_protocol.specs.Steps.{IsSegmentedRequest, MayPerform, StateStays, StaysIn, IsEntryFor, KeepsReply}
 use Rattle.bac_protocol.specs.World.{Net, Strangers, set_at, passes, server_now}
-use Rattle.bac_protocol.specs.World.{server_acts_away, begin_of, client_restarted, server_restarted}
+use Rattle.bac_protocol.specs.World.{server_acts_away, begin_of, server_restarted, server_begun}
 use Rattle.bac_protocol.proofs.Keys.{key_is, decide_key, set_same, set_other}
 use Rattle.bac_protocol.proofs.Nets.{IsLogOf}
 use Rattle.bac_protocol.proofs.Paces.{shows_on}
 use Rattle.bac_protocol.proofs.Calm.{Calm}
+use Rattle.bac_protocol.proofs.Resting.{IsUnserved}
 use Rattle.bac_protocol.proofs.Served.{BeginIs, gets_begin, ticks_begin, IsThere, gets_there, live_stays, ticks_stay, effects_are_kept}
 
 -- The log.
@@ -571,21 +572,42 @@ away_server_restarted n node exact store s = record {
     }
     each key false is = old.each key
 
-pub away_client_restarted : (n : Net) (node exact : ℕ) → Away n → Away (client_restarted n node exact)
-away_client_restarted n node exact s = record { each = λ key. each key (nat_eq key.client node); apart = apart; spaced = s.spaced }
+-- a server begins: strangers had nothing of it
+pub away_server_begins : (n : Net) (node exact : ℕ) → IsUnserved n.entries n.far.entries n.serves_from node → Away n → Away (server_begun n node exact)
+away_server_begins n node exact unserved s = record { each = λ key. each key (nat_eq key.server node) refl; apart = s.apart; spaced = s.spaced }
   where
-    each : (key : Key) (b : Bool) → IsAt (n.server_clocks key.server).shows (n.serves_from key.server) key
-        (n.far.numbers key) (if b then None else n.far.tickets key) (n.far.entries key) n.log
-    each key true = record { ticket_fits = tt; begun = (s.each key).begun; past = (s.each key).past }
-    each key false = s.each key
+    anew : (key : Key) → n.far.entries key ≡ None → (o : Option ServerTransaction) → n.far.entries key ≡ o
+        → IsAt (clock_at n.pace exact).shows (n.serves_from key.server) key (n.far.numbers key) (n.far.tickets key) o n.log
+    anew key nil (Some e) at = absurd cc
+    anew key nil None at = record {
+      ticket_fits = (s.each key).ticket_fits;
+      begun = tt;
+      past = λ b r p h. absurd (subst (λ (o : Option ServerTransaction). Spaced (server_now n key) o b) nil ((s.each key).past b r p h).1);
+    }
 
-    there : (o : Option ClientTransaction) (b : Bool) (x : ClientTransaction) → (if b then None else o) ≡ Some x → o ≡ Some x
-    there o true x at = absurd cc
-    there o false x at = at
+    each : (key : Key) (b : Bool) → nat_eq key.server node ≡ b
+        → IsAt (if b then clock_at n.pace exact else n.server_clocks key.server).shows (n.serves_from key.server) key (n.far.numbers key) (n.far.tickets key)
+        (n.far.entries key) n.log
+    each key true is = anew key (unserved.away key (grind (arith, nat_tests))) (n.far.entries key) refl
+    each key false is = s.each key
 
-    apart : (a b : Key) (x y : ClientTransaction) → (client_restarted n node exact).far.tickets a ≡ Some x → (client_restarted n node exact).far.tickets b ≡ Some y
-        → n.far.numbers a ≡ n.far.numbers b → a ≡ b
-    apart a b x y at at' same = s.apart a b x y (there (n.far.tickets a) (nat_eq a.client node) x at) (there (n.far.tickets b) (nat_eq b.client node) y at') same
+-- a client's tickets are lost
+module _ (n : Net) (node : ℕ) (s : Away n) where
+  pub away_lost : AwayIn n.server_clocks n.serves_from (record n.far { tickets = λ key. if nat_eq key.client node then None else n.far.tickets key }) n.log
+  away_lost = record { each = λ key. each key (nat_eq key.client node); apart = apart; spaced = s.spaced }
+    where
+      each : (key : Key) (b : Bool) → IsAt (n.server_clocks key.server).shows (n.serves_from key.server) key
+          (n.far.numbers key) (if b then None else n.far.tickets key) (n.far.entries key) n.log
+      each key true = record { ticket_fits = tt; begun = (s.each key).begun; past = (s.each key).past }
+      each key false = s.each key
+
+      there : (o : Option ClientTransaction) (b : Bool) (x : ClientTransaction) → (if b then None else o) ≡ Some x → o ≡ Some x
+      there o true x at = absurd cc
+      there o false x at = at
+
+      apart : (a b : Key) (x y : ClientTransaction) → (if nat_eq a.client node then None else n.far.tickets a) ≡ Some x
+          → (if nat_eq b.client node then None else n.far.tickets b) ≡ Some y → n.far.numbers a ≡ n.far.numbers b → a ≡ b
+      apart a b x y at at' same = s.apart a b x y (there (n.far.tickets a) (nat_eq a.client node) x at) (there (n.far.tickets b) (nat_eq b.client node) y at') same
 
 pub away_starts : (clocks : ℕ → Clock) → AwayIn clocks (λ node. 0) (record { numbers = λ key. 0; tickets = λ key. None; entries = λ key. None }) []
 away_starts clocks = record {

@@ -14,14 +14,14 @@ use Rattle.bac_protocol.specs.Log.{Fact, StoreModel, HasNoChange, HasNoRestart, 
 use Rattle.bac_protocol.specs.Log.Fact.{Asked, Performed, Ended, Served, AskedAway, EndedAway}
 use Rattle.bac_protocol.specs.Transaction.{Key, Rules, ended, performed, client_context, server_context}
 use Rattle.bac_protocol.specs.World.{Net, World, Post, Event, is_deliverable, is_id_held, is_room, ask_made, arrives, takes_at_client, takes_at_server}
-use Rattle.bac_protocol.specs.World.{delivered, ticks_ticket, ticks_as_client, ticks_as_server, serves, happens, run, start}
+use Rattle.bac_protocol.specs.World.{delivered, ticks_ticket, ticks_as_client, ticks_as_server, serves, is_active, begun, is_quiet, begun_again, happens, run, start}
 use Rattle.bac_protocol.specs.Pace.{Pace}
 use Rattle.bac_protocol.specs.World.{client_now, server_now, is_key_held, MakeNoChange, MakeNoRestart, MakeNoStray, NeverRestarted, NeverWaits}
 use Rattle.bac_protocol.specs.World.{begin_of, reacts_away, serves_away, is_id_held_away, strays_to_server, strays_to_client, asked_away, ticks_ticket_away}
 use Rattle.bac_protocol.specs.World.{ticks_as_client_away, ticks_as_server_away, stored}
 use Rattle.bac_protocol.specs.Claims.{LeavesNodes, StraysLeaveNodes}
 use Rattle.bac_protocol.specs.Transaction.{ended_away, served}
-use Rattle.bac_protocol.specs.World.Event.{MakeAsk, Deliver, Tick, Noise, Advance, Change, RestartClient, RestartServer, Stray, AskAway, TickAway}
+use Rattle.bac_protocol.specs.World.Event.{MakeAsk, Deliver, Tick, Noise, Advance, Change, RestartClient, RestartServer, Begin, BeginAgain, Stray, AskAway, TickAway}
 
 -- what is said of a log, and of the moments from which each end asks and serves, and stays so as asks are made, performed and ended
 record IsLeft (Q : List Fact → (asks serves lives : ℕ → ℕ) → Type 0) : Type 0 where
@@ -95,6 +95,13 @@ module _ (Q : List Fact → (asks serves lives : ℕ → ℕ) → Type 0) (left 
 
   tick_quiet : (w : World S) → Quiet w → (as_client as_server : List Key) → Quiet (happens S model x w (Tick as_client as_server))
   tick_quiet w h as_client as_server = servers_quiet as_server (ticks_as_client S x as_client w) (clients_quiet as_client w h)
+
+  begin_quiet : (w : World S) → Quiet w → (node exact : ℕ) → Quiet (happens S model x w (Begin node exact))
+  begin_quiet w h node exact = go (is_active w.net node)
+    where
+      go : (b : Bool) → Quiet (if b then w else record { net = begun w.net node exact; stores = w.stores })
+      go true = h
+      go false = h
 
 -- so also as strangers ask, are asked and are served
 record IsLeftAway (Q : List Fact → (asks serves lives : ℕ → ℕ) → Type 0) : Type 0 where
@@ -224,6 +231,13 @@ module _ (S : Type 0) (model : StoreModel S) (x : Rules) where
   no_stranger (Change node change ∷ es) w none h = no_stranger es (happens S model x w (Change node change)) none h
   no_stranger (RestartClient node exact ∷ es) w none h = no_stranger es (happens S model x w (RestartClient node exact)) none h
   no_stranger (RestartServer node exact store ∷ es) w none h = no_stranger es (happens S model x w (RestartServer node exact store)) none h
+  no_stranger (Begin node exact ∷ es) w none h = no_stranger es (happens S model x w (Begin node exact)) none
+      (begin_quiet NoStranger left_strangers S model x w h node exact)
+  no_stranger (BeginAgain node exact ∷ es) w none h = no_stranger es (happens S model x w (BeginAgain node exact)) none (go (is_quiet w.net node))
+    where
+      go : (b : Bool) → HasNoStranger (if b then record { net = begun_again w.net node exact; stores = w.stores } else w).net.log
+      go true = h
+      go false = h
   no_stranger (Stray key free a ∷ es) w none h = absurd none
   no_stranger (AskAway key choice whole front rest ∷ es) w none h = absurd none
   no_stranger (TickAway as_client as_server ∷ es) w none h = absurd none
@@ -245,6 +259,13 @@ module _ (S : Type 0) (model : StoreModel S) (x : Rules) where
   no_change (Change node change ∷ es) w none h = absurd none
   no_change (RestartClient node exact ∷ es) w none h = no_change es (happens S model x w (RestartClient node exact)) none h
   no_change (RestartServer node exact store ∷ es) w none h = no_change es (happens S model x w (RestartServer node exact store)) none.1 (none.0, h)
+  no_change (Begin node exact ∷ es) w none h = no_change es (happens S model x w (Begin node exact)) none
+      (begin_quiet HasNone left_none S model x w h node exact)
+  no_change (BeginAgain node exact ∷ es) w none h = no_change es (happens S model x w (BeginAgain node exact)) none (go (is_quiet w.net node))
+    where
+      go : (b : Bool) → HasNoChange (if b then record { net = begun_again w.net node exact; stores = w.stores } else w).net.log
+      go true = h
+      go false = h
   no_change (Stray key free a ∷ es) w none h = no_change es (happens S model x w (Stray key free a)) none (stray_quiet HasNone away_none S model x w h key free a)
   no_change (AskAway key choice whole front rest ∷ es) w none h = no_change es (happens S model x w (AskAway key choice whole front rest)) none
       (ask_away_quiet HasNone away_none S model x w h key choice whole front rest)
@@ -268,6 +289,9 @@ module _ (S : Type 0) (model : StoreModel S) (x : Rules) where
   no_restart (Change node change ∷ es) w none h = no_restart es (happens S model x w (Change node change)) none h
   no_restart (RestartClient node exact ∷ es) w none h = absurd none
   no_restart (RestartServer node exact store ∷ es) w none h = absurd none
+  no_restart (Begin node exact ∷ es) w none h = no_restart es (happens S model x w (Begin node exact)) none
+      (begin_quiet NoneWaits left_waiting S model x w h node exact)
+  no_restart (BeginAgain node exact ∷ es) w none h = absurd none
   no_restart (Stray key free a ∷ es) w none h = no_restart es (happens S model x w (Stray key free a)) none (stray_quiet NoneWaits away_waiting S model x w h key free a)
   no_restart (AskAway key choice whole front rest ∷ es) w none h = no_restart es (happens S model x w (AskAway key choice whole front rest)) none
       (ask_away_quiet NoneWaits away_waiting S model x w h key choice whole front rest)

@@ -1,24 +1,24 @@
 -- What is said of each moment of a run beside the log: whose copies may arrive, and that no number among them is misread.
 use Rattle.std.specs.Prelude.{◌≡◌, ℕ, ◌+◌, ◌-◌, ◌*◌, ◌%◌, ◌<◌, ◌≤◌, ◌≢◌, ◌⊎◌, Bool, true, false, List, [], ◌∷◌, length, take, Option, Some, None, slice_get}
-use Rattle.std.specs.Prelude.{if◌then◌else◌, nat_lt}
+use Rattle.std.specs.Prelude.{if◌then◌else◌, nat_lt, ◌&&◌}
 use Rattle.bac_apdu.specs.Apdu.{Apdu, Segment}
 use Rattle.bac_apdu.specs.Apdu.Apdu.{ConfirmedRequest, UnconfirmedRequest, SimpleAck, ComplexAck, SegmentAck, Error}
 use Rattle.bac_segment.specs.Limits.{N_RETRY}
 use Rattle.bac_segment.specs.Numbers.{ahead}
 use Rattle.bac_segment.specs.Pieces.{join, piece_at}
 use Rattle.bac_segment.specs.Window.{Outgoing, in_window, Incoming}
-use Rattle.bac_protocol.specs.Times.{KEEP}
+use Rattle.bac_protocol.specs.Times.{DEADLINE, KEEP}
 use Rattle.bac_protocol.specs.Pace.{Pace, Clock, most, Since}
 use Rattle.bac_protocol.specs.Service.{Octets, Request, Reply as reply}
 use Rattle.bac_protocol.specs.Wire.{is_from_client}
 use Rattle.bac_protocol.specs.Client.{Ask, request_of, Phase, ClientTransaction}
 use Rattle.bac_protocol.specs.Client.Phase.{AwaitConfirmation, SegmentedConf, Idle}
-use Rattle.bac_protocol.specs.Server.{State, ServerTransaction, is_live}
+use Rattle.bac_protocol.specs.Server.{State, ServerTransaction, is_live, is_none_live}
 use Rattle.bac_protocol.specs.Server.State.{Done, SegmentedResponse, Dropped}
 use Rattle.bac_protocol.specs.Log.{Fact, Has, StoreModel}
 use Rattle.bac_protocol.specs.Log.Fact.{Asked, Performed, Restarted, Served}
 use Rattle.bac_protocol.specs.Transaction.{Key, Rules, Copy}
-use Rattle.bac_protocol.specs.World.{Net, Post, World, later, is_deliverable, copies_of, happens}
+use Rattle.bac_protocol.specs.World.{Net, Post, World, later, is_deliverable, copies_of, server_now, happens}
 use Rattle.bac_protocol.specs.World.Event.{Stray}
 
 -- the windows of all nodes are at most W, and few enough later copies may overtake one
@@ -43,7 +43,7 @@ pub record Moments : Type 0 where
   pub now : ℕ
   pub client : Clock
   pub server : Clock
-  pub restarted : ℕ  -- one more than the real moment at which its client restarted last
+  pub restarted : ℕ  -- what its client asked before this real moment is lost
   pub opens : ℕ  -- the first moment, by its server's clock, at which the server begins entries
 
 abbrev pub moments_of : Net → Key → Moments
@@ -158,6 +158,22 @@ IsOfTicket x n key (Some t) = IsOfNewest x n key t
 -- a ticket is that of the newest ask of its transaction
 abbrev pub AreOfNewest : Rules → Net → Type 0
 AreOfNewest x n = (key : Key) → IsOfTicket x n key (n.tickets key)
+
+-- copies that are too old to arrive
+abbrev pub are_too_old : Net → List Copy → Bool
+are_too_old n [] = true
+are_too_old n (c ∷ copies) = nat_lt n.pace.life (n.now - c.moment) && are_too_old n copies
+
+-- nothing is left of a transaction: no copy of it can arrive any more, and its server has no live entry of it
+abbrev pub is_nothing_left : Net → Key → Bool
+is_nothing_left n key = are_too_old n (copies_of key n.posts) && is_none_live (server_now n key) (n.entries key)
+
+-- When nothing is left of a transaction: where nothing was asked; once the last copy that its client could send for the newest ask is so old, and once that ask
+-- is so old
+pub record NothingIsLeft (n : Net) : Type 0 where
+  pub unasked : (key : Key) → n.tickets key ≡ None → is_nothing_left n key ≡ true
+  pub unsent : (key : Key) → n.until key + n.pace.life + most n.pace KEEP + n.pace.life < n.now → is_nothing_left n key ≡ true
+  pub old : (key : Key) → n.made key + most n.pace DEADLINE + n.pace.life + most n.pace KEEP + n.pace.life < n.now → is_nothing_left n key ≡ true
 
 -- Windows. Pieces have whole numbers from 0 on: all that were sent are below `sent`, the receiver has taken those below `taken`, in order, and those
 -- below `acknowledged` were acknowledged to the sender.
@@ -360,9 +376,9 @@ pub record AreServedApart (n : Net) : Type 0 where
   pub spaced : AreSpaced n.log
   pub waited : (q s i b : ℕ) (r : Request) (p : reply) → HasSinceRestart s (Served q s i b r p) n.log → n.serves_from s ≤ b
 
--- all but the tables for strangers and the log is as it was: the asks of nodes, their entries, their copies and time
+-- all but the tables for strangers, the log and which servers served is as it was: the asks of nodes, their entries, their copies and time
 abbrev pub LeavesNodes : (old new : Net) → Type 0
-LeavesNodes old new = new ≡ record old { far = new.far; log = new.log }
+LeavesNodes old new = new ≡ record old { served = new.served; far = new.far; log = new.log }
 
 -- a stranger's APDU changes nothing of that, and no store but that of the node at which it is heard
 pub record StraysLeaveNodes (S : Type 0) (model : StoreModel S) (x : Rules) : Type 0 where

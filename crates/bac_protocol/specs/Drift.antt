@@ -8,7 +8,7 @@ use Rattle.bac_protocol.specs.Log.{Fact, StoreModel}
 use Rattle.bac_protocol.specs.Log.Fact.{Ended}
 use Rattle.bac_protocol.specs.Transaction.{Rules}
 use Rattle.bac_protocol.specs.World.{World, Event, happens, run, start}
-use Rattle.bac_protocol.specs.World.Event.{Deliver, Advance, RestartClient, RestartServer}
+use Rattle.bac_protocol.specs.World.Event.{Deliver, Advance, RestartClient, RestartServer, Begin, BeginAgain}
 use Rattle.bac_protocol.specs.Examples.{model, rules, position, ask_append}
 use Rattle.bac_protocol.specs.Edges.{at_once, client_tick, server_tick, once, twice, counted, mixed, first_done, asks_again, asks_with_late_segment}
 
@@ -67,10 +67,12 @@ pub record Mixed : Type 0 where
   pub restarted : log_of counted (thousandth 4932) (late_after_restart 4932 ++ asks_again) ≡ mixed first_done
   pub restarted_within : log_of counted (thousandth 4931) (late_after_restart 4931 ++ asks_again) ≡ first_done
 
--- an end that restarts begins with a clock that shows real time
+-- an end that begins or restarts has a clock that shows real time
 abbrev pub KeepsTime : (S : Type 0) → World S → Event → Type 0
 KeepsTime S w (RestartClient node exact) = exact ≡ w.net.now
 KeepsTime S w (RestartServer node exact store) = exact ≡ w.net.now
+KeepsTime S w (Begin node exact) = exact ≡ w.net.now
+KeepsTime S w (BeginAgain node exact) = exact ≡ w.net.now
 KeepsTime S w _ = Unit {0}
 
 abbrev pub AllKeepTime : (S : Type 0) → StoreModel S → Rules → List Event → World S → Type 0

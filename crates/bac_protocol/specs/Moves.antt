@@ -12,11 +12,12 @@ use Rattle.bac_protocol.specs.World.{asked_away_at, client_acts_away, server_act
 use Rattle.bac_apdu.specs.Apdu.{Apdu}
 use Rattle.bac_protocol.specs.World.{Net, Post, set_at, asked_at, client_acts, server_acts, notes_change, is_deliverable}
 use Rattle.bac_protocol.specs.World.{is_id_held, is_room, client_restarted, server_restarted, client_now, server_now, passes}
+use Rattle.bac_protocol.specs.World.{is_active, begun, is_quiet, begun_again}
 use Rattle.bac_protocol.specs.Own.{IsOwnEntry}
 use Rattle.bac_protocol.specs.Claims.{AreServedApart}
 
 -- an ask; a copy arrives, at a server with that service; one ticket's tick; one entry's tick; time passes; a node changes its own store; a node's client
--- or server restarts
+-- or server restarts; a node that was not active begins; another client begins at a node
 pub data Move : Type 0 where
   Asks : (key : Key) (choice : ℕ) (whole : Bool) (front : Octets) (rest : List Octets) → Move
   Arrives : (number : ℕ) (free : Bool) (service : Service) → Move
@@ -26,6 +27,8 @@ pub data Move : Type 0 where
   Changes : (node : ℕ) (change : Octets) → Move
   RestartsClient : (node exact : ℕ) → Move
   RestartsServer : (node exact : ℕ) (store : Option Octets) → Move
+  Begins : (node exact : ℕ) → Move
+  BeginsAgain : (node exact : ℕ) → Move
   Strays : (key : Key) (free : Bool) (service : Service) (apdu : Apdu) → Move  -- the same of transactions with strangers
   AsksAway : (key : Key) (choice : ℕ) (whole : Bool) (front : Octets) (rest : List Octets) → Move
   TicksTicketAway : (key : Key) → Move
@@ -79,6 +82,8 @@ moved x n (Passes by clients servers) = passes n by clients servers
 moved x n (Changes node change) = notes_change n node change
 moved x n (RestartsClient node exact) = client_restarted n node exact
 moved x n (RestartsServer node exact store) = server_restarted n node exact store
+moved x n (Begins node exact) = if is_active n node then n else begun n node exact
+moved x n (BeginsAgain node exact) = if is_quiet n node then begun_again n node exact else n
 moved x n (Strays key free service a) =
     if is_from_client a then strayed_to_server x n key free service a else strayed_to_client x n key a (n.far.tickets key)
 moved x n (AsksAway key choice whole front rest) =

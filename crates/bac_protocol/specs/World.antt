@@ -1,9 +1,9 @@
 -- All transactions of all nodes, with one list of copies, one log, and the servers' stores.
-use Rattle.std.specs.Prelude.{◌≡◌, ℕ, zero, suc, ◌+◌, ◌-◌, Bool, false, ◌&&◌, not, List, [], ◌∷◌, ◌++◌, map, Option, Some, None, slice_get, if◌then◌else◌}
+use Rattle.std.specs.Prelude.{◌≡◌, ℕ, zero, suc, ◌+◌, ◌-◌, min, Bool, false, ◌&&◌, not, List, [], ◌∷◌, ◌++◌, map, Option, Some, None, slice_get, if◌then◌else◌}
 use Rattle.std.specs.Prelude.{◌||◌, nat_le, nat_lt, nat_eq}
 use Rattle.bac_apdu.specs.Apdu.{Apdu}
 use Rattle.bac_protocol.specs.Times.{DEADLINE, KEEP, REST}
-use Rattle.bac_protocol.specs.Pace.{Pace, Clock, clock_at, goes_on}
+use Rattle.bac_protocol.specs.Pace.{Pace, Clock, clock_at, goes_on, most}
 use Rattle.bac_protocol.specs.Service.{Octets}
 use Rattle.bac_protocol.specs.Wire.{is_from_client}
 use Rattle.bac_protocol.specs.Client.{Ask, request_of, Phase, ClientTransaction, after, sends_of, ending_of, asked_ticket, asks, client_on_apdu, client_ticks, is_held}
@@ -46,8 +46,11 @@ pub record Net : Type 0 where
   pub posts : List Post  -- every copy that was sent, oldest first, numbered from 0
   pub log : List Fact  -- newest first
   pub asks_from : ℕ → ℕ  -- the first moment at which each node asks; 0 where its client never restarted
-  pub restarted : ℕ → ℕ  -- one more than the real moment at which each node's client restarted last; 0 where it never did
+  pub restarted : ℕ → ℕ  -- what each node's client asked before this real moment is lost: it restarted, or another began; 0 where neither did
   pub serves_from : ℕ → ℕ  -- the first moment at which each node begins entries; 0 where its server never restarted
+  pub asked : ℕ → Bool  -- whether each node has asked anyone so far, or its client began anew
+  pub served : ℕ → Bool  -- whether each node's server has heard or done anything so far, or restarted
+  pub sends_until : ℕ → ℕ  -- from this real moment on each node's client sends nothing for the asks that it made so far; 0 where it made none
   pub far : Strangers
 
 -- what a transaction's client is told of time, and what its server is
@@ -98,6 +101,14 @@ post_of key now a = record { key = key; copy = record { moment = now; apdu = a }
 abbrev pub set_at : {A : Type 0} → (Key → A) → Key → A → Key → A
 set_at f key a k = if same_key key k then a else f k
 
+-- that node, and all that were among them
+abbrev pub with_node : (node : ℕ) → (ℕ → Bool) → ℕ → Bool
+with_node node nodes m = nat_eq m node || nodes m
+
+-- that node's clock begins anew, and shows so much
+abbrev pub with_clock : Pace → (node exact : ℕ) → (ℕ → Clock) → ℕ → Clock
+with_clock pace node exact clocks m = if nat_eq m node then clock_at pace exact else clocks m
+
 -- what its client does for a ticket: the ticket after it, the copies that it sends, and its ending in the log
 abbrev pub client_acts : Net → Key → ClientTransaction → client.Reaction → Net
 client_acts n key t r =
@@ -112,6 +123,7 @@ abbrev pub server_acts : Net → Key → server.Reaction → Net
 server_acts n key v =
     record n {
       entries = set_at n.entries key v.entry;
+      served = with_node key.server n.served;
       posts = n.posts ++ map (post_of key n.now) v.sends;
       log = performed (n.numbers key) v.effect n.log;
     }
@@ -122,6 +134,8 @@ asked_at x n key ask =
     let c = client_context x key (client_now n key) in
     record n {
       asks = n.asks + 1;
+      asked = with_node key.client n.asked;
+      sends_until = λ m. if nat_eq m key.client then n.now + most n.pace DEADLINE + 1 else n.sends_until m;
       numbers = set_at n.numbers key n.asks;
       made = set_at n.made key n.now;
       until = set_at n.until key n.now;
@@ -148,6 +162,7 @@ abbrev pub server_acts_away : Net → Key → server.Reaction → Net
 server_acts_away n key v =
     record n {
       far = record n.far { entries = set_at n.far.entries key v.entry };
+      served = with_node key.server n.served;
       log = served key (begin_of v.entry) v.effect n.log;
     }
 
@@ -156,6 +171,7 @@ abbrev pub asked_away_at : Rules → Net → Key → Ask → Net
 asked_away_at x n key ask =
     record n {
       asks = n.asks + 1;
+      asked = with_node key.client n.asked;
       far = record n.far {
         numbers = set_at n.far.numbers key n.asks;
         tickets = set_at n.far.tickets key (Some (asked_ticket (client_context x key (client_now n key)) ask));
@@ -208,6 +224,8 @@ pub data Event : Type 0 where
   Change : (node : ℕ) (change : Octets) → Event
   RestartClient : (node exact : ℕ) → Event  -- its tickets are lost
   RestartServer : (node exact : ℕ) (store : Option Octets) → Event  -- its entries are lost; its store is as it was, or that one
+  Begin : (node exact : ℕ) → Event  -- a node that neither asked nor served so far begins, with a new clock
+  BeginAgain : (node exact : ℕ) → Event  -- another client begins at a node, once all is over that the one before sent
   Stray : (key : Key) (free : Bool) (apdu : Apdu) → Event  -- any APDU of a stranger reaches a node, in that transaction
   AskAway : (key : Key) (choice : ℕ) (whole : Bool) (front : Octets) (rest : List Octets) → Event  -- a node asks a stranger
   TickAway : (as_client as_server : List Key) → Event  -- a tick of a node, as to strangers
@@ -248,15 +266,23 @@ abbrev pub lost : Option ClientTransaction → Option ClientTransaction
 lost None = None
 lost (Some t) = Some (record t { phase = Idle })
 
--- a node's client restarts, with a new clock: its tickets are lost, and it asks again once more than REST has passed
-abbrev pub client_restarted : Net → (node exact : ℕ) → Net
-client_restarted n node exact =
+-- a node's client begins anew, with a new clock: its tickets are lost
+abbrev pub client_anew : Net → (node exact : ℕ) → Net
+client_anew n node exact =
     record n {
       tickets = λ key. if nat_eq key.client node then lost (n.tickets key) else n.tickets key;
-      client_clocks = λ m. if nat_eq m node then clock_at n.pace exact else n.client_clocks m;
-      restarted = λ m. if nat_eq m node then n.now + 1 else n.restarted m;
-      asks_from = λ m. if nat_eq m node then (clock_at n.pace exact).shows + REST + 1 else n.asks_from m;
+      client_clocks = with_clock n.pace node exact n.client_clocks;
+      asked = with_node node n.asked;
       far = record n.far { tickets = λ key. if nat_eq key.client node then None else n.far.tickets key };
+    }
+
+-- a node's client restarts: it asks again once more than REST has passed
+abbrev pub client_restarted : Net → (node exact : ℕ) → Net
+client_restarted n node exact =
+    record (client_anew n node exact) {
+      restarted = λ m. if nat_eq m node then n.now + 1 else n.restarted m;
+      sends_until = λ m. if nat_eq m node then min (n.sends_until m) (n.now + 1) else n.sends_until m;
+      asks_from = λ m. if nat_eq m node then (clock_at n.pace exact).shows + REST + 1 else n.asks_from m;
     }
 
 -- a node's server restarts, with a new clock: its entries are lost, and it begins entries again once more than KEEP has passed
@@ -264,11 +290,47 @@ abbrev pub server_restarted : Net → (node exact : ℕ) → (store : Option Oct
 server_restarted n node exact store =
     record n {
       entries = λ key. if nat_eq key.server node then None else n.entries key;
-      server_clocks = λ m. if nat_eq m node then clock_at n.pace exact else n.server_clocks m;
+      server_clocks = with_clock n.pace node exact n.server_clocks;
       serves_from = λ m. if nat_eq m node then (clock_at n.pace exact).shows + KEEP + 1 else n.serves_from m;
+      served = with_node node n.served;
       log = Restarted node store ∷ n.log;
       far = record n.far { entries = λ key. if nat_eq key.server node then None else n.far.entries key };
     }
+
+-- Late starts (own rule of this profile): a node may begin at any moment, and one client after another may begin at one node.
+
+-- whether a node has done anything so far
+abbrev pub is_active : Net → (node : ℕ) → Bool
+is_active n node = n.asked node || n.served node
+
+-- a client that never asked begins, with a new clock
+abbrev pub client_begun : Net → (node exact : ℕ) → Net
+client_begun n node exact = record n { client_clocks = with_clock n.pace node exact n.client_clocks }
+
+-- a server that never served begins, with a new clock
+abbrev pub server_begun : Net → (node exact : ℕ) → Net
+server_begun n node exact = record n { server_clocks = with_clock n.pace node exact n.server_clocks }
+
+-- a node that was not active begins
+abbrev pub begun : Net → (node exact : ℕ) → Net
+begun n node exact = client_begun (server_begun n node exact) node exact
+
+-- all is over that a node's client sent: no copy of it can arrive, nor any for which a server's entry lives that it began
+abbrev pub is_quiet : Net → (node : ℕ) → Bool
+is_quiet n node = nat_le (n.sends_until node + n.pace.life + most n.pace KEEP + n.pace.life) n.now
+
+-- then another client begins at that node, and may ask at once
+abbrev pub next_client : Net → (node exact : ℕ) → Net
+next_client n node exact =
+    record (client_anew n node exact) {
+      restarted = λ m. if nat_eq m node then n.now else n.restarted m;
+      asks_from = λ m. if nat_eq m node then 0 else n.asks_from m;
+    }
+
+-- with it begins the node's server, where that never served; one that served goes on
+abbrev pub begun_again : Net → (node exact : ℕ) → Net
+begun_again n node exact =
+    record (next_client n node exact) { server_clocks = if n.served node then n.server_clocks else with_clock n.pace node exact n.server_clocks }
 
 -- what the transaction's server makes of a request, by its store as it is
 abbrev pub service_of : (S : Type 0) → StoreModel S → World S → Key → Service
@@ -373,6 +435,8 @@ happens S model x w (Change node change) = record { net = notes_change w.net nod
 happens S model x w (RestartClient node exact) = record { net = client_restarted w.net node exact; stores = w.stores }
 happens S model x w (RestartServer node exact store) =
     record { net = server_restarted w.net node exact store; stores = restarted_at S model node store w.stores }
+happens S model x w (Begin node exact) = if is_active w.net node then w else record { net = begun w.net node exact; stores = w.stores }
+happens S model x w (BeginAgain node exact) = if is_quiet w.net node then record { net = begun_again w.net node exact; stores = w.stores } else w
 happens S model x w (Stray key free a) = strays S model x w key free a
 happens S model x w (AskAway key choice whole front rest) =
     if is_id_held_away w.net key then w
@@ -396,6 +460,7 @@ abbrev pub MakeNoRestart : List Event → Type 0
 MakeNoRestart [] = Unit {0}
 MakeNoRestart (RestartClient node exact ∷ es) = ⊥
 MakeNoRestart (RestartServer node exact store ∷ es) = ⊥
+MakeNoRestart (BeginAgain node exact ∷ es) = ⊥
 MakeNoRestart (e ∷ es) = MakeNoRestart es
 
 -- in these events there are no strangers
@@ -436,6 +501,9 @@ net_start pace clocks =
       log = [];
       asks_from = λ node. 0;
       serves_from = λ node. 0;
+      asked = λ node. false;
+      served = λ node. false;
+      sends_until = λ node. 0;
       far = record { numbers = λ key. 0; tickets = λ key. None; entries = λ key. None };
     }
 

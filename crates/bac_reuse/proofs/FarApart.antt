@@ -18,14 +18,16 @@ use Rattle.bac_protocol.specs.Reuse.{server_hears}
 use Rattle.bac_protocol.specs.Transaction.{Key, Rules, client_context, ended, ended_away, performed, served, server_context}
 use Rattle.bac_protocol.specs.World.{Net, Post, Strangers, asked_at, asked_away_at, begin_of, client_acts, client_acts_away, client_now, is_deliverable}
 use Rattle.bac_protocol.specs.World.{is_id_held, is_id_held_away, is_room, net_start, passes, server_acts, server_acts_away, server_now}
-use Rattle.bac_protocol.specs.World.{server_restarted, set_at}
+use Rattle.bac_protocol.specs.World.{server_restarted, set_at, with_clock}
+use Rattle.bac_protocol.specs.World.{begun, begun_again, is_active, is_quiet, next_client, server_begun}
+use Rattle.bac_protocol.proofs.Resting.{Unserved, not_active}
 use Rattle.bac_protocol.specs.Moves.{Move, strayed_to_client, taken_by_client, ticket_ticked, ticket_ticked_away}
-use Rattle.bac_protocol.specs.Moves.Move.{Asks, Arrives, TicksTicket, TicksEntry, Passes, Changes, RestartsClient, RestartsServer}
+use Rattle.bac_protocol.specs.Moves.Move.{Asks, Arrives, TicksTicket, TicksEntry, Passes, Changes, RestartsClient, RestartsServer, Begins, BeginsAgain}
 use Rattle.bac_protocol.specs.Moves.Move.{Strays, AsksAway, TicksTicketAway, TicksEntryAway}
 use Rattle.bac_protocol.proofs.Calm.{Calm}
 use Rattle.bac_protocol.proofs.Keys.{decide_key, set_other, set_same}
 use Rattle.bac_protocol.proofs.Nets.{room_opens}
-use Rattle.bac_protocol.proofs.StrangerTables.{Away, AwayIn, away_gets, away_later, away_server_restarted, away_starts, away_ticks, served_apart}
+use Rattle.bac_protocol.proofs.StrangerTables.{Away, AwayIn, away_gets, away_later, away_server_begins, away_server_restarted, away_starts, away_ticks, served_apart}
 use Rattle.bac_reuse.specs.Moves.{AreServedApartSo, AreSpacedSo, arrived_so, moved_so, strayed_to_server_so, taken_by_server_so}
 use Rattle.bac_reuse.specs.Runs.{Reusing}
 use Rattle.bac_reuse.proofs.Beside.{Own, over}
@@ -220,22 +222,51 @@ time_left : (n : Net) → Calm n → (far : Strangers) (log : List Fact) → Awa
     → AwayIn (passes n by clients servers).server_clocks n.serves_from far log
 time_left n calm far log h by clients servers = away_later (record n { far = far; log = log }) by clients servers (λ k. calm k) h
 
+-- a server begins
+server_begin_left : (u : Reusing) (n : Net) → Unserved n → AwayLeft u n → (node exact : ℕ) → n.served node ≡ false → AwayLeft u (server_begun n node exact)
+server_begin_left u n unserved h node exact off =
+    let old = unserved node off in
+    away_server_begins (left_of u n) node exact
+    (record { entries = old.entries; away = λ key is. none (u.reuses key.server) (n.far.entries key) (old.away key is); opens = old.opens }) h
+  where
+    none : (b : Bool) (o : Option ServerTransaction) → o ≡ None → (if b then None else o) ≡ None
+    none true o is = refl
+    none false o is = is
+
+-- a node begins
+begin_left : (u : Reusing) (n : Net) → Unserved n → AwayLeft u n → (node exact : ℕ) (b : Bool) → is_active n node ≡ b
+    → AwayLeft u (if b then n else begun n node exact)
+begin_left u n unserved h node exact true is = h
+begin_left u n unserved h node exact false off = server_begin_left u n unserved h node exact (not_active n node off).1
+
+-- another client begins
+again_left : (u : Reusing) (n : Net) → Unserved n → AwayLeft u n → (node exact : ℕ) (b : Bool) → AwayLeft u (if b then begun_again n node exact else n)
+again_left u n unserved h node exact false = h
+again_left u n unserved h node exact true = go (n.served node) refl
+  where
+    go : (b : Bool) → n.served node ≡ b
+        → AwayLeft u (record (next_client n node exact) { server_clocks = if b then n.server_clocks else with_clock n.pace node exact n.server_clocks })
+    go true is = h
+    go false off = server_begin_left u n unserved h node exact off
+
 -- a net whose clocks are those of a calm one
-pub move_left : (x : Rules) (u : Reusing) (n : Net) (g : Own) → Calm n → AwayLeft u (over n g) → (m : Move) → AwayLeft u (moved_so x u (over n g) m)
-move_left x u n g calm h (Asks key choice whole front rest) =
+pub move_left : (x : Rules) (u : Reusing) (n : Net) (g : Own) → Calm n → Unserved (over n g) → AwayLeft u (over n g) → (m : Move) → AwayLeft u (moved_so x u (over n g) m)
+move_left x u n g calm unserved h (Asks key choice whole front rest) =
     ask_left x u (over n g) h key (record { first = client_now n key; choice = choice; whole = whole; pieces = front ∷ rest }) (is_id_held n key)
-move_left x u n g calm h (Arrives number free service) = arrives_left x u (over n g) h number free service (slice_get g.posts number)
-move_left x u n g calm h (TicksTicket key) = ticket_left x u (over n g) h key (n.tickets key)
-move_left x u n g calm h (TicksEntry key) = server_left x u (over n g) h key (server.server_ticks (server_context x key (server_now n key)) (g.entries key))
-move_left x u n g calm h (Passes by clients servers) = time_left n calm (far_left u (over n g).far) (log_left u g.log) h by clients servers
-move_left x u n g calm h (Changes node change) = h
-move_left x u n g calm h (RestartsClient node exact) = h
-move_left x u n g calm h (RestartsServer node exact store) = restart_left x u (over n g) h node exact store
-move_left x u n g calm h (Strays key free service a) = strays_left x u (over n g) h key free service a (is_from_client a)
-move_left x u n g calm h (AsksAway key choice whole front rest) =
+move_left x u n g calm unserved h (Arrives number free service) = arrives_left x u (over n g) h number free service (slice_get g.posts number)
+move_left x u n g calm unserved h (TicksTicket key) = ticket_left x u (over n g) h key (n.tickets key)
+move_left x u n g calm unserved h (TicksEntry key) = server_left x u (over n g) h key (server.server_ticks (server_context x key (server_now n key)) (g.entries key))
+move_left x u n g calm unserved h (Passes by clients servers) = time_left n calm (far_left u (over n g).far) (log_left u g.log) h by clients servers
+move_left x u n g calm unserved h (Changes node change) = h
+move_left x u n g calm unserved h (RestartsClient node exact) = h
+move_left x u n g calm unserved h (RestartsServer node exact store) = restart_left x u (over n g) h node exact store
+move_left x u n g calm unserved h (Begins node exact) = begin_left u (over n g) unserved h node exact (is_active n node) refl
+move_left x u n g calm unserved h (BeginsAgain node exact) = again_left u (over n g) unserved h node exact (is_quiet n node)
+move_left x u n g calm unserved h (Strays key free service a) = strays_left x u (over n g) h key free service a (is_from_client a)
+move_left x u n g calm unserved h (AsksAway key choice whole front rest) =
     ask_away_left x u (over n g) h key (record { first = client_now n key; choice = choice; whole = whole; pieces = front ∷ rest }) (is_id_held_away n key)
-move_left x u n g calm h (TicksTicketAway key) = ticket_away_left x u (over n g) h key (n.far.tickets key)
-move_left x u n g calm h (TicksEntryAway key) = ticks_left x u (over n g) h key
+move_left x u n g calm unserved h (TicksTicketAway key) = ticket_away_left x u (over n g) h key (n.far.tickets key)
+move_left x u n g calm unserved h (TicksEntryAway key) = ticks_left x u (over n g) h key
 
 pub start_left : (u : Reusing) (pace : Pace) (clocks : ℕ → ℕ) → AwayLeft u (net_start pace clocks)
 start_left u pace clocks = subst (λ (f : Key → Option ServerTransaction). AwayIn (λ node. clock_at pace (clocks node)) (λ node. 0)

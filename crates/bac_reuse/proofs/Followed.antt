@@ -1,5 +1,5 @@
 -- Each move of a net in which servers let invoke IDs be used again is followed by a net of bac_protocol.
-use Rattle.std.proofs.Common.{◌≡◌, ℕ, ◌-◌, ◌≤◌, ◌⊎◌, Bool, true, false, ◌&&◌, List, [], ◌∷◌, ◌++◌, map, Option, Some, None}
+use Rattle.std.proofs.Common.{◌≡◌, ℕ, ◌+◌, ◌-◌, ◌≤◌, ◌⊎◌, Bool, true, false, ◌&&◌, List, [], ◌∷◌, ◌++◌, map, Option, Some, None}
 use Rattle.std.proofs.Common.{slice_get, if◌then◌else◌, nat_eq, nat_le, refl, ap, sym, subst, inl, inr, ◌∙◌, arith}
 use Rattle.std.proofs.lemmas.Bool.Decides.{nat_tests}
 use Rattle.bac_apdu.specs.Apdu.{Apdu}
@@ -22,19 +22,22 @@ use Rattle.bac_protocol.specs.Reuse.{server_hears}
 use Rattle.bac_protocol.specs.Transaction.{Copy, Key, Rules, client_context, ended_away, served, server_context}
 use Rattle.bac_protocol.specs.World.{Net, Post, asked_at, asked_away_at, begin_of, client_acts, client_acts_away, client_now, client_restarted}
 use Rattle.bac_protocol.specs.World.{copies_of, is_id_held, is_id_held_away, is_room, later, lost, net_start, notes_change, passes, post_of, server_acts}
-use Rattle.bac_protocol.specs.World.{server_acts_away, server_now, server_restarted, set_at}
+use Rattle.bac_protocol.specs.World.{server_acts_away, server_now, server_restarted, set_at, with_clock, with_node}
+use Rattle.bac_protocol.specs.World.{begun, begun_again, is_active, is_quiet}
+use Rattle.bac_protocol.specs.declared.times.TheConstants.{KEEP}
+use Rattle.bac_protocol.proofs.Resting.{not_active, unserved_acts_away, unserved_more, unserved_restarts}
+use Rattle.bac_protocol.proofs.Standing.{Stands, ask_stands, away_asks, away_reacts, away_right, begin_again_stands, begin_stands, change_stands, client_restart_stands}
+use Rattle.bac_protocol.proofs.Standing.{served_stands, server_restart_stands, spent_stands, start_stands, ticket_gets, ticket_stays, ticket_ticks, time_stands}
 use Rattle.bac_protocol.specs.Moves.{Move, strayed_to_client, taken_by_client, ticket_ticked, ticket_ticked_away}
-use Rattle.bac_protocol.specs.Moves.Move.{Asks, Arrives, TicksTicket, TicksEntry, Passes, Changes, RestartsClient, RestartsServer}
+use Rattle.bac_protocol.specs.Moves.Move.{Asks, Arrives, TicksTicket, TicksEntry, Passes, Changes, RestartsClient, RestartsServer, Begins, BeginsAgain}
 use Rattle.bac_protocol.specs.Moves.Move.{Strays, AsksAway, TicksTicketAway, TicksEntryAway}
 use Rattle.bac_protocol.specs.Claims.{IsBounded}
 use Rattle.bac_protocol.proofs.Alone.{one}
 use Rattle.bac_protocol.proofs.Asks.{IsSpent}
-use Rattle.bac_protocol.proofs.Calm.{spent_free}
 use Rattle.bac_protocol.proofs.Dead.{ended_is_silent}
 use Rattle.bac_protocol.proofs.Facts.{all_map, grows_more}
-use Rattle.bac_protocol.proofs.Headline.{net_log}
 use Rattle.bac_protocol.proofs.Keys.{copy_at, decide_key, set_nothing, set_other, set_same}
-use Rattle.bac_protocol.proofs.Nets.{sound_at}
+use Rattle.bac_protocol.proofs.Nets.{net_log, sound_at}
 use Rattle.bac_protocol.proofs.Paces.{shows_on}
 use Rattle.bac_reuse.specs.Moves.{IsOrderlySo, IsReachedSo, arrived_so, moved_so, strayed_to_server_so, taken_by_server_so}
 use Rattle.bac_reuse.specs.Moves.IsReachedSo.{Still, Moved}
@@ -44,8 +47,7 @@ use Rattle.bac_reuse.proofs.Beside.{ended_away_grows, like_key, likes_join, like
 use Rattle.bac_reuse.proofs.Clients.{AbortsIf, EndsAsAborted, IsAnswer, answer_comes, asks_steady, gets_steady, steady_ends, ticks_steady}
 use Rattle.bac_reuse.proofs.Machine.{IsGone, gone_ticks}
 use Rattle.bac_reuse.proofs.Simulated.{IsFollowed, Like, client_ended, client_same, copy_comes, follows, ticks_on}
-use Rattle.bac_reuse.proofs.NetSteps.{Stands, ask_stands, away_asks, away_reacts, away_right, change_stands, client_ends, client_restart_stands, starts_standing}
-use Rattle.bac_reuse.proofs.NetSteps.{server_restart_stands, ticket_gets, ticket_stays, ticket_ticks, time_stands}
+use Rattle.bac_reuse.proofs.NetSteps.{client_ends}
 
 all_there : (posts : List Post) → posts ++ [] ≡ posts
 all_there [] = refl
@@ -202,15 +204,22 @@ module _ (W : ℕ) (x : Rules) (bound : IsBounded W x) (u : Reusing) where
   entry_ticks_on : (n : Net) (g : Own) → Stands W n → LikeAt n g → (key : Key) (o : Option ClientTransaction) → n.tickets key ≡ o
       → Follows (server_acts (over n g) key (server.server_ticks (server_context x key (server_now n key)) (g.entries key)))
   entry_ticks_on n g s l key (Some t) at = ticks_on W x bound u n g s l key t at
-  entry_ticks_on n g s l key None at = (n, g, s, l, nothing_done)
+  entry_ticks_on n g s l key None at = (
+    record n { served = with_node key.server n.served },
+    g,
+    served_stands W n s key.server,
+    record { posts = l.posts; entries = l.entries; logs = l.logs; orderly = l.orderly; unserved = unserved_more (over n g) l.unserved key.server },
+    nothing_done,
+  )
     where
       gone : AreGone (server_now n key) (g.entries key) (n.entries key)
       gone = subst (λ (o : Option ClientTransaction). Fit u key (server_now n key) o (g.entries key) (n.entries key)) at (l.entries key)
 
-      nothing_done : server_acts (over n g) key (server.server_ticks (server_context x key (server_now n key)) (g.entries key)) ≡ over n g
+      nothing_done : server_acts (over n g) key (server.server_ticks (server_context x key (server_now n key)) (g.entries key))
+          ≡ over (record n { served = with_node key.server n.served }) g
       nothing_done = ap (λ (v : server.Reaction). server_acts (over n g) key v)
           (gone_ticks (server_context x key (server_now n key)) (λ choice octets. Rejects 0) (g.entries key) gone.0)
-          ∙ (λ i. record (over n g) { entries = set_nothing g.entries key (g.entries key) refl i; posts = all_there g.posts i })
+          ∙ (λ i. record (over n g) { served = with_node key.server n.served; entries = set_nothing g.entries key (g.entries key) refl i; posts = all_there g.posts i })
 
   -- Asks.
 
@@ -235,10 +244,10 @@ module _ (W : ℕ) (x : Rules) (bound : IsBounded W x) (u : Reusing) where
     asked = record g { posts = g.posts ++ map (post_of key n.now) sends; log = fact ∷ g.log }
 
     kept_ask : Stands W (asked_at x n key ask)
-    kept_ask = ask_stands W n s x bound key choice whole front rest free
+    kept_ask = ask_stands W x bound n s key choice whole front rest free
 
     spent : IsSpent (one n key)
-    spent = spent_free W n s.net s.calm key free
+    spent = spent_stands W n s key free
 
     -- a copy of the transaction that was sent before is too old
     old : (i : ℕ) (p q : Post) → slice_get n.posts i ≡ Some q → q.key ≡ p.key → q.copy.moment ≡ p.copy.moment → key ≡ p.key → IsYoung n p → ⊥
@@ -290,6 +299,7 @@ module _ (W : ℕ) (x : Rules) (bound : IsBounded W x) (u : Reusing) where
             (λ h. inl (gone_both u key (server_now n key) (n.tickets key) (g.entries key) (n.entries key) (gone (n.entries key) refl) h));
         logs = logs_both u g.log n.log l.logs fact;
         orderly = (right.0 ∙ sym l.logs.counted, l.orderly);
+        unserved = l.unserved;
       },
       refl,
     )
@@ -328,6 +338,7 @@ module _ (W : ℕ) (x : Rules) (bound : IsBounded W x) (u : Reusing) where
             (n.entries k) (l.entries k);
         logs = l.logs;
         orderly = l.orderly;
+        unserved = l.unserved;
       },
       refl,
     )
@@ -349,6 +360,7 @@ module _ (W : ℕ) (x : Rules) (bound : IsBounded W x) (u : Reusing) where
         entries = l.entries;
         logs = logs_both u g.log n.log l.logs (Changed node change);
         orderly = l.orderly;
+        unserved = l.unserved;
       },
       refl,
     )
@@ -367,6 +379,7 @@ module _ (W : ℕ) (x : Rules) (bound : IsBounded W x) (u : Reusing) where
         entries = λ k. fits k (nat_eq k.server node);
         logs = logs_both u g.log n.log l.logs (Restarted node store);
         orderly = l.orderly;
+        unserved = unserved_restarts (over n g) l.unserved node ((clock_at n.pace exact).shows + KEEP + 1);
       },
       refl,
     )
@@ -376,6 +389,19 @@ module _ (W : ℕ) (x : Rules) (bound : IsBounded W x) (u : Reusing) where
         fits k true = fit_none u k (clock_at n.pace exact).shows (n.tickets k)
         fits k false = l.entries k
 
+    -- the tickets of a node's client are lost
+    fits : (node : ℕ) (k : Key) (b : Bool) → Fit u k (server_now n k) (if b then lost (n.tickets k) else n.tickets k) (g.entries k) (n.entries k)
+    fits node k true = fit_lost u k (server_now n k) (n.tickets k) (g.entries k) (n.entries k) (l.entries k)
+    fits node k false = l.entries k
+
+    aborts : (o : Option ClientTransaction) (a : Apdu) (b : Bool) → AbortsOf o a → AbortsOf (if b then lost o else o) a
+    aborts o a true h = aborts_lost o a
+    aborts o a false h = h
+
+    foreign : (number : ℕ) (o : Option ClientTransaction) (a : Apdu) (b : Bool) → IsForeign number o g.log a → IsForeign number (if b then lost o else o) g.log a
+    foreign number o a true h = foreign_lost number o g.log a
+    foreign number o a false h = h
+
     client_restarts : (node exact : ℕ) → Follows (client_restarted (over n g) node exact)
     client_restarts node exact = (
       client_restarted n node exact,
@@ -383,42 +409,92 @@ module _ (W : ℕ) (x : Rules) (bound : IsBounded W x) (u : Reusing) where
       client_restart_stands W n s node exact,
       record {
         posts = likes_map (IsLike n g.log) (IsLike (client_restarted n node exact) g.log) g.posts n.posts (λ i p q at h. lost_post p q h) l.posts;
-        entries = λ k. fits k (nat_eq k.client node);
+        entries = λ k. fits node k (nat_eq k.client node);
         logs = l.logs;
         orderly = l.orderly;
+        unserved = l.unserved;
       },
       refl,
     )
       where
-        fits : (k : Key) (b : Bool) → Fit u k (server_now n k) (if b then lost (n.tickets k) else n.tickets k) (g.entries k) (n.entries k)
-        fits k true = fit_lost u k (server_now n k) (n.tickets k) (g.entries k) (n.entries k) (l.entries k)
-        fits k false = l.entries k
-
-        aborts : (o : Option ClientTransaction) (a : Apdu) (b : Bool) → AbortsOf o a → AbortsOf (if b then lost o else o) a
-        aborts o a true h = aborts_lost o a
-        aborts o a false h = h
-
-        foreign : (number : ℕ) (o : Option ClientTransaction) (a : Apdu) (b : Bool) → IsForeign number o g.log a → IsForeign number (if b then lost o else o) g.log a
-        foreign number o a true h = foreign_lost number o g.log a
-        foreign number o a false h = h
-
         lost_post : (p q : Post) → IsLike n g.log p q → IsLike (client_restarted n node exact) g.log p q
         lost_post p q (inl h) = inl (h.0, λ young. aborts (n.tickets p.key) p.copy.apdu (nat_eq p.key.client node) (h.1 young))
         lost_post p q (inr h) = inr (h.0, h.1, λ young. foreign (n.numbers p.key) (n.tickets p.key) p.copy.apdu (nat_eq p.key.client node) (h.2 young))
+
+    -- a server begins: neither net has an entry of it
+    fits_begun : (node exact : ℕ) → n.served node ≡ false → (o : Key → Option ClientTransaction)
+        → ((k : Key) → Fit u k (server_now n k) (o k) (g.entries k) (n.entries k)) → (k : Key)
+        → Fit u k (with_clock n.pace node exact n.server_clocks k.server).shows (o k) (g.entries k) (n.entries k)
+    fits_begun node exact off o fit k = go (nat_eq k.server node) refl
+      where
+        go : (b : Bool) → nat_eq k.server node ≡ b
+            → Fit u k (if b then clock_at n.pace exact else n.server_clocks k.server).shows (o k) (g.entries k) (n.entries k)
+        go true is =
+            let at : k.server ≡ node = grind (arith, nat_tests) in
+            subst (λ (e : Option ServerTransaction). Fit u k (clock_at n.pace exact).shows (o k) e (n.entries k)) (sym ((l.unserved node off).entries k at))
+            (subst (λ (e : Option ServerTransaction). Fit u k (clock_at n.pace exact).shows (o k) None e) (sym ((s.unserved node off).entries k at))
+            (fit_none u k (clock_at n.pace exact).shows (o k)))
+        go false is = fit k
+
+    -- a node begins
+    begins : (node exact : ℕ) (b : Bool) → is_active n node ≡ b → Follows (if b then over n g else begun (over n g) node exact)
+    begins node exact true is = stands n g s l
+    begins node exact false off = (
+      begun n node exact,
+      g,
+      begin_stands W n s node exact off,
+      record {
+        posts = l.posts;
+        entries = fits_begun node exact (not_active n node off).1 n.tickets l.entries;
+        logs = l.logs;
+        orderly = l.orderly;
+        unserved = l.unserved;
+      },
+      refl,
+    )
+
+    -- another client begins at a node
+    begins_again : (node exact : ℕ) (b : Bool) → is_quiet n node ≡ b → Follows (if b then begun_again (over n g) node exact else over n g)
+    begins_again node exact false is = stands n g s l
+    begins_again node exact true quiet = (
+      begun_again n node exact,
+      g,
+      begin_again_stands W n s node exact quiet,
+      record {
+        posts = likes_map (IsLike n g.log) (IsLike (begun_again n node exact) g.log) g.posts n.posts (λ i p q at h. lost_post p q h) l.posts;
+        entries = λ k. entries (n.served node) refl k;
+        logs = l.logs;
+        orderly = l.orderly;
+        unserved = l.unserved;
+      },
+      refl,
+    )
+      where
+        lost_post : (p q : Post) → IsLike n g.log p q → IsLike (begun_again n node exact) g.log p q
+        lost_post p q (inl h) = inl (h.0, λ young. aborts (n.tickets p.key) p.copy.apdu (nat_eq p.key.client node) (h.1 young))
+        lost_post p q (inr h) = inr (h.0, h.1, λ young. foreign (n.numbers p.key) (n.tickets p.key) p.copy.apdu (nat_eq p.key.client node) (h.2 young))
+
+        entries : (b : Bool) → n.served node ≡ b → (k : Key)
+            → Fit u k ((if b then n.server_clocks else with_clock n.pace node exact n.server_clocks) k.server).shows
+            (if nat_eq k.client node then lost (n.tickets k) else n.tickets k) (g.entries k) (n.entries k)
+        entries true is k = fits node k (nat_eq k.client node)
+        entries false off k = fits_begun node exact off (λ j. if nat_eq j.client node then lost (n.tickets j) else n.tickets j)
+            (λ j. fits node j (nat_eq j.client node)) k
 
   -- Strangers. What a server makes of theirs is its own; their tickets are the same in both.
 
   module _ (n : Net) (g : Own) (s : Stands W n) (l : LikeAt n g) where
     far_serves : (key : Key) (v : server.Reaction) → Follows (server_acts_away (over n g) key v)
     far_serves key v = (
-      n,
+      record n { served = with_node key.server n.served },
       record g { log = served key (begin_of v.entry) v.effect g.log; far_entries = set_at g.far_entries key v.entry },
-      s,
+      served_stands W n s key.server,
       record {
         posts = likes_map (IsLike n g.log) (IsLike n (served key (begin_of v.entry) v.effect g.log)) g.posts n.posts (λ i p q at h. far_post p q h) l.posts;
         entries = l.entries;
         logs = logs_served u g.log n.log l.logs key (begin_of v.entry) v.effect;
         orderly = go v.effect;
+        unserved = unserved_acts_away (over n g) l.unserved key v.entry;
       },
       refl,
     )
@@ -448,6 +524,7 @@ module _ (W : ℕ) (x : Rules) (bound : IsBounded W x) (u : Reusing) where
         entries = l.entries;
         logs = logs_ending_away u g.log n.log l.logs (n.far.numbers key) (client.ending_of r);
         orderly = go (client.ending_of r) (away_right W n s key t at r silent);
+        unserved = l.unserved;
       },
       refl,
     )
@@ -494,6 +571,7 @@ module _ (W : ℕ) (x : Rules) (bound : IsBounded W x) (u : Reusing) where
         entries = l.entries;
         logs = logs_both u g.log n.log l.logs (AskedAway n.asks key.client key.server (request_of away));
         orderly = ((net_log W n s.net).counted ∙ sym l.logs.counted, l.orderly);
+        unserved = l.unserved;
       },
       refl,
     )
@@ -530,6 +608,8 @@ module _ (W : ℕ) (x : Rules) (bound : IsBounded W x) (u : Reusing) where
   move_follows n g s l (Changes node change) = change_made n g s l node change
   move_follows n g s l (RestartsClient node exact) = client_restarts n g s l node exact
   move_follows n g s l (RestartsServer node exact store) = server_restarts n g s l node exact store
+  move_follows n g s l (Begins node exact) = begins n g s l node exact (is_active n node) refl
+  move_follows n g s l (BeginsAgain node exact) = begins_again n g s l node exact (is_quiet n node) refl
   move_follows n g s l (Strays key free service a) = strays n g s l key free service a (is_from_client a)
   move_follows n g s l (AsksAway key choice whole front rest) = far_asks n g s l key
       (record { first = client_now n key; choice = choice; whole = whole; pieces = front ∷ rest }) (is_id_held_away n key)
@@ -544,7 +624,7 @@ module _ (W : ℕ) (x : Rules) (bound : IsBounded W x) (u : Reusing) where
     starts = (
       net_start pace clocks,
       record { entries = λ key. None; posts = []; log = []; far_entries = λ key. None },
-      starts_standing W pace clocks timely,
+      start_stands W pace clocks timely,
       record {
         posts = tt;
         entries = λ key. (tt, tt);
@@ -558,6 +638,7 @@ module _ (W : ℕ) (x : Rules) (bound : IsBounded W x) (u : Reusing) where
           unended_away = λ i h. h;
         };
         orderly = tt;
+        unserved = λ node off. record { entries = λ key is. refl; away = λ key is. refl; opens = refl };
       },
       refl,
     )

@@ -12,7 +12,8 @@ use Rattle.bac_protocol.specs.Transaction.{Key, Rules, server_context}
 use Rattle.bac_protocol.specs.World.{Net, Post, asked_at, asked_away_at, client_now, is_deliverable, is_id_held, is_id_held_away, is_room, lost, server_acts}
 use Rattle.bac_protocol.specs.World.{server_now, set_at}
 use Rattle.bac_protocol.specs.Moves.{Move, strayed_to_client, taken_by_client, ticket_ticked, ticket_ticked_away}
-use Rattle.bac_protocol.specs.Moves.Move.{Asks, Arrives, TicksTicket, TicksEntry, Passes, Changes, RestartsClient, RestartsServer}
+use Rattle.bac_protocol.specs.Moves.Move.{Asks, Arrives, TicksTicket, TicksEntry, Passes, Changes, RestartsClient, RestartsServer, Begins, BeginsAgain}
+use Rattle.bac_protocol.specs.World.{begun, begun_again, is_active, is_quiet}
 use Rattle.bac_protocol.specs.Moves.Move.{Strays, AsksAway, TicksTicketAway, TicksEntryAway}
 use Rattle.bac_protocol.proofs.Keys.{decide_key, set_other, set_same}
 use Rattle.bac_protocol.proofs.Own.{server_sends_own}
@@ -135,6 +136,20 @@ module _ (x : Rules) (u : Reusing) (n : Net) (h : AreKept n) where
       entered : (k : Key) (b : Bool) → n.tickets k ≡ None → (if b then None else n.entries k) ≡ None
       entered k true is = refl
       entered k false is = h.entered k is
+  move_keeps posted (Begins node exact) = begins (is_active n node)
+    where
+      begins : (b : Bool) → AreKept (if b then n else begun n node exact)
+      begins true = record { own = h.own; entered = h.entered }
+      begins false = record { own = h.own; entered = h.entered }
+  move_keeps posted (BeginsAgain node exact) = begins (is_quiet n node)
+    where
+      entered : (k : Key) (b : Bool) → (if b then lost (n.tickets k) else n.tickets k) ≡ None → n.entries k ≡ None
+      entered k true is = h.entered k (not_lost (n.tickets k) is)
+      entered k false is = h.entered k is
+
+      begins : (b : Bool) → AreKept (if b then begun_again n node exact else n)
+      begins true = record { own = h.own; entered = λ k. entered k (nat_eq k.client node) }
+      begins false = record { own = h.own; entered = h.entered }
   move_keeps posted (Strays key free service a) = strays_kept key free service a (is_from_client a)
   move_keeps posted (AsksAway key choice whole front rest) =
       ask_away_kept key (record { first = client_now n key; choice = choice; whole = whole; pieces = front ∷ rest }) (is_id_held_away n key)

@@ -12,10 +12,11 @@ use Rattle.bac_protocol.specs.Log.{Fact, Has, StoreModel}
 use Rattle.bac_protocol.specs.Log.Fact.{Asked, AskedAway, Changed, Ended, EndedAway, Performed, Restarted, Served}
 use Rattle.bac_protocol.specs.Reuse.{Reads, server_hears}
 use Rattle.bac_protocol.specs.Transaction.{Key, Rules, client_context, ended, ended_away, performed, served, server_context}
+use Rattle.bac_protocol.specs.World.{begun, begun_again, is_active, is_quiet}
 use Rattle.bac_protocol.specs.World.{Event, Post, World, ask_made, arrives, asked_away, begin_of, client_now, delivered, happens, is_deliverable, is_id_held, is_id_held_away}
 use Rattle.bac_protocol.specs.World.{is_room, run, server_now, serves, serves_away, service_of, start, strays, strays_to_client, takes_at_client, takes_at_server}
 use Rattle.bac_protocol.specs.World.{ticks_as_client, ticks_as_client_away, ticks_as_server, ticks_as_server_away, ticks_ticket, ticks_ticket_away}
-use Rattle.bac_protocol.specs.World.Event.{MakeAsk, Deliver, Tick, Noise, Advance, Change, RestartClient, RestartServer, Stray, AskAway, TickAway}
+use Rattle.bac_protocol.specs.World.Event.{MakeAsk, Deliver, Tick, Noise, Advance, Change, RestartClient, RestartServer, Begin, BeginAgain, Stray, AskAway, TickAway}
 use Rattle.bac_reuse.specs.Once.{HasNoRead, IsOnceSo}
 use Rattle.bac_reuse.specs.Runs.{AskNoRead, NoneReuses, Reusing, arrives_so, delivered_so, happens_so, run_so, strays_so, takes_at_server_so}
 
@@ -65,6 +66,8 @@ module _ (S : Type 0) (model : StoreModel S) (x : Rules) (u : Reusing) (none : N
   same w (Change node change) = refl
   same w (RestartClient node exact) = refl
   same w (RestartServer node exact store) = refl
+  same w (Begin node exact) = refl
+  same w (BeginAgain node exact) = refl
   same w (Stray key free a) = hears_away w key free a
   same w (AskAway key choice whole front rest) = refl
   same w (TickAway as_client as_server) = refl
@@ -219,6 +222,16 @@ module _ (S : Type 0) (model : StoreModel S) (x : Rules) (u : Reusing) where
   run_quiet (Change node change ∷ es) writes w h = run_quiet es writes (happens_so S model x u w (Change node change)) h
   run_quiet (RestartClient node exact ∷ es) writes w h = run_quiet es writes (happens_so S model x u w (RestartClient node exact)) h
   run_quiet (RestartServer node exact store ∷ es) writes w h = run_quiet es writes (happens_so S model x u w (RestartServer node exact store)) h
+  run_quiet (Begin node exact ∷ es) writes w h = run_quiet es writes (happens_so S model x u w (Begin node exact)) (go (is_active w.net node))
+    where
+      go : (b : Bool) → Quiet (if b then w else record { net = begun w.net node exact; stores = w.stores })
+      go true = h
+      go false = h
+  run_quiet (BeginAgain node exact ∷ es) writes w h = run_quiet es writes (happens_so S model x u w (BeginAgain node exact)) (go (is_quiet w.net node))
+    where
+      go : (b : Bool) → Quiet (if b then record { net = begun_again w.net node exact; stores = w.stores } else w)
+      go true = h
+      go false = h
   run_quiet (Stray key free a ∷ es) writes w h = run_quiet es writes (happens_so S model x u w (Stray key free a)) (stray_quiet w h key free a)
   run_quiet (AskAway key choice whole front rest ∷ es) writes w h = run_quiet es writes (happens_so S model x u w (AskAway key choice whole front rest))
       (ask_away_quiet w h key (record { first = client_now w.net key; choice = choice; whole = whole; pieces = front ∷ rest }) (is_id_held_away w.net key))

@@ -1,43 +1,37 @@
 -- Steps of a net of bac_protocol that keep what holds of it: those of its machines, and others that no move makes, in which a server answers with Aborts in
 -- time, or a client gives up in time.
 use Rattle.std.proofs.Common.{◌≡◌, ℕ, ◌+◌, ◌-◌, ◌<◌, ◌≤◌, ◌⊎◌, Bool, true, false, List, [], ◌∷◌, length, Option, Some, None, slice_get}
-use Rattle.std.proofs.Common.{if◌then◌else◌, refl, sym, subst, inl, inr, ◌∙◌, arith}
+use Rattle.std.proofs.Common.{if◌then◌else◌, sym, subst, inl, inr, ◌∙◌, arith}
 use Rattle.std.proofs.lemmas.Bool.Decides.{nat_tests}
 use Rattle.bac_apdu.specs.Apdu.{Apdu}
 use Rattle.bac_apdu.specs.Apdu.Apdu.{ConfirmedRequest, UnconfirmedRequest, SimpleAck, ComplexAck, SegmentAck, Error, Reject, Abort}
 use Rattle.bac_protocol.specs.declared.times.TheConstants.{KEEP}
-use Rattle.bac_protocol.specs.Pace.{IsTimely, Pace, Since, clock_at, most}
-use Rattle.bac_protocol.specs.Service.{Ending, OTHER, Octets}
+use Rattle.bac_protocol.specs.Pace.{Since, most}
+use Rattle.bac_protocol.specs.Service.{OTHER}
 use Rattle.bac_protocol.specs.Service.Ending.{Aborted}
-use Rattle.bac_protocol.specs.Service.Outcome.{Rejects}
 use Rattle.bac_protocol.specs.Wire.{Each, is_from_client}
 use Rattle.bac_protocol.specs.Client as client
-use Rattle.bac_protocol.specs.Client.{Ask, ClientTransaction, is_idle, request_of}
-use Rattle.bac_protocol.specs.Client.Reaction.{Ends, Stays}
+use Rattle.bac_protocol.specs.Client.{Ask, ClientTransaction, is_idle}
+use Rattle.bac_protocol.specs.Client.Reaction.{Ends}
 use Rattle.bac_protocol.specs.Server as server
-use Rattle.bac_protocol.specs.Server.{ServerTransaction, Service, is_live}
-use Rattle.bac_protocol.specs.Log.{Fact, IsOrderly}
-use Rattle.bac_protocol.specs.Log.Fact.{Asked, AskedAway, Changed, Ended, EndedAway}
+use Rattle.bac_protocol.specs.Server.{ServerTransaction, is_live}
+use Rattle.bac_protocol.specs.Log.{Fact}
+use Rattle.bac_protocol.specs.Log.Fact.{Ended}
 use Rattle.bac_protocol.specs.Own.{IsOwnEntry}
-use Rattle.bac_protocol.specs.Transaction.{Copy, Key, Rules, client_context, ended_away, server_context}
-use Rattle.bac_protocol.specs.World.{Net, Strangers, asked_at, asked_away_at, client_acts, client_acts_away, client_now, client_restarted, is_id_held, is_room}
-use Rattle.bac_protocol.specs.World.{net_start, notes_change, passes, server_acts, server_now, server_restarted, set_at}
+use Rattle.bac_protocol.specs.Transaction.{Copy, Key, Rules, client_context}
+use Rattle.bac_protocol.specs.World.{Net, client_acts, client_now}
+use Rattle.bac_protocol.specs.World.{begun, server_acts, server_now}
 use Rattle.bac_protocol.specs.Claims.{EachCopy, IsBounded, Moments, client_until, moments_of, server_until}
 use Rattle.bac_protocol.proofs.Alone.{client_does, one, sent, server_does}
-use Rattle.bac_protocol.proofs.Calm.{Calm, IsBegunBy, IsCalm, calm_asked, calm_changed, calm_client, calm_client_restarted, calm_gets, calm_later, calm_server}
-use Rattle.bac_protocol.proofs.Calm.{calm_server_restarted, calm_start, calm_ticks, id_free, spent_free}
-use Rattle.bac_protocol.proofs.ClientKeeps.{client_gets_kept, client_ticks_kept}
-use Rattle.bac_protocol.proofs.Dead.{ended_is_silent}
+use Rattle.bac_protocol.proofs.Calm.{Calm, IsBegunBy, IsCalm, calm_client, calm_server}
+use Rattle.bac_protocol.proofs.ClientKeeps.{client_gets_kept}
 use Rattle.bac_protocol.proofs.Facts.{copies_go, down_same, each_sent, grows_same, up_same}
-use Rattle.bac_protocol.proofs.Headline.{net_log}
-use Rattle.bac_protocol.proofs.Nets.{NetSound, log_away, net_asked, net_away, net_changed, net_client, net_client_restarted, net_far, net_later, net_server}
-use Rattle.bac_protocol.proofs.Nets.{net_server_restarted, net_starts, room_opens, sound_at}
+use Rattle.bac_protocol.proofs.Nets.{NetSound, net_client, net_server}
+use Rattle.bac_protocol.proofs.Nets.{sound_at}
 use Rattle.bac_protocol.proofs.Paces.{since_now, within_most}
 use Rattle.bac_protocol.proofs.Served.{BeginIs}
-use Rattle.bac_protocol.proofs.ServerKeeps.{server_gets_kept, server_ticks_kept}
 use Rattle.bac_protocol.proofs.Sound.{Down, FirstFits, IsBegunFor, IsPastFor, IsSound, Says, ServerFits, Sound, Up}
-use Rattle.bac_protocol.proofs.StrangerTables.{Away, AwayIn, away_after, away_asked, away_client_restarted, away_ended, away_later, away_more, away_performed}
-use Rattle.bac_protocol.proofs.StrangerTables.{away_server_restarted, away_starts, right_after, right_asked}
+use Rattle.bac_protocol.proofs.Standing.{Stands, reacts_keep, serves_keep}
 
 -- Times.
 
@@ -86,177 +80,8 @@ each_abort : (P : Apdu → Type 0) (id : ℕ) → P (Abort true id OTHER) → (s
 each_abort P id h [] = tt
 each_abort P id h (a ∷ more) = (h, each_abort P id h more)
 
--- what holds of a net of bac_protocol
-pub record Stands (W : ℕ) (n : Net) : Type 0 where
-  pub net : NetSound W n
-  pub calm : Calm n
-  pub away : Away n
-
-pub starts_standing : (W : ℕ) (pace : Pace) (clocks : ℕ → ℕ) → IsTimely pace → Stands W (net_start pace clocks)
-starts_standing W pace clocks timely =
-    record { net = net_starts W pace clocks; calm = calm_start pace clocks timely; away = away_starts (λ node. clock_at pace (clocks node)) }
-
-module _ (W : ℕ) (n : Net) (s : Stands W n) where
-  pub time_stands : (by : ℕ) (clients servers : ℕ → ℕ) → Stands W (passes n by clients servers)
-  time_stands by clients servers = record {
-    net = net_later W by clients servers n s.net;
-    calm = calm_later n by clients servers s.calm;
-    away = away_later n by clients servers s.calm s.away;
-  }
-
-  pub change_stands : (node : ℕ) (change : Octets) → Stands W (notes_change n node change)
-  change_stands node change = record {
-    net = net_changed W n node change s.net;
-    calm = calm_changed n node change s.calm;
-    away = away_more n.server_clocks n.serves_from n.far (Changed node change) n.log tt s.away;
-  }
-
-  pub client_restart_stands : (node exact : ℕ) → Stands W (client_restarted n node exact)
-  client_restart_stands node exact = record {
-    net = net_client_restarted W n node exact s.net;
-    calm = calm_client_restarted n node exact s.calm;
-    away = away_client_restarted n node exact s.away;
-  }
-
-  pub server_restart_stands : (node exact : ℕ) (store : Option Octets) → Stands W (server_restarted n node exact store)
-  server_restart_stands node exact store = record {
-    net = net_server_restarted W n node exact store s.net;
-    calm = calm_server_restarted n node exact store s.calm;
-    away = away_server_restarted n node exact store s.away;
-  }
-
-  -- Strangers.
-
-  pub away_right : (key : Key) (t : ClientTransaction) → n.far.tickets key ≡ Some t → (r : client.Reaction) → (is_idle t.phase ≡ true → r ≡ Stays)
-      → IsOrderly (ended_away (n.far.numbers key) (client.ending_of r) n.log)
-  away_right key t at r silent = right_after n.server_clocks n.serves_from n.far n.log s.away key t at n.asks r silent (net_log W n s.net).orderly
-
-  pub away_reacts : (key : Key) (t : ClientTransaction) → n.far.tickets key ≡ Some t → (r : client.Reaction) → (is_idle t.phase ≡ true → r ≡ Stays)
-      → Stands W (client_acts_away n key t r)
-  away_reacts key t at r silent = go (client.ending_of r) (away_right key t at r silent)
-      (away_after n.server_clocks n.serves_from n.far n.log s.away key t at (client_now n key) r silent)
-    where
-      far : Strangers
-      far = record (n.far) { tickets = set_at n.far.tickets key (Some (client.after (client_now n key) t r)) }
-
-      go : (o : Option Ending) → IsOrderly (ended_away (n.far.numbers key) o n.log)
-          → AwayIn n.server_clocks n.serves_from (record (n.far) { tickets = set_at n.far.tickets key (Some (client.after (client_now n key) t r)) })
-          (ended_away (n.far.numbers key) o n.log)
-          → Stands W (record n {
-            far = record (n.far) { tickets = set_at n.far.tickets key (Some (client.after (client_now n key) t r)) };
-            log = ended_away (n.far.numbers key) o n.log;
-          })
-      go None right away = record { net = net_far W n far s.net; calm = λ k. s.calm k; away = away }
-      go (Some how) right away = record {
-        net = net_away W n n.asks far (EndedAway (n.far.numbers key) how) tt (log_away n.asks n.asks (EndedAway (n.far.numbers key) how) n.log tt (omega arith)
-            (net_log W n s.net) (net_log W n s.net).counted right) s.net;
-        calm = λ k. s.calm k;
-        away = away;
-      }
-
-  module _ (x : Rules) (key : Key) (ask : Ask) where
-    abbrev away_ticket : ClientTransaction
-    away_ticket = client.asked_ticket (client_context x key (client_now n key)) ask
-
-    pub away_asks : Stands W (asked_away_at x n key ask)
-    away_asks =
-        let log = net_log W n s.net in
-        record {
-          net = net_away W n (n.asks + 1)
-              (record (n.far) { numbers = set_at n.far.numbers key n.asks; tickets = set_at n.far.tickets key (Some away_ticket) })
-              (AskedAway n.asks key.client key.server (request_of ask)) tt
-              (log_away n.asks (n.asks + 1) (AskedAway n.asks key.client key.server (request_of ask)) n.log tt (omega arith) log
-              (let e = log.counted in omega arith)
-              (right_asked n.server_clocks n.serves_from n.far n.log s.away n.asks log key away_ticket (request_of ask))) s.net;
-          calm = λ k. s.calm k;
-          away = away_asked n.server_clocks n.serves_from n.far n.log s.away n.asks log key away_ticket (request_of ask);
-        }
-
-  -- An ask.
-
-  pub ask_stands : (x : Rules) → IsBounded W x → (key : Key) (choice : ℕ) (whole : Bool) (front : Octets) (rest : List Octets) → is_id_held n key ≡ false
-      → Stands W (asked_at x n key (record { first = client_now n key; choice = choice; whole = whole; pieces = front ∷ rest }))
-  ask_stands x bound key choice whole front rest free = record {
-    net = net_asked W bound.some x n key s.net (spent_free W n s.net s.calm key free) choice whole front rest;
-    calm = calm_asked x n s.calm key (id_free n key free).0 choice whole (front ∷ rest);
-    away = away_more n.server_clocks n.serves_from n.far (Asked n.asks key.client key.server (request_of (record { first = client_now n key; choice = choice; whole = whole; pieces = front ∷ rest })))
-        n.log tt s.away;
-  }
-
 module _ (W : ℕ) (x : Rules) (bound : IsBounded W x) where
-  -- What each machine does.
-
-  pub reacts_keep : (n : Net) → Stands W n → (key : Key) (t : ClientTransaction) (r : client.Reaction) → NetSound W (client_acts n key t r)
-      → Calm (client_acts n key t r) → Stands W (client_acts n key t r)
-  reacts_keep n s key t r sound calm = record {
-    net = sound;
-    calm = calm;
-    away = away_ended n.server_clocks n.serves_from n.far (n.numbers key) (client.ending_of r) n.log s.away;
-  }
-
-  pub serves_keep : (n : Net) → Stands W n → (key : Key) (v : server.Reaction) → NetSound W (server_acts n key v) → Calm (server_acts n key v)
-      → Stands W (server_acts n key v)
-  serves_keep n s key v sound calm = record {
-    net = sound;
-    calm = calm;
-    away = away_performed n.server_clocks n.serves_from n.far (n.numbers key) v.effect n.log s.away;
-  }
-
   module _ (n : Net) (s : Stands W n) (key : Key) (t : ClientTransaction) (at : n.tickets key ≡ Some t) where
-    abbrev Says_at : (m k : ℕ) → Apdu → Type 0
-    Says_at m k a =
-        let f = sound_at W n key (Some t) at s.net in
-        Says W (moments_of n key) (n.numbers key) t.ask n.log f.0 f.1 m k a
-
-    pub ticket_stays : Stands W (client_acts n key t Stays)
-    ticket_stays = reacts_keep n s key t Stays (net_client W n key t at s.net Stays (sound_at W n key (Some t) at s.net))
-        (calm_client n s.calm key t at Stays (λ idle. refl))
-
-    pub ticket_ticks : Stands W (client_acts n key t (client.client_ticks (client_context x key (client_now n key)) t))
-    ticket_ticks =
-        let f = sound_at W n key (Some t) at s.net in
-        let c = client_context x key (client_now n key) in
-        let r = client.client_ticks c t in
-        reacts_keep n s key t r (net_client W n key t at s.net r
-        (client_ticks_kept W x.overtake bound.some bound.room (x.settings key.client) (bound.windows key.client) x.readable key
-        (one n key) t f.0 f.1 f.2))
-        (calm_client n s.calm key t at r (ended_is_silent.ticks c t))
-
-    pub ticket_gets : (m k : ℕ) → k ≤ x.overtake → (a : Apdu) → Says_at m k a
-        → Stands W (client_acts n key t (client.client_on_apdu (client_context x key (client_now n key)) x.readable t a))
-    ticket_gets m k few a says =
-        let f = sound_at W n key (Some t) at s.net in
-        let c = client_context x key (client_now n key) in
-        let r = client.client_on_apdu c x.readable t a in
-        reacts_keep n s key t r (net_client W n key t at s.net r
-        (client_gets_kept W x.overtake bound.some bound.room (x.settings key.client) (bound.windows key.client) x.readable key
-        (one n key) t f.0 f.1 f.2 m k few a says))
-        (calm_client n s.calm key t at r (ended_is_silent.gets c x.readable t a))
-
-    pub entry_gets : (k : ℕ) → k ≤ x.overtake → (p : Copy) → slice_get (one n key).copies k ≡ Some p → n.now - p.moment ≤ n.pace.life
-        → is_from_client p.apdu ≡ true → Says_at p.moment k p.apdu → (service : Service) (free : Bool)
-        → Stands W (server_acts n key (server.server_on_apdu (server_context x key (server_now n key)) service (n.entries key)
-        (is_room n key free) p.apdu))
-    entry_gets k few p place young way says service free =
-        let f = sound_at W n key (Some t) at s.net in
-        let c = server_context x key (server_now n key) in
-        let v = server.server_on_apdu c service (n.entries key) (is_room n key free) p.apdu in
-        serves_keep n s key v
-        (net_server W n key t at s.net v
-        (server_gets_kept W x.overtake bound.some bound.room (x.settings key.server) (bound.windows key.server) service key
-        (one n key) t (n.entries key) f.0 f.1 f.2 (is_room n key free) (room_opens n key free) p.moment k few young p.apdu says))
-        (calm_gets n s.calm key c refl refl service (is_room n key free) (room_opens n key free) k p place young way)
-
-    pub entry_ticks : Stands W (server_acts n key (server.server_ticks (server_context x key (server_now n key)) (n.entries key)))
-    entry_ticks =
-        let f = sound_at W n key (Some t) at s.net in
-        let c = server_context x key (server_now n key) in
-        let v = server.server_ticks c (n.entries key) in
-        serves_keep n s key v
-        (net_server W n key t at s.net v (server_ticks_kept W x.overtake bound.some bound.room (x.settings key.server) (bound.windows key.server)
-        (λ choice octets. Rejects 0) key (one n key) t (n.entries key) f.0 f.1 f.2))
-        (calm_ticks n s.calm key c refl refl)
-
     -- Times.
 
     calm_at : IsCalm (n.asks_from key.client) (moments_of n key) key (Some t) (n.entries key) (one n key).copies
@@ -390,7 +215,7 @@ module _ (W : ℕ) (x : Rules) (bound : IsBounded W x) where
 
       aborts_with : (o : Option ServerTransaction) → NetSound W (server_acts n key (server.rests o (aborts key.invoke_id sends)))
           → Calm (server_acts n key (server.rests o (aborts key.invoke_id sends))) → Stands W (server_acts n key (server.rests o (aborts key.invoke_id sends)))
-      aborts_with o sound calm = serves_keep n s key (server.rests o (aborts key.invoke_id sends)) sound calm
+      aborts_with o sound calm = serves_keep W n s key (server.rests o (aborts key.invoke_id sends)) sound calm
 
       pub server_aborts : (o : Option ServerTransaction) → BeginsAgain o → Stands W (server_acts n key (server.rests o (aborts key.invoke_id sends)))
       server_aborts o (inl same) = subst (λ (q : Option ServerTransaction). Stands W (server_acts n key (server.rests q (aborts key.invoke_id sends)))) (sym same)
@@ -439,7 +264,7 @@ module _ (W : ℕ) (x : Rules) (bound : IsBounded W x) where
     pub client_ends : is_idle t.phase ≡ false → client.is_expired (client_now n key) t.ask ≡ false
         → client.client_on_apdu (client_context x key (client_now n key)) x.readable t (Abort true key.invoke_id OTHER) ≡ Ends [] (Aborted OTHER)
         → (sends : List Apdu) → (sends ≡ []) ⊎ (sends ≡ Abort false key.invoke_id OTHER ∷ []) → Stands W (client_acts n key t (Ends sends (Aborted OTHER)))
-    client_ends going early is sends few = reacts_keep n s key t (Ends sends (Aborted OTHER))
+    client_ends going early is sends few = reacts_keep W n s key t at (Ends sends (Aborted OTHER))
         (net_client W n key t at s.net (Ends sends (Aborted OTHER)) sound)
         (calm_client n s.calm key t at (Ends sends (Aborted OTHER)) (λ idle. absurd (let no : true ≡ false = sym idle ∙ going in cc)))
       where

@@ -17,12 +17,11 @@ use Rattle.bac_protocol.specs.Transaction.{Copy, Key, Rules, server_context}
 use Rattle.bac_protocol.specs.World.{Net, Post, is_deliverable, is_id_held, is_room, later, net_start, server_acts, server_acts_away, server_now}
 use Rattle.bac_protocol.specs.Moves.{IsReached, Move, arrived, moved, strayed_to_client, strayed_to_server, taken_by_client, taken_by_server}
 use Rattle.bac_protocol.specs.Moves.IsReached.{Still as stays, Moved as goes}
-use Rattle.bac_protocol.specs.Moves.Move.{Asks, Arrives, TicksTicket, TicksEntry, Passes, Changes, RestartsClient, RestartsServer}
+use Rattle.bac_protocol.specs.Moves.Move.{Asks, Arrives, TicksTicket, TicksEntry, Passes, Changes, RestartsClient, RestartsServer, Begins, BeginsAgain}
 use Rattle.bac_protocol.specs.Moves.Move.{Strays, AsksAway, TicksTicketAway, TicksEntryAway}
-use Rattle.bac_protocol.proofs.Calm.{spent_free}
-use Rattle.bac_protocol.proofs.Headline.{net_log}
 use Rattle.bac_protocol.proofs.Keys.{copy_at}
-use Rattle.bac_protocol.proofs.Nets.{sound_at}
+use Rattle.bac_protocol.proofs.Nets.{net_log, sound_at}
+use Rattle.bac_protocol.proofs.Standing.{Stands, spent_stands}
 use Rattle.bac_protocol.proofs.StrangerTables.{was_away}
 use Rattle.bac_reuse.specs.Moves.{AreServedApartSo, AreSpacedSo, IsInOrderSo, IsOrderlySo, IsReachedSo, MayBePerformed, arrived_so, moved_so}
 use Rattle.bac_reuse.specs.Moves.{strayed_to_server_so, taken_by_server_so}
@@ -33,7 +32,6 @@ use Rattle.bac_reuse.proofs.FarApart.{AwayLeft, apart_left, move_left, start_lef
 use Rattle.bac_reuse.proofs.Followed.{reached_follows}
 use Rattle.bac_reuse.proofs.KeptEntries.{AreKept, ArePosted, move_keeps}
 use Rattle.bac_reuse.proofs.Machine.{IsGone}
-use Rattle.bac_reuse.proofs.NetSteps.{Stands}
 use Rattle.bac_reuse.proofs.Simulated.{IsFollowed, Like}
 
 none_live : (now : ℕ) (o : Option ServerTransaction) → IsGone now o → is_none_live now o ≡ true
@@ -67,7 +65,7 @@ module _ (W : ℕ) (x : Rules) (u : Reusing) (bound : IsBounded W x) where
       where
         theirs : (o : Option ServerTransaction) → n.entries key ≡ o → IsGone (server_now n key) o
         theirs None is = tt
-        theirs (Some e) is = (spent_free W n s.net s.calm key free).dead e is
+        theirs (Some e) is = (spent_stands W n s key free).dead e is
 
     away : (key : Key) (t : ClientTransaction) → n.far.tickets key ≡ Some t → WasAskedAway (n.far.numbers key) g.log
     away key t at =
@@ -108,7 +106,7 @@ module _ (W : ℕ) (x : Rules) (u : Reusing) (bound : IsBounded W x) where
     left _ Still = start_left u pace clocks
     left _ (Moved n m h) =
         let f = followed n h in
-        subst (λ (k : Net). AwayLeft u (moved_so x u k m)) (sym f.4) (move_left x u f.0 f.1 (f.2).calm (subst (λ (k : Net). AwayLeft u k) f.4 (left n h)) m)
+        subst (λ (k : Net). AwayLeft u (moved_so x u k m)) (sym f.4) (move_left x u f.0 f.1 (f.2).calm (f.3).unserved (subst (λ (k : Net). AwayLeft u k) f.4 (left n h)) m)
 
     pub in_order_so : (n : Net) → IsReachedSo x u (net_start pace clocks) n → IsInOrderSo u n
     in_order_so n h =
@@ -149,6 +147,8 @@ module _ (x : Rules) (u : Reusing) (none : NoneReuses u) where
   moves_same n (Changes node change) = refl
   moves_same n (RestartsClient node exact) = refl
   moves_same n (RestartsServer node exact store) = refl
+  moves_same n (Begins node exact) = refl
+  moves_same n (BeginsAgain node exact) = refl
   moves_same n (Strays key free service a) = strays_same n key free service a (is_from_client a)
   moves_same n (AsksAway key choice whole front rest) = refl
   moves_same n (TicksTicketAway key) = refl

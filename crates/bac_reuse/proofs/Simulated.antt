@@ -24,9 +24,11 @@ use Rattle.bac_protocol.specs.World.{Net, Post, client_acts, client_now, is_room
 use Rattle.bac_protocol.specs.Claims.{IsBounded, Moments, moments_of}
 use Rattle.bac_protocol.proofs.Alone.{one}
 use Rattle.bac_protocol.proofs.Facts.{all_map, grows_same}
-use Rattle.bac_protocol.proofs.Headline.{asked_once, net_log}
+use Rattle.bac_protocol.proofs.Headline.{asked_once}
 use Rattle.bac_protocol.proofs.Keys.{decide_key, set_other, set_same}
-use Rattle.bac_protocol.proofs.Nets.{room_opens, sound_at}
+use Rattle.bac_protocol.proofs.Nets.{net_log, room_opens, sound_at}
+use Rattle.bac_protocol.proofs.Resting.{Unserved, unserved_acts}
+use Rattle.bac_protocol.proofs.Standing.{Stands, entry_gets, entry_ticks}
 use Rattle.bac_protocol.proofs.Claimed.{piece_up_of}
 use Rattle.bac_protocol.proofs.Own.{server_sends_own}
 use Rattle.bac_protocol.proofs.Served.{ticks_quiet}
@@ -41,8 +43,7 @@ use Rattle.bac_reuse.proofs.Clients.{AbortsIf}
 use Rattle.bac_reuse.proofs.FreshReads.{IsFromServer, IsOfRead, all_from_server, given_from_server, giving_own}
 use Rattle.bac_reuse.proofs.Machine.{EntryIs, GoesOnFrom, IsClientAbort, IsGiving, IsGone, IsRequestOf, OverBy, OverIf, gone_ticks, ticks_for, ticks_gives, ticks_over}
 use Rattle.bac_reuse.proofs.Outcomes.{GivesOn, GoesApart, HoldsOn, Outcome, ReadEnds, ReadsFresh, outcome, over_idle}
-use Rattle.bac_reuse.proofs.NetSteps.{IsInTime, IsSoon, Stands, aborts, copy_is_soon, entry_first, entry_gets, entry_in_time, entry_ticks, server_aborts}
-use Rattle.bac_reuse.proofs.NetSteps.{soon_in_time}
+use Rattle.bac_reuse.proofs.NetSteps.{IsInTime, IsSoon, aborts, copy_is_soon, entry_first, entry_in_time, server_aborts, soon_in_time}
 
 -- what comes of the transaction is of its ask
 pub says_of : (W : ℕ) (times : Moments) (number : ℕ) (ask : Ask) (log : List Fact) (up : Up) (down : Down) (moment k : ℕ) (a : Apdu)
@@ -106,6 +107,7 @@ module _ (W : ℕ) (x : Rules) (bound : IsBounded W x) (u : Reusing) where
     pub entries : (key : Key) → Fit u key (server_now n key) (n.tickets key) (g.entries key) (n.entries key)
     pub logs : AreLogs u g.log n.log
     pub orderly : IsOrderlySo u g.log
+    pub unserved : Unserved (over n g)
 
   -- a net has another one beside it
   abbrev pub IsFollowed : Net → Type 0
@@ -174,6 +176,7 @@ module _ (W : ℕ) (x : Rules) (bound : IsBounded W x) (u : Reusing) where
             (subst (λ y. Fit u key (server_now n key) y (g.entries key) (n.entries key)) at h));
         logs = logs;
         orderly = orderly;
+        unserved = l.unserved;
       }
 
     -- both do the same
@@ -300,6 +303,7 @@ module _ (W : ℕ) (x : Rules) (bound : IsBounded W x) (u : Reusing) where
           entries = entry_fits fit;
           logs = logs;
           orderly = orderly;
+          unserved = unserved_acts (over n g) l.unserved key v.entry;
         },
         refl,
       )

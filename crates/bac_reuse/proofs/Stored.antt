@@ -18,10 +18,11 @@ use Rattle.bac_protocol.specs.World.{client_now, is_deliverable, is_id_held, is_
 use Rattle.bac_protocol.specs.World.{server_acts_away, server_now, serves, serves_away}
 use Rattle.bac_protocol.specs.World.{service_of, start, stored, strays_to_client, takes_at_client, ticks_as_client, ticks_as_client_away, ticks_as_server}
 use Rattle.bac_protocol.specs.World.{ticks_as_server_away, ticks_ticket, ticks_ticket_away}
-use Rattle.bac_protocol.specs.World.Event.{MakeAsk, Deliver, Tick, Noise, Advance, Change, RestartClient, RestartServer, Stray, AskAway, TickAway}
+use Rattle.bac_protocol.specs.World.Event.{MakeAsk, Deliver, Tick, Noise, Advance, Change, RestartClient, RestartServer, Begin, BeginAgain, Stray, AskAway, TickAway}
 use Rattle.bac_protocol.specs.Claims.{IsBounded}
 use Rattle.bac_protocol.specs.Moves.{Move, strayed_to_client, taken_by_client, ticket_ticked, ticket_ticked_away}
-use Rattle.bac_protocol.specs.Moves.Move.{Asks, Arrives, TicksTicket, TicksEntry, Passes, Changes, RestartsClient, RestartsServer}
+use Rattle.bac_protocol.specs.Moves.Move.{Asks, Arrives, TicksTicket, TicksEntry, Passes, Changes, RestartsClient, RestartsServer, Begins, BeginsAgain}
+use Rattle.bac_protocol.specs.World.{begun, begun_again, is_active, is_quiet}
 use Rattle.bac_protocol.specs.Moves.Move.{Strays, AsksAway, TicksTicketAway, TicksEntryAway}
 use Rattle.bac_protocol.proofs.Served.{IsServed, ticks_quiet}
 use Rattle.bac_reuse.specs.Once.{IsOnceSo}
@@ -274,6 +275,18 @@ module _ (S : Type 0) (model : StoreModel S) (opening : ℕ → S) (W : ℕ) (x 
   event_stored w h (RestartClient node exact) = record { reached = moves_on w.net h.reached (RestartsClient node exact); right = h.right }
   event_stored w h (RestartServer node exact store) =
       record { reached = moves_on w.net h.reached (RestartsServer node exact store); right = (w.stores, (λ n. refl), h.right) }
+  event_stored w h (Begin node exact) = go (is_active w.net node) (moves_on w.net h.reached (Begins node exact))
+    where
+      go : (b : Bool) → IsReachedSo x u (net_start pace clocks) (if b then w.net else begun w.net node exact)
+          → Stored (if b then w else record { net = begun w.net node exact; stores = w.stores })
+      go true reached = h
+      go false reached = record { reached = reached; right = h.right }
+  event_stored w h (BeginAgain node exact) = go (is_quiet w.net node) (moves_on w.net h.reached (BeginsAgain node exact))
+    where
+      go : (b : Bool) → IsReachedSo x u (net_start pace clocks) (if b then begun_again w.net node exact else w.net)
+          → Stored (if b then record { net = begun_again w.net node exact; stores = w.stores } else w)
+      go true reached = record { reached = reached; right = h.right }
+      go false reached = h
   event_stored w h (Stray key free a) = strays_stored w h key free a
   event_stored w h (AskAway key choice whole front rest) = ask_away_stored w h key choice whole front rest (is_id_held_away w.net key) refl
   event_stored w h (TickAway as_client as_server) = servers_tick_away as_server (ticks_as_client_away S x as_client w) (clients_tick_away as_client w h)

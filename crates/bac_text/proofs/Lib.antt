@@ -1,4 +1,3 @@
-mod HexDigits
 mod Moments
 pub mod LineFronts
 mod OneVerdict

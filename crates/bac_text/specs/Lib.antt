@@ -5,7 +5,6 @@ pub mod Checked
 pub mod Checking
 pub mod Decoded
 pub mod DecodedLines
-pub mod Digits
 pub mod Faults
 pub mod Groups
 pub mod Layers

@@ -23,7 +23,7 @@ use Rattle.bac_protocol.specs.Claims.{IsBounded, AreServedApart, AreSpaced}
 use Rattle.bac_protocol.specs.Own.{IsOwnEntry}
 use Rattle.bac_protocol.specs.Moves.{Move, moved, arrived, taken_by_client, taken_by_server, strayed_to_client, ticket_ticked}
 use Rattle.bac_protocol.specs.Moves.{ticket_ticked_away, IsReached, IsInOrder}
-use Rattle.bac_protocol.specs.Moves.Move.{Asks, Arrives, TicksTicket, TicksEntry, Passes, Changes, RestartsClient, RestartsServer, Strays, AsksAway}
+use Rattle.bac_protocol.specs.Moves.Move.{Asks, Arrives, TicksTicket, TicksEntry, Passes, Changes, RestartsClient, RestartsServer, Begins, BeginsAgain, Strays, AsksAway}
 use Rattle.bac_protocol.specs.Moves.Move.{TicksTicketAway, TicksEntryAway}
 use Rattle.bac_protocol.specs.Moves.{IsReached as ever}
 use Rattle.bac_protocol.proofs.Nets.{sound_at}
@@ -118,6 +118,8 @@ alike x (Some u) n (Passes by clients servers) h = refl
 alike x (Some u) n (Changes node change) h = refl
 alike x (Some u) n (RestartsClient node exact) h = refl
 alike x (Some u) n (RestartsServer node exact store) h = refl
+alike x (Some u) n (Begins node exact) h = refl
+alike x (Some u) n (BeginsAgain node exact) h = refl
 alike x (Some u) n (Strays key free service a) h = absurd h
 alike x (Some u) n (AsksAway key choice whole front rest) h = refl
 alike x (Some u) n (TicksTicketAway key) h = refl

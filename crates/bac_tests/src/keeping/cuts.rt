@@ -1,7 +1,7 @@
 //! The power is cut at every third call of the disk: the next start finds all rounds that were kept, and nothing of a later one, or all of the next.
 use super::playing::{Asked, Round, keep_rounds, perform_rounds};
-use bac_keep::{CellKeeper, KeepFault};
-use bac_keep_file::open_files;
+use bac_keep::KeepFault;
+use bac_keep_file::{CellKeeper, open_files};
 use bac_rows::holds;
 use bac_store::{Store as Objects, house};
 use sqlite_disk::{Crash, Disk, Files, Fuse, Memory};

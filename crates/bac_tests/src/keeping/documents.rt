@@ -1,6 +1,7 @@
 //! Documents that changed between two starts: what was kept counts where the property is still there and may be written.
 use super::playing::{Asked, Round, keep_rounds};
-use bac_keep::{CellKeeper, KeepFault};
+use bac_keep::KeepFault;
+use bac_keep_file::CellKeeper;
 use bac_rows::holds;
 use bac_store::{Allowed, ChangeFault, Object, Property, Store as Objects};
 use bac_value::{ObjectIdentifier, read_data};

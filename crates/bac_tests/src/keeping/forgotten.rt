@@ -2,8 +2,8 @@
 //! of the disk.
 use super::cuts::{found, options};
 use super::playing::{Asked, Round, keep_rounds, perform_rounds};
-use bac_keep::{CellKeeper, KeepFault};
-use bac_keep_file::{Selection, forget, open_files};
+use bac_keep::KeepFault;
+use bac_keep_file::{CellKeeper, Selection, forget, open_files};
 use bac_rows::holds;
 use bac_store::{Store as Objects, house};
 use bac_value::ObjectIdentifier;

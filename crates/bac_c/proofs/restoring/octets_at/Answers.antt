@@ -2,7 +2,7 @@ use Rattle.std.proofs.Common.{rules, arith, ◌≡◌, ◌∙◌, ◌+◌, ◌++
 use Rattle.bac_value.specs.Views.{object_identifier_view}
 use Rattle.bac_keep.specs.Cells.{file_place}
 use Rattle.bac_keep.specs.Overlay.{joined}
-use Rattle.bac_keep.specs.Rows.{held}
+use Rattle.bac_keep.specs.Held.{held}
 use Rattle.bac_keep.proofs.Lists.{next_chunk}
 use Rattle.bac_c.specs.Fitting.{has_parts, is_part}
 use Rattle.bac_c.proofs.Fits.{part_missing, part_more, part_wrong, place_of}

@@ -3,7 +3,7 @@ use Rattle.std.proofs.Common.{◌≡◌, ◌+◌, drop, true}
 use Rattle.bac_value.specs.Views.{object_identifier_view}
 use Rattle.bac_keep.specs.Cells.{file_place}
 use Rattle.bac_keep.specs.Overlay.{joined}
-use Rattle.bac_keep.specs.Rows.{IsRising, held}
+use Rattle.bac_keep.specs.Held.{IsRising, held}
 use Rattle.bac_c.specs.Fitting.{has_parts}
 use Rattle.bac_c.specs.Kept.{IsPlaceAt}
 use Rattle.bac_c.proofs.restoring.octets_at.Given as goal

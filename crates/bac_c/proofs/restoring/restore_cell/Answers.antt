@@ -3,7 +3,7 @@ use Rattle.std.proofs.Common.{rules, arith, ◌≡◌, ◌∙◌, ◌<◌, ap, r
 use Rattle.bac_value.specs.Views.{object_identifier_view}
 use Rattle.bac_keep.specs.Cells.{NUMBERS, file_place, value_place}
 use Rattle.bac_keep.specs.Restored.{with_kept_octets, with_kept_values}
-use Rattle.bac_keep.specs.Rows.{IsRising, held}
+use Rattle.bac_keep.specs.Held.{IsRising, held}
 use Rattle.bac_keep.proofs.Lists.{chunk_step, count_gone, count_step, values_step}
 use Rattle.bac_c.specs.Fitting.{IsWrong, octets_fit, values_fit}
 use Rattle.bac_c.specs.declared.kept_fault.KeptFault.TheVariants as fault

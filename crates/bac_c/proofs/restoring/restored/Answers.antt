@@ -1,5 +1,5 @@
 use Rattle.std.proofs.Common.{arith}
-use Rattle.bac_keep.specs.Rows.{held}
+use Rattle.bac_keep.specs.Held.{held}
 use Rattle.bac_keep.proofs.Lists.{nothing_yet}
 use Rattle.bac_c.proofs.Fits.{are_fit, none_yet}
 use Rattle.bac_c.proofs.restoring.restored.Goals as goal

@@ -1,6 +1,6 @@
 use Rattle.std.proofs.Common.{◌≡◌, ◌-◌, drop}
 use Rattle.bac_keep.specs.Overlay.{overlay}
-use Rattle.bac_keep.specs.Rows.{IsRising, held}
+use Rattle.bac_keep.specs.Held.{IsRising, held}
 use Rattle.bac_c.specs.Fitting.{EachFits}
 use Rattle.bac_c.proofs.restoring.restored.Given as goal
 

@@ -5,7 +5,7 @@ use Rattle.bac_keep.specs.declared.cell.Cell.{Cell}
 use Rattle.bac_value.specs.Views.{object_identifier_view}
 use Rattle.bac_keep.specs.Cells.{file_place}
 use Rattle.bac_keep.specs.Overlay.{joined}
-use Rattle.bac_keep.specs.Rows.{held}
+use Rattle.bac_keep.specs.Held.{held}
 use Rattle.bac_keep.proofs.Gaps.{lacks_at_end, lacks_here}
 use Rattle.bac_keep.proofs.Lists.{next_chunk}
 use Rattle.bac_keep.proofs.restoring.octets_at.Goals as goal

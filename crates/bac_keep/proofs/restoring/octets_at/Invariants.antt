@@ -3,7 +3,7 @@ use Rattle.bac_value.specs.Views.{object_identifier_view}
 use Rattle.bac_keep.specs.Cells.{file_place}
 use Rattle.bac_keep.specs.Overlay.{joined}
 use Rattle.bac_keep.specs.Refused.{IsAt}
-use Rattle.bac_keep.specs.Rows.{IsRising, held}
+use Rattle.bac_keep.specs.Held.{IsRising, held}
 use Rattle.bac_keep.proofs.restoring.octets_at.Given as goal
 
 abbrev pub invariant-loop-part : goal.invariant-loop-part

@@ -3,7 +3,7 @@ use Rattle.bac_value.specs.Views.{object_identifier_view}
 use Rattle.bac_keep.specs.Cells.{file_place, value_place}
 use Rattle.bac_keep.specs.Parts.{IsForNothing}
 use Rattle.bac_keep.specs.Refused.{IsUnfit}
-use Rattle.bac_keep.specs.Rows.{IsRising, held}
+use Rattle.bac_keep.specs.Held.{IsRising, held}
 use Rattle.bac_store.specs.Writes.{file_at}
 use Rattle.bac_keep.specs.Restored.{is_writable_file, with_kept_octets, with_kept_values}
 use Rattle.bac_keep.proofs.Lists.{chunk_step, count_gone, count_step, values_step}

@@ -1,6 +1,6 @@
 use Rattle.std.proofs.Common.{◌≡◌, ◌-◌, drop}
 use Rattle.bac_keep.specs.Overlay.{overlay}
-use Rattle.bac_keep.specs.Rows.{IsRising, held}
+use Rattle.bac_keep.specs.Held.{IsRising, held}
 use Rattle.bac_keep.proofs.restoring.restored.Given as goal
 
 abbrev pub invariant-loop-done : goal.invariant-loop-done

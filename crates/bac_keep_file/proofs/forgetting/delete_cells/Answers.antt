@@ -2,8 +2,8 @@ use Rattle.std.proofs.Common.{rules, arith, ◌≡◌, ◌+◌, List, [], ◌∷
 use Rattle.std.proofs.lemmas.List.{take_more}
 use Rattle.sqlite_trees.specs.View.{IsClean}
 use Rattle.bac_keep.specs.declared.cell.Cell.{Cell}
-use Rattle.bac_keep.specs.Rows.{cells_of}
-use Rattle.bac_keep.specs.Steps.{HasCells}
+use Rattle.bac_keep_file.specs.Rows.{cells_of}
+use Rattle.bac_keep_file.specs.Steps.{HasCells}
 use Rattle.bac_keep_file.specs.Forgotten.{has_place, without}
 use Rattle.bac_keep_file.proofs.Leaving.{and_then}
 use Rattle.bac_keep_file.proofs.forgetting.delete_cells.Goals as goal

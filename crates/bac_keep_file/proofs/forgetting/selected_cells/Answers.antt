@@ -2,7 +2,7 @@ use Rattle.std.proofs.Common.{rules, arith, ◌≡◌, subst}
 use Rattle.std.proofs.lemmas.Fn.{filter_same}
 use Rattle.sqlite_trees.specs.Tree.{Trees}
 use Rattle.sqlite_trees.specs.View.{IsClean}
-use Rattle.bac_keep.specs.Rows.{AreCells}
+use Rattle.bac_keep_file.specs.Rows.{AreCells}
 use Rattle.bac_keep_file.proofs.forgetting.selected_cells.Goals as goal
 
 pub returns-clause-cells : goal.returns-clause-cells

@@ -1,5 +1,0 @@
-use Rattle.bac_keep.proofs.RowReading.{IsReading}
-use Rattle.bac_keep.proofs.reading.read_cells.Given as goal
-
-abbrev pub invariant-loop : goal.invariant-loop
-invariant-loop g l = IsReading g.S.Store.view g.S.Store.faults g.S.Store.recovers l.fn.database l.cells.items l.database

@@ -1,0 +1,202 @@
+//! A keeper over the table of a database.
+ghost use Rattle.std.specs.Prelude.{◌≡◌, ◌≤◌, IsTrue, IfErr, IfOk, OnOk};
+ghost use Rattle.sqlite_disk.specs.Disk.{MoreFaults};
+ghost use Rattle.sqlite_trees.specs.Tree.{Trees};
+ghost use Rattle.sqlite_trees.specs.View.{IsClean, doubt};
+ghost use Rattle.bac_store.specs.Stores.{Store as Overlaid};
+ghost use Rattle.bac_keep.specs.Made.{IsKeepable, after_made, made_view};
+ghost use Rattle.bac_keep.specs.Overlay.{overlay};
+ghost use Rattle.bac_keep_file.specs.Refused.{IsRefused, IsUnready};
+ghost use Rattle.bac_keep_file.specs.Rows.{cells_of};
+ghost use Rattle.bac_keep_file.specs.Settling.{MayFind, settles};
+ghost use Rattle.bac_keep_file.specs.Steps.{IsReady, NoMore};
+
+use crate::fault::keep_fault;
+use crate::noting::{note_octets, note_values};
+use crate::putting::TABLE;
+use crate::reading::read_cells;
+use bac_keep::{KeepFault, Keeper, Made, restored};
+use bac_service::AnyRequest;
+use bac_store::{Change, Store as Objects, stores_are_in_order};
+use sqlite_trees::store::{Shape, Store};
+use std::alloc::Global;
+
+/// A keeper over the table of a database: its cells lie over the store of a document.
+#[derive(Drop)]
+pub struct CellKeeper<S: Store> {
+    pub(crate) alloc: Global,
+    pub(crate) database: S,
+    pub(crate) document: Objects,
+}
+
+/// Makes a database ready: what no commit has finished is rolled back.
+pub(crate) fn make_ready<S: Store>(database: &mut S) -> Result<(), KeepFault>
+    ensures clean { doubt (S.view database.old).is_clean ≤ doubt (S.view database.new).is_clean }
+    ensures ready { OnOk result (IsClean (S.view database.new) → IsReady (S.view database.new)) }
+    ensures trees { OnOk result (IsClean (S.view database.new) → (S.view database.new).trees ≡ (S.view database.old).committed) }
+    ensures committed { IsClean (S.view database.new) → IsTrue (S.view database.new).is_open
+        → (S.view database.new).committed ≡ (S.view database.old).committed }
+    ensures refused { IfErr result (λ e. IsClean (S.view database.new) → IsUnready (S.view database.old) (S.view database.new) e) }
+    ensures counts { S.faults database.old ≤ S.faults database.new }
+    ensures crash { NoMore S.recovers database.old database.new }
+{
+    database.rollback();
+    if database.is_broken() {
+        return Err(KeepFault::Shut);
+    }
+    if database.shape(TABLE) != Shape::Table {
+        return Err(KeepFault::NoTable);
+    }
+    Ok(())
+}
+
+/// Notes what a node has made of its store.
+fn note_made<S: Store>(
+    alloc: Global,
+    database: &mut S,
+    document: &Objects,
+    made: &Made<'_>,
+    store: &Objects,
+) -> Result<(), KeepFault>
+    requires ready { IsClean (S.view database.old) → IsReady (S.view database.old) }
+    requires made { IsClean (S.view database.old)
+        → store.now ≡ after_made (made_view made.now) (overlay (cells_of (S.view database.old).trees) document.now) }
+    requires keepable { IsClean (S.view database.old) → IsKeepable (made_view made.now) (overlay (cells_of (S.view database.old).trees) document.now) }
+    ensures clean { doubt (S.view database.old).is_clean ≤ doubt (S.view database.new).is_clean }
+    ensures ready { OnOk result (IsClean (S.view database.new) → IsReady (S.view database.new)) }
+    ensures noted { OnOk result (IsClean (S.view database.new) → overlay (cells_of (S.view database.new).trees) document.now ≡ store.now) }
+    ensures committed { OnOk result (IsClean (S.view database.new) → (S.view database.new).committed ≡ (S.view database.old).committed) }
+    ensures crash { NoMore S.recovers database.old database.new }
+{
+    stores_are_in_order(document);
+    stores_are_in_order(store);
+    match *made {
+        Made::Performed(AnyRequest::WriteProperty(write)) => {
+            let reference = write.reference;
+            note_values(alloc, database, store, reference.object, reference.property)?;
+            Ok(())
+        }
+        Made::Performed(AnyRequest::WriteFile(write)) => {
+            note_octets(alloc, database, store, write.file)?;
+            Ok(())
+        }
+        Made::Performed(_) => Ok(()),
+        Made::Changed(
+            Change::Value {
+                object,
+                property,
+                octets: _,
+            },
+        ) => {
+            note_values(alloc, database, store, *object, *property)?;
+            Ok(())
+        }
+        Made::Changed(Change::File { object, octets: _ }) => {
+            note_octets(alloc, database, store, *object)?;
+            Ok(())
+        }
+    }
+}
+
+/// The store that a document and the committed cells of a database make, after what no commit has finished is rolled back.
+fn found_store<S: Store>(
+    alloc: Global,
+    database: &mut S,
+    document: &Objects,
+) -> Result<Objects, KeepFault>
+    ensures clean { doubt (S.view database.old).is_clean ≤ doubt (S.view database.new).is_clean }
+    ensures open { OnOk result (IsClean (S.view database.new) → IsReady (S.view database.new)) }
+    ensures kept { IfOk result (λ s. IsClean (S.view database.new) → overlay (cells_of (S.view database.new).committed) document.now ≡ s) }
+    ensures noted { IfOk result (λ s. IsClean (S.view database.new) → overlay (cells_of (S.view database.new).trees) document.now ≡ s) }
+    ensures found { IfOk result (λ s. IsClean (S.view database.new) → s ≡ overlay (cells_of (S.view database.old).committed) document.now) }
+    ensures committed { IsClean (S.view database.new) → IsTrue (S.view database.new).is_open
+        → (S.view database.new).committed ≡ (S.view database.old).committed }
+    ensures refused { IfErr result (λ e. IsClean (S.view database.new) → IsRefused document.now (S.view database.old) (S.view database.new)
+        (MoreFaults (S.faults database.old) (S.faults database.new)) e) }
+    ensures crash { NoMore S.recovers database.old database.new }
+{
+    make_ready(database)?;
+    let cells = read_cells(alloc, database)?;
+    let store = restored(alloc, document, &cells)?;
+    Ok(store)
+}
+
+impl<S: Store + Drop> CellKeeper<S> {
+    /// Opens the cells of a database over the store of a document, after what no commit has finished is rolled back. Returns the
+    /// keeper and the store that they make, which a node starts with.
+    ///
+    /// Returns `Shut` if the database can't be used after an earlier failure; `NoTable` if it has no table for cells; `BadRow` if its table has a row
+    /// that no write makes; `BadValues` or `BadOctets` if the document has a property or a file that can't have what is kept; `Database` if the
+    /// database fails; `NoMemory` if an allocation fails. With the fault it returns the database: what it has committed is unchanged.
+    pub fn open(
+        alloc: Global,
+        document: Objects,
+        mut database: S,
+    ) -> Result<(CellKeeper<S>, Objects), (KeepFault, S)>
+        ensures honest { IfOk result (λ r. doubt (S.view database).is_clean ≤ doubt (S.view r.0.database).is_clean) }
+        ensures open { IfOk result (λ r. IsClean (S.view r.0.database) → IsReady (S.view r.0.database)) }
+        ensures document { IfOk result (λ r. r.0.document ≡ document) }
+        ensures kept { IfOk result (λ r. IsClean (S.view r.0.database) → overlay (cells_of (S.view r.0.database).committed) document ≡ r.1) }
+        ensures noted { IfOk result (λ r. IsClean (S.view r.0.database) → overlay (cells_of (S.view r.0.database).trees) document ≡ r.1) }
+        ensures found { IfOk result (λ r. IsClean (S.view r.0.database) → r.1 ≡ overlay (cells_of (S.view database).committed) document) }
+        ensures crash { IfOk result (λ r. NoMore S.recovers database r.0.database) }
+        ensures refused { IfErr result (λ e. IsClean (S.view e.1) → IsRefused document (S.view database) (S.view e.1)
+            (MoreFaults (S.faults database) (S.faults e.1)) e.0) }
+        ensures refused_honest { IfErr result (λ e. doubt (S.view database).is_clean ≤ doubt (S.view e.1).is_clean) }
+        ensures refused_kept { IfErr result (λ e. IsClean (S.view e.1) → IsTrue (S.view e.1).is_open
+            → (S.view e.1).committed ≡ (S.view database).committed) }
+        ensures refused_crash { IfErr result (λ e. NoMore S.recovers database e.1) }
+    {
+        match found_store(alloc, &mut database, &document) {
+            Ok(store) => {
+                let keeper = CellKeeper {
+                    alloc,
+                    database,
+                    document,
+                };
+                Ok((keeper, store))
+            }
+            Err(fault) => Err((fault, database)),
+        }
+    }
+
+    /// The database, as it is.
+    pub fn into_database(self) -> S
+        ensures { result ≡ self.database }
+    {
+        let CellKeeper {
+            alloc: _,
+            database,
+            document: _,
+        } = self;
+        database
+    }
+}
+
+impl<S: Store + Drop> Keeper for CellKeeper<S> {
+    ghost IsHonest = { λ k. IsClean (S.view k.database) };
+
+    ghost IsOpen = { λ k. IsReady (S.view k.database) };
+
+    ghost kept = { λ k. overlay (cells_of (S.view k.database).committed) k.document };
+
+    ghost noted = { λ k. overlay (cells_of (S.view k.database).trees) k.document };
+
+    ghost may_find = { λ k. MayFind S.recovers k.database k.document };
+
+    ghost Base = { Overlaid };
+
+    ghost base = { λ k. k.document };
+
+    fn note(&mut self, made: &Made<'_>, store: &Objects) -> Result<(), KeepFault> {
+        note_made(self.alloc, &mut self.database, &self.document, made, store)?;
+        Ok(())
+    }
+
+    fn keep(&mut self) -> Result<(), KeepFault> {
+        self.database.commit().map_err(keep_fault)?;
+        Ok(())
+    }
+
+    ghost settled = { λ k s honest ready may. settles S.view S.recovers S.settled k.database k.document s ready may };
+}
