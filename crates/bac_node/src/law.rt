@@ -1,6 +1,6 @@
 //! Laws of all nodes, for callers that need them in a proof. They do nothing when they run.
 ghost use Rattle.bac_node.specs.Capacities.{CapacitiesStay};
-ghost use Rattle.bac_node.specs.Serving.{FreshIsReusing, StrictIsOn};
+ghost use Rattle.bac_node.specs.Serving.{FreshIsReusing, HearsAsInWorlds, StrictIsOn};
 
 /// No call changes how many slots the tables of a node have: they are those of its [`Config`](crate::Config).
 #[tactic(auto, using(crate::proofs::Capacities::capacities_stay))]
@@ -9,8 +9,10 @@ pub fn capacities_stay()
 {}
 
 /// Where memory is not short, [`Node::hear`](crate::Node::hear) with the strict rules does what [`Node::on`](crate::Node::on) does. With fresh reads, nothing reserved,
-/// and each request remembered for as long as its entry lives, it lets clients use an invoke ID again.
+/// and each request remembered for as long as its entry lives, it lets clients use an invoke ID again. Without a bound on memory, both
+/// are the nodes of worlds.
 pub fn hears_by_rules()
     ensures strict { StrictIsOn }
     ensures fresh { FreshIsReusing }
+    ensures worlds { HearsAsInWorlds }
 {}

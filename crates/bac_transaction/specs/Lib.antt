@@ -3,6 +3,7 @@ pub mod Keys
 pub mod Sends
 pub mod Ends
 pub mod Views
+pub mod Given
 pub mod Segments
 pub mod Tables
 pub mod Meanings

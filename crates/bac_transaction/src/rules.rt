@@ -1,6 +1,6 @@
 //! The rules of a server: what it does of its own beside the standard.
-ghost use Rattle.std.specs.Prelude.{◌≡◌, ◌-◌, None};
-ghost use Rattle.bac_protocol.specs.Serving.{STRICT};
+ghost use Rattle.std.specs.Prelude.{◌≡◌, ◌-◌, None, Some};
+ghost use Rattle.bac_transaction.specs.Given.{ANEW, STRICTLY, rules_of};
 ghost use Rattle.bac_transaction.specs.Views.{rules_view};
 ghost use Rattle.bac_transaction.specs.Serving.{open_to};
 
@@ -32,14 +32,47 @@ pub struct Rules {
 impl Rules {
     /// The strict rules, without a bound on memory: each reply is kept, for as long as its entry lives, and nothing is reserved.
     pub const fn strict() -> Rules
-        ensures rules { rules_view result ≡ STRICT }
-        ensures memory { result.memory ≡ None }
+        ensures { result ≡ STRICTLY }
     {
         Rules {
             reads: ReadRule::Kept,
             remember: None,
             reserve: 0,
             memory: None,
+        }
+    }
+
+    /// Reads are performed anew, without a bound on memory: a client may use an invoke ID again as soon as its transaction is over, other requests that are over
+    /// are remembered for as long as their entries live, and the last sixteenth of the slots goes only to IP addresses that hold no live entry.
+    pub const fn fresh() -> Rules
+        ensures { result ≡ ANEW }
+    {
+        Rules {
+            reads: ReadRule::Fresh,
+            remember: None,
+            reserve: 1,
+            memory: None,
+        }
+    }
+
+    /// `fresh` where clients may use invoke IDs again, otherwise `strict`.
+    pub const fn of(reuse: bool) -> Rules
+        ensures { result ≡ rules_of reuse }
+    {
+        if reuse {
+            Rules::fresh()
+        } else {
+            Rules::strict()
+        }
+    }
+
+    /// The same rules, with that many octets at the most.
+    pub const fn within(self, memory: usize) -> Rules
+        ensures { result ≡ record self { memory = Some memory } }
+    {
+        Rules {
+            memory: Some(memory),
+            ..self
         }
     }
 
