@@ -302,7 +302,7 @@ hears_by : (rules : Rules) (now : ℕ) (first received after : BoundNode) (turn 
 hears_by rules now first received after turn middle node buffer same hears =
     subst (λ n. turns.Hears rules now after.buffer turn.received n middle turn.heard) node
     (subst (λ l. turns.Hears rules now l turn.received received.node middle turn.heard) (sym buffer)
-    (subst (λ (r : Reuse). turns.Hears r now received.buffer turn.received received.node middle turn.heard) same hears))
+    (subst (λ (r : Rules). turns.Hears r now received.buffer turn.received received.node middle turn.heard) same hears))
 
 pub turn_hears : (rules : Rules) (now : ℕ) (before : BoundNode) (turn : turns.Turn) (after : BoundNode) (t : IsSomeTurn now before turn after)
     → before.rules ≡ rules → turns.Hears rules now after.buffer turn.received before.node t.is.acts.middle turn.heard

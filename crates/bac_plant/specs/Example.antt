@@ -1,5 +1,5 @@
 -- Two stations, of which one asks the other: runs in which it is answered, by a turn or by a round, and runs in which the power is cut in that round.
-use Rattle.std.specs.Prelude.{◌≡◌, ℕ, List, [], ◌∷◌, Some, None}
+use Rattle.std.specs.Prelude.{◌≡◌, ℕ, false, List, [], ◌∷◌, Some, None}
 use Rattle.bac_protocol.specs.Pace.{IsTimely}
 use Rattle.bac_driver.specs.BoundNodes.{BoundNode}
 use Rattle.bac_driver.specs.Turns.{Turn}
