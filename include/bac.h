@@ -6,10 +6,10 @@
  *
  * Rules of every call
  * - A bac_node begins as BAC_NODE_EMPTY, is never copied, and its members are never touched. Used before bac_open, opened twice, used after bac_close or closed
- *   twice, it does no harm: the call answers BAC_NOT_OPEN or BAC_ALREADY_OPEN, or 0 where it counts (bac_next_due: UINT64_MAX).
+ *   twice, it does no harm: a call with a status answers BAC_NOT_OPEN or BAC_ALREADY_OPEN, any other 0 or false (bac_next_due: UINT64_MAX).
  * - After a status that is not BAC_OK the node is as it was, and no ticket or length is put out. After BAC_NO_MEMORY the same call may be made again: wait
  *   before that, as what was due stays due, and bac_next_due stays in the past. A datagram that is not heard is lost, and its sender repeats it.
- * - A call whose node is const leaves the node as it was. It counts as a call all the same: see below.
+ * - A call whose node is const leaves the node as it was. Even so, no other call of that node may run beside it.
  * - Moments are milliseconds of one clock that never goes back, from any start.
  * - A link is four octets of IPv4 address and two of UDP port, the high one first, as sockaddr_in has them.
  * - Octets are given by address and number, and stay the caller's. A call that copies octets out returns how many there are; where they are more than there is
@@ -63,7 +63,7 @@ typedef enum bac_status {
     BAC_SELF_PEER = 11,       /* the peer is at the node's own link */
     BAC_TOO_LONG = 12,        /* more octets than can be sent (65,535 of a request), or kept */
     BAC_NEEDS_SEGMENTS = 13,  /* the peer takes no segments, or fewer than are needed */
-    BAC_NO_INVOKE_ID = 14,    /* all 256 invoke IDs are held for that peer, each as long as its slot, or the node restarted less than 75,001 ms ago */
+    BAC_NO_INVOKE_ID = 14,    /* all 256 invoke IDs are held for that peer, each as long as BAC_NO_SLOT says, or the node restarted less than 75,001 ms ago */
     BAC_NO_SLOT = 15,         /* all client slots are held: each until 135,000 ms after its ask was first sent, also once that has ended */
     BAC_NO_SUCH_OBJECT = 16,
     BAC_NO_SUCH_PROPERTY = 17,
@@ -182,6 +182,10 @@ typedef struct bac_refused {
 
 /* ---- layout */
 
+#if UINTPTR_MAX != 0xFFFFFFFFFFFFFFFFu
+#error "64-bit targets only"
+#endif
+
 /* How the library lays out what you hand it and what it puts out. A compiler that does so otherwise, by an option such as -fshort-enums or -fpack-struct, stops
  * here. */
 #define BAC_LAYOUT(type, octets, last, at) extern const char bac_layout[sizeof(type) == (octets) && offsetof(type, last) == (at) ? 1 : -1]
@@ -214,7 +218,8 @@ static inline void bac_close(bac_node *node)
 
 /* Lists an object: its type (bac_start takes 0 analog-input, 2 analog-value, 5 binary-value, 8 device, 10 file and 128 to 1,023, bac_start_described all),
  * its instance, 0 to 4,194,302, and its name in UTF-8.
- * BAC_BAD_OBJECT exactly where the type is above 1,023, the instance above 4,194,303, or the name no UTF-8; all else is looked at by bac_start.
+ * BAC_BAD_OBJECT exactly where the type is above 1,023, the instance above 4,194,303, or the name no UTF-8; all else is looked at by bac_start: so instance
+ * 4,194,303, the wildcard, is listed, and each start refuses it.
  * BAC_NOT_OPEN, BAC_ALREADY_STARTED, BAC_NO_MEMORY. */
 bac_status bac_add_object(bac_node *node, uint16_t object_type, uint32_t instance, const uint8_t *name, size_t name_len);
 

@@ -6,25 +6,28 @@
 # edit. The last line is `N refused, M not refused, K bad`, and the status is 1 unless all are refused. A bad edit is one that cannot be tried.
 set -eu
 top=$(cd "$(dirname "$0")/.." && pwd)
-mkdir -p "$top/crates/bac/out"
-work=$(mktemp -d "$top/crates/bac/out/edits.XXXXXX")
+work=$(mktemp -d)
 trap 'rm -rf "$work"' EXIT
 trap 'exit 1' HUP INT TERM
-cp "$top/crates.txt" "$top/HANDLES" "$work"
-# Links, not copies: `rt` writes such files anew, and never into them.
+cp "$top/HANDLES" "$work"
+# Links where they can be made: `rt` writes such files anew, and never into them.
+links=l
+ln "$top/crates.txt" "$work" 2> /dev/null || { links=; cp "$top/crates.txt" "$work"; }
 for folder in "$top"/crates/*; do
     crate=$work/crates/$(basename "$folder")
     mkdir -p "$crate/out"
     for part in src specs proofs out/rlib out/incremental; do
-        if [ -d "$folder/$part" ]; then cp -Rl "$folder/$part" "$crate/$part"; fi
+        if [ -d "$folder/$part" ]; then cp -R$links "$folder/$part" "$crate/$part"; fi
     done
 done
 
 total=0
 : > "$work/said"
-for crate in ${*:-$(ls "$top/tests/edits")}; do
-    cp -R "$top/tests/edits/$crate" "$work/crates/$crate/must-fail"
-    total=$((total + $(ls "$work/crates/$crate/must-fail" | wc -l)))
+cd "$top/tests/edits"
+if [ $# -eq 0 ]; then set -- *; fi
+for crate in "$@"; do
+    cp -R "$crate" "$work/crates/$crate/must-fail"
+    total=$((total + $(find "$crate" -name '*.edit' | wc -l)))
     (cd "$work" && rt must-fail "$crate" < /dev/null) | tee -a "$work/said"
 done
 refused=$(grep -c '^rt: must-fail .*: refused' "$work/said" || true)

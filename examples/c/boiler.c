@@ -33,13 +33,14 @@ int main(void)
 {
     bac_node node = BAC_NODE_EMPTY;
     bac_settings settings = BAC_SETTINGS(127, 0, 0, 1, 0xBA, 0xC0); /* its address and port */
+    settings.reuse_invoke_ids = true;                               /* clients may be of other makes */
     uint8_t value[5];
     bac_put_float(value, 20.0f);
     bac_status status = bac_open(&node);
     if (!status) { status = bac_add_object(&node, 8, 77, (const uint8_t *)"boiler", 6); } /* device 77 */
     if (!status) { status = bac_add_object(&node, 0, 1, (const uint8_t *)"flow", 4); }    /* analog-input 1 */
     if (!status) { status = bac_add_property(&node, 85, value, 5, false); }               /* its present-value, read only */
-    if (!status) { status = bac_start(&node, &settings); }
+    if (!status) { status = bac_start_described(&node, &settings); }
 
     struct sockaddr_in here;
     memset(&here, 0, sizeof here);

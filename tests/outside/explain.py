@@ -3,7 +3,7 @@
 
 Seeds FIRST and on, COUNT of them, each with transactions of three clients and two servers (exchanges.py) as capture files in several formats. What the rules of
 docs/FORMATS.md, told again in transactions.py, make of the frames has to be what `bac explain` prints, as lines and as objects of JSON, but for what requests and answers carry; so too with filters, and where more
-transactions are open than may be. And README.md has to be right about docs/lost.pcapng. With --tshark, text2pcap and mergecap write the files as pcapng, editcap as
+transactions are open than may be. And README.md has to draw docs/lost.pcapng as it does. With --tshark, text2pcap and mergecap write the files as pcapng, editcap as
 pcap with micro- and nanoseconds, and tshark tells the frames' moments and addresses; what it shows of their APDUs has to be what was read from the octets here.
 """
 
@@ -184,11 +184,11 @@ def are_objects(program, path, watch, title):
 
 
 def is_readme_right(program):
-    """Whether the capture of docs/ is explained as README.md has it."""
+    """Whether the capture of docs/ is drawn as README.md has it."""
     top = Path(__file__).resolve().parents[2]
-    _, _, behind = (top / 'README.md').read_text().partition('$ bac explain docs/lost.pcapng\n')
-    done = subprocess.run([program, 'explain', str(top / 'docs/lost.pcapng')], capture_output=True, text=True, timeout=60)
-    return bool(done.stdout) and behind.startswith(done.stdout)
+    _, _, behind = (top / 'README.md').read_text().partition('$ bac explain --pairs --values docs/lost.pcapng\n')
+    done = subprocess.run([program, 'explain', '--pairs', '--values', str(top / 'docs/lost.pcapng')], capture_output=True, text=True, timeout=60)
+    return bool(done.stdout) and behind.startswith(done.stdout.rstrip('\n'))
 
 
 def selections(seed, frames):

@@ -1,5 +1,5 @@
 #!/usr/bin/env python3
-"""Draws docs/terminal.svg, the picture of README.md, from commands of README.md and docs/GUIDE.md and what stands below them: picture.py > docs/terminal.svg
+"""Draws docs/terminal.svg, the picture of README.md, from commands of README.md and what stands below them: picture.py > docs/terminal.svg
 
 tour.py compares the picture with what this prints, and the blocks with what the program prints."""
 
@@ -10,15 +10,15 @@ from html import escape
 
 from documents import TOP, blocks_of, commands_of
 
-SHOWN = (('README.md', ' serve '), ('README.md', ' write '), ('docs/GUIDE.md', ' explain --pairs '))
+SHOWN = (' serve ', ' write ', ' explain --pairs ')
 LINE, WIDTH, EDGE = 20, 640, 16
 
 
 def drawn():
     """The picture."""
     lines = []
-    for name, word in SHOWN:
-        blocks = [block for block in blocks_of((TOP / name).read_text()) if block.kind == 'console']
+    blocks = [block for block in blocks_of((TOP / 'README.md').read_text()) if block.kind == 'console']
+    for word in SHOWN:
         command, below = next(found for block in blocks for found in commands_of(block) if word in found[0])
         lines += [f'<tspan class="c">$ {escape(command)}</tspan>', *(escape(line) for line in below)]
     rows = ''.join(f'<text x="{EDGE}" y="{EDGE + LINE * number}">{line}</text>\n' for number, line in enumerate(lines, 1))

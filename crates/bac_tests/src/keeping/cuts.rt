@@ -50,10 +50,11 @@ const ROUNDS: &[Round] = &[
     },
 ];
 
-/// The options of a database whose log is copied after each fourth page.
+/// The options of a database whose log is copied after each fourth page. It keeps few pages in memory, since each start clears the room for all of them.
 pub(super) fn options() -> Options {
     let mut options = Options::new(7);
     options.checkpoint_frames = 4;
+    options.cache_pages = 50;
     options
 }
 
