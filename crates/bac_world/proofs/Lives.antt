@@ -16,7 +16,7 @@ use Rattle.bac_world.specs.Node.{Node, Outcome, IsHeardBy, NodeOn, NodeTick, Nod
 use Rattle.bac_world.specs.Once.{HasNoRestart}
 use Rattle.bac_world.specs.World.{World, Event, Copy, IsWithNode, Hears, DeliversIf, is_deliverable, peer_at}
 use Rattle.bac_world.specs.World.{WorldStep, WorldRun, RunsOn, MakeNoRestart, MakeRequestsAlone, NeverRestarted, IsFresh}
-use Rattle.bac_world.specs.World.Event.{Ask, AskAway, Deliver, Noise, Stray, Tick, Advance, Change, Restart}
+use Rattle.bac_world.specs.World.Event.{Ask, AskAway, Deliver, Noise, Stray, Tick, Advance, Change, Restart, Begin, BeginAgain}
 use Rattle.bac_world.specs.World.{told}
 use Rattle.bac_world.proofs.Steps.{decide_number}
 use Rattle.bac_world.proofs.Asking.{accepted_is}
@@ -124,6 +124,8 @@ step_lived overtake w w' (Advance by own) s i on = subst (λ (u : World). LiveOn
 step_lived overtake w w' (Change node c) s i on =
     with_lived w.nodes w'.nodes node s.before _ s.at s.nodes (record { asks = refl; serves = refl }) i
 step_lived overtake w w' (Restart node exact store) s i on = other_lived w.nodes w'.nodes node _ s.nodes i (λ is. on.0 (sym is))
+step_lived overtake w w' (Begin node exact) s i on = subst (λ (u : World). LiveOn w.nodes u.nodes i) (sym s.is) (same_lived w.nodes i)
+step_lived overtake w w' (BeginAgain node exact first_id store) s i on = other_lived w.nodes w'.nodes node _ s.nodes i (λ is. on.0 (sym is))
 
 -- Runs.
 
@@ -137,6 +139,8 @@ first_on i (Tick node) es h = (tt, h)
 first_on i (Advance by own) es h = (tt, h)
 first_on i (Change node c) es h = (tt, h)
 first_on i (Restart node exact store) es h = ((h.0, tt), h.1)
+first_on i (Begin node exact) es h = (tt, h)
+first_on i (BeginAgain node exact first_id store) es h = ((h.0, tt), h.1)
 
 -- where a node does not restart in a run
 pub run_lived : (overtake : ℕ) (events : List Event) (w w' : World) → WorldRun overtake w events w' → (i : ℕ) → RunsOn i events
@@ -160,6 +164,8 @@ each_on i (Tick node ∷ es) h = each_on i es h
 each_on i (Advance by own ∷ es) h = each_on i es h
 each_on i (Change node c ∷ es) h = each_on i es h
 each_on i (Restart node exact store ∷ es) h = absurd h
+each_on i (Begin node exact ∷ es) h = each_on i es h
+each_on i (BeginAgain node exact first_id store ∷ es) h = absurd h
 
 -- The log of a run without restarts.
 
@@ -192,6 +198,9 @@ quiet_run overtake (Advance by own ∷ es) w w' run calm none = quiet_run overta
     (quiet_step overtake w run.0 (Advance by own) tt run.1 none)
 quiet_run overtake (Change node c ∷ es) w w' run calm none = quiet_run overtake es run.0 w' run.2 calm (subst HasNoRestart (sym run.1.log) none)
 quiet_run overtake (Restart node exact store ∷ es) w w' run calm none = absurd calm
+quiet_run overtake (Begin node exact ∷ es) w w' run calm none = quiet_run overtake es run.0 w' run.2 calm
+    (quiet_step overtake w run.0 (Begin node exact) tt run.1 none)
+quiet_run overtake (BeginAgain node exact first_id store ∷ es) w w' run calm none = absurd calm
 
 pub no_restart_in_run : (overtake : ℕ) (w w' : World) → IsFresh w → (events : List Event) → MakeNoRestart events → WorldRun overtake w events w'
     → HasNoRestart w'.log × NeverRestarted w'.nodes
