@@ -1,5 +1,5 @@
 //! Octets that no node sent.
-ghost use Rattle.std.specs.Prelude.{◌≡◌, ◌<◌, ℕ, length};
+ghost use Rattle.std.specs.Prelude.{◌≡◌, ◌<◌, ℕ, length, OnErr};
 ghost use Rattle.bac_world.specs.Laws.{IsMeaningless};
 ghost use Rattle.bac_world.specs.World.{HearsNoise};
 ghost use Rattle.bac_world.specs.World.Event.{Noise};
@@ -26,6 +26,7 @@ impl Network {
         ensures happens { (overtake : ℕ) → Happens overtake (world_of self.old) (Noise node from octets.now) result (world_of self.new) }
         ensures links { self.new.journal.links ≡ self.old.journal.links }
         ensures stays { instant self.new.journal ≡ instant self.old.journal }
+        ensures lived { OnErr result (self.new.journal.lives ≡ self.old.journal.lives) }
     {
         if node >= self.nodes.len() {
             return Err(WorldFault::NoSuchNode);
@@ -48,5 +49,6 @@ impl Network {
         let Ok(_outcome) = hear(&mut self.nodes, node, self.journal.told(node), from, octets) else {
             unreachable!()
         };
+        self.journal.act(node);
     }
 }

@@ -80,11 +80,11 @@ module _ (links : ℕ → Option Octets) (apart : (i j : ℕ) (l : Octets) → l
       let is : j ≡ i = grind (arith, nat_tests) in
       let at' : slice_get w.nodes i ≡ Some a = sym (ap (slice_get w.nodes) is) ∙ at in
       subst (λ (k : ℕ). NodeFits links apart x (here_at m k) (there_at m k) w.notes m k a) (sym is)
-      (starts a (h.idle i a at' s.first) ((h.lives i).none s.first) (h.nodes i a at'))
+      (starts a (h.idle i a at' s.first).entries ((h.lives i).none s.first) (h.nodes i a at'))
   fits j a at false e = stays j a e (h.nodes j a at)
 
-  over : Over links apart W x set (record w { time = with_clock w.time i exact }) m
-  over = record {
+  pub begun_over : Over links apart W x set (record w { time = with_clock w.time i exact }) m
+  begun_over = record {
     now = h.now;
     pace = h.pace;
     here = λ j. λ k. if nat_eq j i then clock_at (h.pace k) exact else h.here j k;
@@ -102,4 +102,4 @@ module _ (links : ℕ → Option Octets) (apart : (i j : ℕ) (l : Octets) → l
   }
 
   pub begun_next : Next links apart W x set w w'
-  begun_next = subst (λ (u : World). Next links apart W x set w u) (sym s.is) (m, record { bridge = over; once = λ opening once. once })
+  begun_next = subst (λ (u : World). Next links apart W x set w u) (sym s.is) (m, record { bridge = begun_over; once = λ opening once. once })

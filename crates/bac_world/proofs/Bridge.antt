@@ -24,8 +24,9 @@ use Rattle.bac_slots.specs.Slots.{value_at, IsDistinct}
 use Rattle.bac_transaction.specs.Keys.{PeerKey, same_key}
 use Rattle.bac_transaction.specs.Sends.{Datagram, Pairwise, IsSent, to_peer, to_all}
 use Rattle.bac_transaction.specs.Ends.{Client, ClientEnd, ServerEnd, kept}
-use Rattle.bac_world.specs.Node.{Node}
-use Rattle.bac_world.specs.World.{World, Copy, Life, Note, link_at, newest, ask_of, peer_at, transaction_of, IsCopied, count_of, later}
+use Rattle.bac_store.specs.AtNode.{Change}
+use Rattle.bac_world.specs.Node.{Node, with_change}
+use Rattle.bac_world.specs.World.{World, Copy, IsFreshNode, Life, Note, link_at, newest, ask_of, peer_at, transaction_of, IsCopied, count_of, later}
 use Rattle.bac_transaction.proofs.KeyedSlots.{EachSlot}
 use Rattle.bac_world.proofs.Numbers.{number}
 use Rattle.bac_world.specs.World.{AreCopied}
@@ -82,9 +83,20 @@ pub record LifeFits (n : Net) (i : ℕ) (l : Life) : Type 0 where
   pub sends : n.sends_until i ≡ l.sends_until
   pub none : l.active ≡ false → HasNothing n i
 
--- a node at which nothing happened has an empty table
+-- a node at which nothing happened is as it was at its beginning
 abbrev pub AreIdle : List Node → (ℕ → Life) → Type 0
-AreIdle nodes lives = (j : ℕ) (a : Node) → slice_get nodes j ≡ Some a → (lives j).active ≡ false → a.servers.slots ≡ []
+AreIdle nodes lives = (j : ℕ) (a : Node) → slice_get nodes j ≡ Some a → (lives j).active ≡ false → IsFreshNode a
+
+-- its store is its own matter
+pub changed_fresh : (c : Change) (a : Node) → IsFreshNode a → IsFreshNode (with_change c a)
+changed_fresh c a f = record {
+  latest = f.latest;
+  slots = f.slots;
+  asked = f.asked;
+  asks_from = f.asks_from;
+  entries = f.entries;
+  serves_from = f.serves_from;
+}
 
 -- in another net with the same tables nodes did the same
 pub lives_as : (n m : Net) (i : ℕ) (l : Life) → is_active m i ≡ is_active n i → m.sends_until ≡ n.sends_until → m.tickets ≡ n.tickets → m.entries ≡ n.entries

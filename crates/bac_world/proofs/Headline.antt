@@ -29,7 +29,7 @@ use Rattle.bac_world.specs.Node.{Node, Outcome, IsDropped, with_change}
 use Rattle.bac_world.specs.ReusingLogs.{IsOnceSo, Reuses}
 use Rattle.bac_world.specs.ReusingWorlds.{ActsSo, DeliversIfSo, DeliversSo, HearsSo, WorldRunSo, WorldStepSo}
 use Rattle.bac_world.specs.Once.{Fact, Stores, IsOnce, MayChange, with_changed}
-use Rattle.bac_world.specs.World.{World, Life, Time, passes, Event, Copy, Note, link_at, stores_of, newest, later, peer_at, IsOfNone, IsChanged, WorldRun, IsFresh, IsBounded}
+use Rattle.bac_world.specs.World.{World, IsFreshNode, Life, Time, passes, Event, Copy, Note, link_at, stores_of, newest, later, peer_at, IsOfNone, IsChanged, WorldRun, IsFresh, IsBounded}
 use Rattle.bac_world.specs.Laws.{IsMeaningless}
 use Rattle.bac_world.specs.World.Event.{Ask, AskAway, Deliver, Noise, Stray, Tick, Advance, Change, Restart, Begin, BeginAgain}
 use Rattle.bac_transaction.proofs.KeyedSlots.{EachSlot}
@@ -42,7 +42,7 @@ use Rattle.bac_world.proofs.Machines.{passed, changes, starts, client_later, ser
 use Rattle.bac_world.proofs.Pairs.{IsPaired, pairwise_get}
 use Rattle.bac_world.proofs.Logs.{FactMeans}
 use Rattle.bac_world.proofs.Bridge.{IsKnown, IsStranger, NodeFits, IsCopyOf, IsBetween, IsGone, TicketFits, EntryFits, AwayNoted, key_of, slot_key, stranger_key, out_key}
-use Rattle.bac_world.proofs.Bridge.{AreIdle, LifeFits, lives_as, framed_means, later_alike}
+use Rattle.bac_world.proofs.Bridge.{AreIdle, LifeFits, changed_fresh, lives_as, framed_means, later_alike}
 use Rattle.bac_world.proofs.Steps.{Over, Next, acts_quiet, each_with, linked_with}
 use Rattle.bac_world.proofs.AsEver.{once_as, once_ever, run_as}
 use Rattle.bac_world.proofs.Heard.{IsHeardIn, IsHeardInBy, heard_in}
@@ -236,8 +236,8 @@ module _ (links : ℕ → Option Octets) (apart : (i j : ℕ) (l : Octets) → l
       lives = λ j. subst (λ (lives : ℕ → Life). LifeFits (notes_change n i []) j (lives j)) (sym s.lives)
           (lives_as n (notes_change n i []) j (w.lives j) refl refl refl refl refl (h.lives j));
       idle = subst (λ (lives : ℕ → Life). AreIdle w'.nodes lives) (sym s.lives)
-          (each_with (λ j b. (w.lives j).active ≡ false → b.servers.slots ≡ []) w.nodes w'.nodes i (with_change c s.before) s.nodes
-          (h.idle i s.before s.at) h.idle);
+          (each_with (λ j b. (w.lives j).active ≡ false → IsFreshNode b) w.nodes w'.nodes i (with_change c s.before) s.nodes
+          (λ off. changed_fresh c s.before (h.idle i s.before s.at off)) h.idle);
       asks = h.asks ∙ sym (ap (λ (l : List Note). length l) s.notes);
       linked = linked_with links w.nodes w'.nodes i s.before (with_change c s.before) s.nodes s.at refl h.linked;
       nodes = λ j a at. subst (λ (l : List Note). NodeFits links apart x (here_at n j) (there_at n j) l (notes_change n i []) j a) (sym s.notes)
@@ -350,7 +350,7 @@ fresh_over set W overtake w h timely b = record {
     sends = refl;
     none = λ off. record { tickets = λ k is. refl; far_tickets = λ k is. refl; entries = λ k is. refl; far_entries = λ k is. refl };
   });
-  idle = λ i a at off. (h.nodes i a at).entries;
+  idle = λ i a at off. h.nodes i a at;
   asks = sym (ap (λ (l : List Note). length l) h.notes);
   linked = λ i. refl;
   nodes = λ i a at. let f = h.nodes i a at in record {

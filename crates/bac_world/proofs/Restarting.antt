@@ -11,7 +11,7 @@ use Rattle.bac_protocol.specs.Client.{ClientTransaction}
 use Rattle.bac_protocol.specs.Client.Phase.{Idle}
 use Rattle.bac_protocol.specs.Server.{live_entry}
 use Rattle.bac_protocol.specs.Transaction.{Key, Rules}
-use Rattle.bac_protocol.specs.World.{Net, lost, client_anew, client_restarted, server_restarted}
+use Rattle.bac_protocol.specs.World.{Net, lost, client_anew, client_restarted, next_client, server_restarted}
 use Rattle.bac_protocol.specs.World as machine
 use Rattle.bac_protocol.specs.Claims.{IsBounded}
 use Rattle.bac_slots.specs.Slots.{value_at}
@@ -20,7 +20,7 @@ use Rattle.bac_transaction.specs.Sends.{Pairwise}
 use Rattle.bac_world.specs.Node.{Node, store_after_restart}
 use Rattle.bac_world.specs.Once.{Fact, with_restarted}
 use Rattle.bac_world.specs.ReusingLogs.{IsOnceSo}
-use Rattle.bac_world.specs.World.{World, Life, Time, Copy, Note, stores_of, newest, with_clock, with_life, IsWithNode, IsRestarted, IsBegunAgain}
+use Rattle.bac_world.specs.World.{World, Life, Time, Copy, Note, stores_of, newest, with_clock, with_life, IsWithNode, IsRestarted, IsBegunAgain, is_quiet}
 use Rattle.bac_world.proofs.Bridge.{here_at, there_at}
 use Rattle.bac_protocol.specs.Pace.{Pace, Clock, clock_at, most}
 use Rattle.std.proofs.Common.{nat_lt, nat_le, not, min, ◌||◌, ◌<◌, [], ◌∷◌}
@@ -30,7 +30,7 @@ use Rattle.bac_world.proofs.Machines.{Sound, restarts, begins_again, asked_befor
 use Rattle.bac_world.proofs.Logs.{FactMeans}
 use Rattle.bac_world.proofs.Bridge.{HasNothing, LifeFits, NodeFits, IsCopyOf, IsGone, TicketFits, EntryFits, AwayNoted, key_of, slot_key, stranger_key, out_key}
 use Rattle.bac_world.specs.World.{is_away}
-use Rattle.bac_world.proofs.Steps.{Over, Next, decide_number, idle_with, linked_with}
+use Rattle.bac_world.proofs.Steps.{Over, Goes, Next, decide_number, idle_with, linked_with}
 use Rattle.bac_world.proofs.Settings.{Setting, reuses_in}
 
 self : (i : ℕ) → nat_eq i i ≡ true
@@ -229,26 +229,23 @@ module _ (links : ℕ → Option Octets) (apart : (i j : ℕ) (l : Octets) → l
           ∙ sym (ap (λ y. option_map (λ (z : Store). store_after_restart z o) (store y)) s.at)
       go false e = ap store (s.nodes.others node (λ same. grind (arith, nat_tests)))
 
-  renewed_next : Next links apart W x set w w'
-  renewed_next = (
-    m,
-    record {
-      bridge = renewed_over;
-      once = λ opening once. subst (λ (l : List Fact). IsOnceSo (reuses_in set) opening l (stores_of w'.nodes)) (sym s.log) (stores_of w.nodes, stores_renewed, once);
-    },
-  )
+  renewed_goes : Goes links apart W x set w w' m
+  renewed_goes = record {
+    bridge = renewed_over;
+    once = λ opening once. subst (λ (l : List Fact). IsOnceSo (reuses_in set) opening l (stores_of w'.nodes)) (sym s.log) (stores_of w.nodes, stores_renewed, once);
+  }
 
 -- both ends of the node restart
 abbrev pub restarted_net : Net → (i exact : ℕ) → Net
 restarted_net n i exact = server_restarted (client_restarted n i exact) i exact None
 
--- or its server restarts, and another client begins
+-- or another client begins, and its server restarts
 abbrev pub replaced_net : Net → (i exact : ℕ) → Net
-replaced_net n i exact = server_restarted (machine.begun_again n i exact) i exact None
+replaced_net n i exact = server_restarted (next_client n i exact) i exact None
 
 -- the server's clock begins anew, whichever it was
-replaced_is : (n : Net) (i exact : ℕ) → renewed_net n i exact n.now 0 n.sends_until ≡ replaced_net n i exact
-replaced_is n i exact = ap (λ (f : ℕ → Clock). record (renewed_net n i exact n.now 0 n.sends_until) { server_clocks = f }) (λ k. λ j. anew (n.served i) j k)
+replaced_is : (n : Net) (i exact : ℕ) → replaced_net n i exact ≡ server_restarted (machine.begun_again n i exact) i exact None
+replaced_is n i exact = ap (λ (f : ℕ → Clock). record (replaced_net n i exact) { server_clocks = f }) (λ k. λ j. anew (n.served i) j k)
   where
     twice : (c d : Clock) (b : Bool) → (if b then c else d) ≡ (if b then c else (if b then c else d))
     twice c d true = refl
@@ -261,12 +258,24 @@ replaced_is n i exact = ap (λ (f : ℕ → Clock). record (renewed_net n i exac
 
 module _ (links : ℕ → Option Octets) (apart : (i j : ℕ) (l : Octets) → links i ≡ Some l → links j ≡ Some l → i ≡ j) (W : ℕ) (x : Rules)
     (set : Setting) (bound : IsBounded W x) (w w' : World) (n : Net) (h : Over links apart W x set w n) (i exact : ℕ) where
+  -- where all is over in the world, it is in the net
+  pub quiet_net : is_quiet w i ≡ true → machine.is_quiet n i ≡ true
+  quiet_net quiet = (λ k. nat_le ((h.lives i).sends k + (h.pace k).life + most (h.pace k) KEEP + (h.pace k).life) (h.now k)) ∙ quiet
+
+  -- and all that it asked was asked before
+  pub asked_earlier : is_quiet w i ≡ true → (key : Key) (t : ClientTransaction) → n.tickets key ≡ Some t → key.client ≡ i → n.made key < n.now
+  asked_earlier all_over key t is its =
+      let quiet : machine.is_quiet n i ≡ true = quiet_net all_over in
+      let lt = sent_before W x set bound n h.sound key t is in
+      let last : n.sends_until key.client ≡ n.sends_until i = ap n.sends_until its in
+      let over : n.sends_until i + n.pace.life + most n.pace KEEP + n.pace.life ≤ n.now = grind (arith, nat_tests) in omega arith
+
   -- how long its client sends for what it asked so far
   sends_here : (j : ℕ) → nat_eq j i ≡ true → n.sends_until j ≡ (w.lives i).sends_until
   sends_here j e = (h.lives j).sends ∙ ap (λ (c : ℕ). (w.lives c).sends_until) (let same : j ≡ i = grind (arith, nat_tests) in same)
 
-  pub restarted_next : (o : Option Store) → IsRestarted w i exact o w' → Next links apart W x set w w'
-  restarted_next o s = renewed_next links apart W x set w w' n h i exact (n.now + 1) ((clock_at n.pace exact).shows + REST + 1)
+  restarted_goes : (o : Option Store) → IsRestarted w i exact o w' → Goes links apart W x set w w' (restarted_net n i exact)
+  restarted_goes o s = renewed_goes links apart W x set w w' n h i exact (n.now + 1) ((clock_at n.pace exact).shows + REST + 1)
       ((clock_at w.time.pace exact).shows + REST + 1) s.before.clients.first_id (min (w.lives i).sends_until (w.time.now + 1)) o
       (λ j. if nat_eq j i then min (n.sends_until j) (n.now + 1) else n.sends_until j)
       (record { before = s.before; at = s.at; nodes = s.nodes; time = s.time; lives = s.lives; copies = s.copies; notes = s.notes; log = s.log })
@@ -282,23 +291,28 @@ module _ (links : ℕ → Option Octets) (apart : (i j : ℕ) (l : Octets) → l
           ∙ (λ k. min (sends_here j e k) (h.now k + 1))
       sends j false e = ap (λ (b : Bool). if b then min (n.sends_until j) (n.now + 1) else n.sends_until j) e
 
-  pub begun_again_next : (first_id : ℕ) (o : Option Store) → IsBegunAgain w i exact first_id o w' → Next links apart W x set w w'
-  begun_again_next first_id o s = renewed_next links apart W x set w w' n h i exact n.now 0 0 first_id (w.lives i).sends_until o n.sends_until
+  replaced_goes : (first_id : ℕ) (o : Option Store) → IsBegunAgain w i exact first_id o w' → Goes links apart W x set w w' (replaced_net n i exact)
+  replaced_goes first_id o s = renewed_goes links apart W x set w w' n h i exact n.now 0 0 first_id (w.lives i).sends_until o n.sends_until
       (record { before = s.before; at = s.at; nodes = s.nodes; time = s.time; lives = s.lives; copies = s.copies; notes = s.notes; log = s.log })
       (record {
         asks = refl;
-        made = λ key t is its. sent_earlier key.client its (sent_before W x set bound n h.sound key t is);
+        made = asked_earlier s.quiet;
         sends_is = sends;
-      }) (subst (λ (y : Net). Sound x set y) (sym (replaced_is n i exact)) (begins_again W x set bound n i exact quiet h.sound))
+      }) (subst (λ (y : Net). Sound x set y) (sym (replaced_is n i exact)) (begins_again W x set bound n i exact (quiet_net s.quiet) h.sound))
     where
-      quiet : machine.is_quiet n i ≡ true
-      quiet = (λ k. nat_le ((h.lives i).sends k + (h.pace k).life + most (h.pace k) KEEP + (h.pace k).life) (h.now k)) ∙ s.quiet
-
-      sent_earlier : (c : ℕ) → c ≡ i → {made : ℕ} → made < n.sends_until c → made < n.now
-      sent_earlier c its lt =
-          let last : n.sends_until c ≡ n.sends_until i = ap n.sends_until its in
-          let over : n.sends_until i + n.pace.life + most n.pace KEEP + n.pace.life ≤ n.now = grind (arith, nat_tests) in omega arith
-
       sends : (j : ℕ) (b : Bool) → nat_eq j i ≡ b → n.sends_until j ≡ (if b then (w.lives i).sends_until else n.sends_until j)
       sends j true e = sends_here j e
       sends j false e = refl
+
+  pub restarted_next : (o : Option Store) → IsRestarted w i exact o w' → Next links apart W x set w w'
+  restarted_next o s = (restarted_net n i exact, restarted_goes o s)
+
+  pub begun_again_next : (first_id : ℕ) (o : Option Store) → IsBegunAgain w i exact first_id o w' → Next links apart W x set w w'
+  begun_again_next first_id o s = (replaced_net n i exact, replaced_goes first_id o s)
+
+  -- the nets after them
+  pub restarted_over : (o : Option Store) → IsRestarted w i exact o w' → Over links apart W x set w' (restarted_net n i exact)
+  restarted_over o s = (restarted_goes o s).bridge
+
+  pub replaced_over : (first_id : ℕ) (o : Option Store) → IsBegunAgain w i exact first_id o w' → Over links apart W x set w' (replaced_net n i exact)
+  replaced_over first_id o s = (replaced_goes first_id o s).bridge

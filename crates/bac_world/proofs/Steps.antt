@@ -15,7 +15,7 @@ use Rattle.bac_world.specs.Once.Fact.{Asked, Performed, Ended, Changed, Restarte
 use Rattle.bac_world.specs.ReusingLogs.{IsOnceSo, MayEnterSo, Reuses}
 use Rattle.bac_world.specs.ReusingWorlds.{ActsSo, AreLoggedSo}
 use Rattle.bac_world.specs.Services.{Performed as performed}
-use Rattle.bac_world.specs.World.{World, Life, Time, Note, Copy, link_at, stores_of, AreLogged, IsWithNode, Acts, newest, with_act, with_life}
+use Rattle.bac_world.specs.World.{World, IsFreshNode, Life, Time, Note, Copy, link_at, stores_of, AreLogged, IsWithNode, Acts, newest, with_act, with_life}
 use Rattle.bac_world.proofs.Machines.{Sound}
 use Rattle.bac_world.proofs.Settings.{Setting, reuses_in}
 use Rattle.bac_world.proofs.Logs.{FactMeans}
@@ -58,7 +58,7 @@ pub idle_with : (old new : List Node) (lives next : ℕ → Life) (i : ℕ) (b :
     → life.active ≡ true → AreIdle old lives → AreIdle new next
 idle_with old new lives next i b life s is active idle j a at off = go (nat_eq j i) refl (subst (λ (f : ℕ → Life). (f j).active ≡ false) is off)
   where
-    go : (c : Bool) → nat_eq j i ≡ c → (if c then life else lives j).active ≡ false → a.servers.slots ≡ []
+    go : (c : Bool) → nat_eq j i ≡ c → (if c then life else lives j).active ≡ false → IsFreshNode a
     go true e off = absurd (let no : true ≡ false = sym active ∙ off in cc)
     go false e off = idle j a (sym (s.others j (λ same. let is : j ≡ i = same in grind (arith, nat_tests))) ∙ at) off
 
