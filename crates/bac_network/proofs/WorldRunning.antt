@@ -95,6 +95,8 @@ alone_front (world.Event.Tick node ∷ events) (suc place) alone = alone_front e
 alone_front (world.Event.Advance by own ∷ events) (suc place) alone = alone_front events place alone
 alone_front (world.Event.Change node c ∷ events) (suc place) alone = absurd alone
 alone_front (world.Event.Restart node exact store ∷ events) (suc place) alone = absurd alone
+alone_front (world.Event.Begin node exact ∷ events) (suc place) alone = alone_front events place alone
+alone_front (world.Event.BeginAgain node exact first_id store ∷ events) (suc place) alone = absurd alone
 
 pub alone_so_far : (old mid : WorldView) (events : List world.Event) (place : ℕ) → WorldRun old.overtake (as_world old) (take place events) (as_world mid)
     → HasRequestsAloneNow old → MakeRequestsAlone events → HasRequestsAloneNow mid
