@@ -25,3 +25,7 @@ returns-then-not-is_quiet-clause-happens c = λ overtake.
 
 pub replace_now-requires-clause-quiet : goal.replace_now-requires-clause-quiet
 replace_now-requires-clause-quiet c = sym c.if-not-is_quiet.ensures
+
+pub is_quiet-requires : goal.is_quiet-requires
+is_quiet-requires c =
+    linked_within c.args.self.now.nodes.items c.args.self.now.journal.links (c.requires.2).linked c.args.node (omega arith)
