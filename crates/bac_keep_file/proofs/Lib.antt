@@ -1,3 +1,4 @@
+mod Causes
 mod Deleting
 mod Documents
 mod Faults
