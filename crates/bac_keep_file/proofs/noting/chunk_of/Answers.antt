@@ -10,8 +10,8 @@ short octets xs at is = subst (λ (l : List ℕ). length l ≤ CHUNK) (sym is) (
 pub returns-then-octets-start-le-CHUNK : goal.returns-then-octets-start-le-CHUNK
 returns-then-octets-start-le-CHUNK c =
     let is =
-        last_chunk CHUNK (c.from-start.result * CHUNK) c.args.octets.now (omega (arith, c.if-octets-start-le-CHUNK.true))
-        ∙ ap (λ (n : ℕ). take CHUNK (drop (n * CHUNK) c.args.octets.now)) c.from-start.ensures in
+    last_chunk CHUNK (c.from-start.result * CHUNK) c.args.octets.now (omega (arith, c.if-octets-start-le-CHUNK.true))
+    ∙ ap (λ (n : ℕ). take CHUNK (drop (n * CHUNK) c.args.octets.now)) c.from-start.ensures in
     record { is = is; short = short c.args.octets.now _ c.args.at is }
 
 pub returns : goal.returns
@@ -19,6 +19,6 @@ returns c =
     let start = c.from-start.result * CHUNK in
     let size : (start + CHUNK) - start ≡ CHUNK = omega arith in
     let is =
-        ap (λ (n : ℕ). take n (drop start c.args.octets.now)) size
-        ∙ ap (λ (n : ℕ). take CHUNK (drop (n * CHUNK) c.args.octets.now)) c.from-start.ensures in
+    ap (λ (n : ℕ). take n (drop start c.args.octets.now)) size
+    ∙ ap (λ (n : ℕ). take CHUNK (drop (n * CHUNK) c.args.octets.now)) c.from-start.ensures in
     record { is = is; short = short c.args.octets.now _ c.args.at is }
