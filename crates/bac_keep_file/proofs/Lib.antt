@@ -3,6 +3,7 @@ mod Deleting
 mod Documents
 mod Faults
 mod Finding
+mod Idles
 mod Leaving
 mod Puts
 mod RisingRows

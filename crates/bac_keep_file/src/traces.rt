@@ -1,4 +1,5 @@
 //! What an open that is refused leaves behind: no file that was not there.
+use crate::whole::EMPTY;
 use std::alloc::AllocError;
 use std::fs;
 
@@ -22,14 +23,14 @@ fn is_there(rt: &HostRuntime, path: &str) -> bool {
     }
 }
 
-/// Removes a file that is empty.
-fn remove_empty(rt: &HostRuntime, path: &str) {
-    let is_empty = match fs::symlink_metadata(rt, path) {
-        Ok(found) => found.is_file() && found.len() == 0,
+/// Removes a file that has at most so many octets.
+fn remove_short(rt: &HostRuntime, path: &str, most: u64) {
+    let is_short = match fs::symlink_metadata(rt, path) {
+        Ok(found) => found.is_file() && found.len() <= most,
         Err(_) => false,
     };
-    if is_empty {
-        // if that fails, an empty file is left
+    if is_short {
+        // if that fails, a file without content is left
         let _ = fs::remove_file(rt, path);
     }
 }
@@ -46,15 +47,15 @@ impl Traces {
         }
     }
 
-    /// Removes what was not there, and is empty.
+    /// Removes what was not there, and has no content: an empty file, and a log without frames.
     pub(crate) fn remove(self, rt: &HostRuntime, path: &str) {
         if !self.had_log {
             if let Ok(log) = log_path(rt, path) {
-                remove_empty(rt, log.as_str());
+                remove_short(rt, log.as_str(), EMPTY as u64);
             }
         }
         if !self.had_file {
-            remove_empty(rt, path);
+            remove_short(rt, path, 0);
         }
     }
 }

@@ -26,7 +26,7 @@ const FRAME_HEADER: usize = 24;
 const GATE: usize = 8;
 
 /// The length of an empty log: the header, and the first frame up to its gate.
-const EMPTY: usize = HEADER + GATE + 1;
+pub(crate) const EMPTY: usize = HEADER + GATE + 1;
 
 /// The length of the database file's header.
 const FILE_HEADER: usize = 100;
