@@ -104,6 +104,13 @@ impl LogHeader {
         number_in(round)
     }
 
+    /// The same with the first octet of each log.
+    fn mended(self) -> LogHeader {
+        let LogHeader { mut octets, gate } = self;
+        octets[0] = 0x37;
+        LogHeader { octets, gate }
+    }
+
     /// Whether its checksum is right, and it is that of a log.
     fn is_signed(&self) -> bool {
         let [first, second, third, fourth, ..] = self.octets;
@@ -240,6 +247,121 @@ fn loses<D: Disk>(
     Ok(None)
 }
 
+/// The page of each frame from the first on that has that salt.
+fn pages_of<D: Disk>(
+    alloc: Global,
+    log: &mut D,
+    salt: [u8; 8],
+    frame: usize,
+) -> Result<Vec<u32>, OpenFault>
+    requires { IsTrue (D.Disk.is_usable log.old) }
+    ensures { OnlyReads D.Disk log.old log.new }
+{
+    let Ok(length) = log.len() else {
+        return Err(OpenFault::Disk);
+    };
+    let mut pages = Vec::new(alloc);
+    let mut at = HEADER;
+    for _ in 0..u64::MAX {
+        let page = match place_at(log, salt, at, length) {
+            Ok(Place::Frame { page, .. }) => page,
+            Ok(_) => return Ok(pages),
+            Err(_) => return Err(OpenFault::Disk),
+        };
+        let Some(next) = at.checked_add(frame) else {
+            return Ok(pages);
+        };
+        if pages.push(page).is_err() {
+            return Err(OpenFault::NoMemory);
+        }
+        at = next;
+    }
+    Ok(pages)
+}
+
+/// Whether a database file has a page as the frame at an offset of the log has it.
+fn has_page<D: Disk>(
+    alloc: Global,
+    log: &mut D,
+    db: &mut D,
+    at: usize,
+    page: u32,
+    size: usize,
+) -> Result<bool, OpenFault>
+    requires log { IsTrue (D.Disk.is_usable log.old) }
+    requires db { IsTrue (D.Disk.is_usable db.old) }
+    ensures log { OnlyReads D.Disk log.old log.new }
+    ensures db { OnlyReads D.Disk db.old db.new }
+{
+    let (Ok(mut logged), Ok(mut filed)) = (vec![in alloc; 0; size], vec![in alloc; 0; size]) else {
+        return Err(OpenFault::NoMemory);
+    };
+    let number = (page as usize).saturating_sub(1);
+    let (Some(start), Some(content)) = (number.checked_mul(size), at.checked_add(FRAME_HEADER))
+    else {
+        return Ok(false);
+    };
+    match db.len() {
+        Ok(length) if length >= size && start <= length - size => {}
+        Ok(_) => return Ok(false),
+        Err(_) => return Err(OpenFault::Disk),
+    }
+    if log.read_at(content, &mut logged).is_err() || db.read_at(start, &mut filed).is_err() {
+        return Err(OpenFault::Disk);
+    }
+    Ok(logged.as_slice() == filed.as_slice())
+}
+
+/// Whether a database file has the last form of each page of a log's frames.
+fn has_pages<D: Disk>(
+    alloc: Global,
+    log: &mut D,
+    db: &mut D,
+    pages: &[u32],
+    size: usize,
+) -> Result<bool, OpenFault>
+    requires log { IsTrue (D.Disk.is_usable log.old) }
+    requires db { IsTrue (D.Disk.is_usable db.old) }
+    ensures log { OnlyReads D.Disk log.old log.new }
+    ensures db { OnlyReads D.Disk db.old db.new }
+{
+    let mut at = HEADER;
+    for i in 0..pages.len() {
+        let page = pages[i];
+        let is_last = page < COUNT_PAGE && !pages[i + 1..].contains(&page);
+        if is_last && !has_page(alloc, log, db, at, page, size)? {
+            return Ok(false);
+        }
+        at = at.saturating_add(size).saturating_add(FRAME_HEADER);
+    }
+    Ok(true)
+}
+
+/// Looks at a log that is being emptied: where its header is whole but for the first octet, the file has to have what it had.
+fn check_emptied<D: Disk>(
+    alloc: Global,
+    files: &mut Files<D>,
+    header: LogHeader,
+    page_size: PageSize,
+) -> Result<(), OpenFault>
+    requires log { IsTrue (D.Disk.is_usable files.old.log) }
+    requires db { IsTrue (D.Disk.is_usable files.old.db) }
+    ensures log { OnlyReads D.Disk files.old.log files.new.log }
+    ensures db { OnlyReads D.Disk files.old.db files.new.db }
+{
+    let mended = header.mended();
+    if !mended.is_signed() || !mended.is_open() {
+        return Ok(());
+    }
+    let size = page_size.bytes();
+    let pages = pages_of(alloc, &mut files.log, mended.salt(), FRAME_HEADER + size)?;
+    if has_pages(alloc, &mut files.log, &mut files.db, &pages, size)? {
+        Ok(())
+    } else {
+        Err(OpenFault::LogDamaged)
+    }
+}
+
 /// The fault of a log that can't be read.
 fn unread(error: LogError) -> OpenFault {
     match error {
@@ -283,20 +405,26 @@ fn check_frames<D: Disk>(
 /// Looks at the log of a marked file.
 fn check_log<D: Disk>(
     alloc: Global,
-    log: &mut D,
+    files: &mut Files<D>,
     page_size: Option<PageSize>,
 ) -> Result<(), OpenFault>
-    requires { IsTrue (D.Disk.is_usable log.old) }
-    ensures { OnlyReads D.Disk log.old log.new }
+    requires log { IsTrue (D.Disk.is_usable files.old.log) }
+    requires db { IsTrue (D.Disk.is_usable files.old.db) }
+    ensures log { OnlyReads D.Disk files.old.log files.new.log }
+    ensures db { OnlyReads D.Disk files.old.db files.new.db }
 {
     let Some(page_size) = page_size else {
         return Err(OpenFault::Damaged);
     };
-    match log_header(log) {
-        Ok(Some(header)) if header.is_emptied(page_size) => Ok(()),
-        Ok(Some(header)) if header.is_signed() => check_frames(alloc, log, header, page_size),
+    match log_header(&mut files.log) {
+        Ok(Some(header)) if header.is_emptied(page_size) => {
+            check_emptied(alloc, files, header, page_size)
+        }
+        Ok(Some(header)) if header.is_signed() => {
+            check_frames(alloc, &mut files.log, header, page_size)
+        }
         Ok(Some(_)) => Err(OpenFault::LogDamaged),
-        Ok(None) => match log.len() {
+        Ok(None) => match files.log.len() {
             Ok(0) => Err(OpenFault::LogMissing),
             Ok(_) => Err(OpenFault::LogCut),
             Err(_) => Err(OpenFault::Disk),
@@ -339,7 +467,7 @@ pub(crate) fn check_files<D: Disk>(
         return Ok(());
     }
     match file_header(&mut files.db) {
-        Ok(Some(header)) if header.is_marked => check_log(alloc, &mut files.log, header.page_size),
+        Ok(Some(header)) if header.is_marked => check_log(alloc, files, header.page_size),
         Ok(Some(_)) => Ok(()),
         Ok(None) => check_alone(&mut files.log),
         Err(_) => Err(OpenFault::Disk),
