@@ -83,5 +83,5 @@ ChangesGoOn overtake p =
 abbrev pub RestartsGoOn : (overtake : ℕ) → Plant → Type 0
 RestartsGoOn overtake p =
     (i : ℕ) (before : BoundNode) → slice_get p.stations i ≡ Some before → (exact : ℕ) (store : Option Store) (after : BoundNode)
-    → after.node ≡ restarted (clock_at p.time.pace exact).shows (store_after_restart before.node.store store) before.node → after.reuse ≡ before.reuse
+    → after.node ≡ restarted (clock_at p.time.pace exact).shows (store_after_restart before.node.store store) before.node → after.rules ≡ before.rules
     → LeadsTo overtake p (Restarts i exact store) i after

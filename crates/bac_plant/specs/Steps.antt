@@ -110,7 +110,7 @@ pub record AreSent (turns : List Turn) (before after : BoundNode) : Type 0 where
   pub carried : IsCarried (sends_of_all turns) lost before after
   pub node : after.node ≡ before.node
   pub buffer : after.buffer ≡ before.buffer
-  pub reuse : after.reuse ≡ before.reuse
+  pub rules : after.rules ≡ before.rules
 
 -- a station sends what turns hold: that is among the copies
 pub record SendsHeldAt (old : Plant) (i : ℕ) (turns : List Turn) (new : Plant) : Type 0 where
@@ -130,7 +130,7 @@ pub record FailsAt (old : Plant) (i : ℕ) (new : Plant) : Type 0 where
   pub node : after.node ≡ before.node
   pub count : after.failures ≡ one_more before.failures
   pub calls : after.calls ≡ with_call before.calls FailedReceive
-  pub reuse : after.reuse ≡ before.reuse
+  pub rules : after.rules ≡ before.rules
   pub is : new ≡ with_station old i after
 
 -- ---- an ask
@@ -190,7 +190,7 @@ pub record RestartsAt (old : Plant) (i exact : ℕ) (store : Option Store) (new 
   pub at : slice_get old.stations i ≡ Some before
   pub after : BoundNode
   pub node : after.node ≡ restarted (clock_at old.time.pace exact).shows (store_after_restart before.node.store store) before.node
-  pub reuse : after.reuse ≡ before.reuse
+  pub rules : after.rules ≡ before.rules
   pub is : new ≡ record (with_station old i after) { time = with_clock old.time i exact; log = Restarted i store ∷ old.log }
 
 -- ---- steps, one after the other
