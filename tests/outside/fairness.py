@@ -22,12 +22,13 @@ from processes import LOOPBACK
 FIRST, ONE_ID, IN_TURN = LOOPBACK, '127.0.0.2', '127.0.0.3'
 SLOTS, SHARED = 32, 30  # the last sixteenth is reserved
 KINDS = {2: 'done', 3: 'done', 4: 'begun', 5: 'done', 6: 'rejected', 7: 'refused'}  # by the type of the APDU that answers
+BEGINNINGS = {'done', 'begun', 'rejected'}
 WHOLE, SEGMENT = bytes.fromhex('0205'), bytes.fromhex('0E05')
 OCTET = bytes.fromhex('0F00')  # a WriteProperty with too little
 ROUNDS = 20
 MOST = 2000
 LIFE = 65.5  # seconds
-TIMEOUT = 5
+TIMEOUT = 2
 
 
 def write_of(number):
@@ -75,8 +76,8 @@ class Asker:
         return self.ask(head, tail) if self.used else self.anew(head, tail)
 
     def count_begun(self, request_of):
-        """How many requests begin until the first is refused; `request_of` makes one of its number."""
-        return next((number for number in range(MOST) if self.anew(*request_of(number)).startswith('refused')), MOST)
+        """How many requests begin until one does not; `request_of` makes one of its number."""
+        return next((number for number in range(MOST) if self.anew(*request_of(number)) not in BEGINNINGS), MOST)
 
     def fill(self):
         """The flood goes on; short writes, and then ones of an octet, which are rejected and remembered too, take what is left."""
@@ -102,7 +103,7 @@ def is_right(options, begun, later, flood, one_id, in_turn, reads):
     """Whether that is what a server of these options has to give. Octets of the requests that are never ended come back after 8 seconds, and are taken again."""
     is_strict, has_slots = '--strict' in options, '--slots' in options
     refused = 'refused 0' if has_slots else 'refused 9'
-    if not set(flood) <= {'done', 'begun', 'rejected', refused} or flood[refused] < ROUNDS or begun != later:
+    if not set(flood) <= BEGINNINGS | {refused} or flood[refused] < ROUNDS or begun != later:
         return False
     if is_strict:
         return one_id == {refused: 2 * ROUNDS} and in_turn == reads == {refused: ROUNDS} and (begun == SLOTS or not has_slots)
