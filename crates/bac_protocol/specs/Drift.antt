@@ -1,6 +1,6 @@
 -- Where clocks go apart: at the bound on the life of a copy all is right; one part beyond it a request is performed twice, or an ask ends with another's answer.
 -- No time of the machines is changed here, nor any world: each run is one of the definitions, for clocks of that pace.
-use Rattle.std.specs.Prelude.{◌≡◌, ℕ, ◌+◌, ◌≤◌, true, List, [], ◌∷◌, ◌++◌}
+use Rattle.std.specs.Prelude.{◌≡◌, ℕ, ◌+◌, ◌*◌, ◌<◌, ◌≤◌, true, List, [], ◌∷◌, ◌++◌}
 use Rattle.bac_protocol.specs.Times.{DEADLINE, KEEP, REST}
 use Rattle.bac_protocol.specs.Pace.{Pace, most, least, IsTimely, one_clock}
 use Rattle.bac_protocol.specs.Service.Ending.{Expired}
@@ -30,6 +30,10 @@ pub record Lives : Type 0 where
   pub at_hundred : IsTimely (finer 100 4986502)
   pub at_five_hundred : IsTimely (finer 500 4936503)
   pub at_thousand : IsTimely (finer 1000 4874005)
+
+-- they suffice where, in milliseconds, the life, one millisecond and 0.126 of the drift in millionths come to 5,000 at most
+abbrev pub TimesSuffice : Type 0
+TimesSuffice = (p : Pace) → 0 < p.grain → 1000 * p.life + 1000 * p.grain + 126 * (p.drift * p.grain) ≤ 5000000 * p.grain → IsTimely p
 
 -- so much time passes; the client's clock, node 0, goes on by that much, and the server's, node 1
 abbrev pub passes : (by client server : ℕ) → Event

@@ -1,7 +1,7 @@
 //! Clocks that go apart: the bound on the life of a copy, and what goes wrong beyond it.
 
 ghost use Rattle.std.specs.Prelude.{◌≡◌, ℕ, List};
-ghost use Rattle.bac_protocol.specs.Drift.{AllKeepTime, Lives, Twice, Mixed};
+ghost use Rattle.bac_protocol.specs.Drift.{AllKeepTime, Lives, TimesSuffice, Twice, Mixed};
 ghost use Rattle.bac_protocol.specs.Pace.{one_clock};
 ghost use Rattle.bac_protocol.specs.Log.{StoreModel};
 ghost use Rattle.bac_protocol.specs.Transaction.{Key, Rules};
@@ -11,6 +11,11 @@ ghost use Rattle.bac_protocol.specs.World.{Event, run, start, client_now, server
 #[tactic(auto, using(crate::proofs::AtDrift::lives))]
 pub fn lives_of_copies()
     ensures { Lives }
+{}
+
+/// At any pace the times of the machines suffice where L + 1 + 0.126 P <= 5,000: copies live for L milliseconds, and clocks are fast or slow by P millionths.
+pub fn times_suffice()
+    ensures { TimesSuffice }
 {}
 
 /// With clocks that are fast or slow by a part in a thousand, and copies that live for 4,877 ms, a request is performed twice; with 4,876 it is not.
