@@ -16,20 +16,19 @@ ghost use Rattle.bac_store.specs.ReplyLengths.{DATA_LIMIT, reply_length};
 ghost use Rattle.bac_store.specs.Views.{change_view};
 ghost use Rattle.bac_slots.specs.Slots.{value_at};
 ghost use Rattle.bac_transaction.specs.Keys.{same_key};
-ghost use Rattle.bac_transaction.specs.Ends.{first_after, key_of, is_slot_held, is_slot_live, requester_tick, responder_on_apdu, responder_tick};
+ghost use Rattle.bac_transaction.specs.Ends.{key_of, is_slot_held, is_slot_live, requester_tick, responder_on_apdu, responder_tick};
 ghost use Rattle.bac_transaction.specs.Remembering.{responder_remembering};
 ghost use Rattle.bac_transaction.specs.Services.{service_of};
 ghost use Rattle.bac_transaction.specs.Tables.{AreLive, IsOrderlyClient, IsOrderlyServer};
 ghost use Rattle.bac_transaction.specs.Views.{peer_key_view, settings_view};
 ghost use Rattle.bac_protocol.specs.Context.{Settings as Set};
-ghost use Rattle.bac_protocol.specs.declared.times.TheConstants.{KEEP as KEPT_FOR, REST as REST_TIME};
 ghost use Rattle.bac_protocol.specs.Wire.{is_from_client};
 ghost use Rattle.bac_requester.specs.Reactions.{HasNoneOpen};
 ghost use Rattle.bac_requester.specs.Short.{AreRepliesShort};
 ghost use Rattle.bac_responder.specs.Kept.{keeps_no_more, knows};
 ghost use Rattle.bac_responder.specs.Short.{AreRequestsShort};
 ghost use Rattle.bac_world.specs.Keys.{HasKeysApart};
-ghost use Rattle.bac_world.specs.Node.{NodeOn, NodeTick, IsHeardBy, restarted, store_after_restart, with_change};
+ghost use Rattle.bac_world.specs.Node.{NodeOn, NodeTick, IsHeardBy, restarted, with_change};
 ghost use Rattle.bac_world.specs.ReusingNodes.{NodeHears, NodeReusing};
 ghost use Rattle.bac_node.specs.Calls.{Dispatches, IsAsked, IsForNoneOpen, IsNotHeard, IsTickOfBoth, Refuses, ticked};
 ghost use Rattle.bac_node.specs.Fresh.{fresh_node, has_large_slots, has_slots, has_slots_within, made_node, window_fits, with_first_id};
@@ -38,6 +37,8 @@ ghost use Rattle.bac_node.specs.Remembering.{DispatchesRemembering, IsHeardRemem
 ghost use Rattle.bac_node.specs.Views.{outcome_view};
 ghost use Rattle.bac_node.specs.Waiting.{IsDueBy, MovesAt, RestsUntil};
 ghost use Rattle.bac_requester.specs.Timers.{LAST_MOMENT};
+
+mod restarting;
 
 use crate::config::{Config, settings_of, slots_within};
 use crate::ends::empty_ends;
@@ -87,15 +88,6 @@ const MOST_SLOTS: usize = 1_024;
 
 /// How many slots each table of a node with large tables has at the most.
 const MOST_LARGE_SLOTS: usize = 65_536;
-
-/// Puts another store in place of the old one, if there is another one.
-fn put_store(store: &mut Store, other: Option<Store>)
-    ensures { store.new ≡ store_after_restart store.old other }
-{
-    if let Some(other) = other {
-        *store = other;
-    }
-}
 
 impl Node {
     /// A new node with that store. Its latest moment is 0, and its invoke IDs begin at 0. Its tables are allocated here, once for all.
@@ -181,6 +173,7 @@ impl Node {
             alloc,
             config.client_slots,
             config.reply_slots,
+            restart,
             restart,
         )?;
         Ok(Node {
@@ -750,23 +743,6 @@ impl Node {
         ensures err { OnErr result (self.new ≡ self.old) }
     {
         self.store.change(self.alloc, change)
-    }
-
-    /// Restarts the node at a moment in milliseconds, which may be before the latest one: it is then as after `restarted`, with the store that it has, or with
-    /// another one. `NoMemory` where its tables can't be allocated; it is then as before.
-    pub fn restart(&mut self, now: u64, store: Option<Store>) -> Result<(), NoMemory>
-        ensures went { OnOk result (self.new ≡ restarted now (store_after_restart self.old.store store) self.old) }
-        ensures err { OnErr result (self.new ≡ self.old) }
-    {
-        let client_slots = self.clients.capacity();
-        let reply_slots = self.servers.capacity();
-        let (mut clients, servers) = empty_ends(self.alloc, client_slots, reply_slots, Some(now))?;
-        clients.set_first_invoke_id(self.clients.first_id());
-        put_store(&mut self.store, store);
-        self.clients = clients;
-        self.servers = servers;
-        self.latest = now;
-        Ok(())
     }
 
     /// Whether contracts see no difference between two nodes: the same link, settings, latest moment, slots, entries and store.

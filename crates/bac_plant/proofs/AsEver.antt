@@ -5,7 +5,7 @@ use Rattle.bac_world.specs.Node.{Node, Outcome}
 use Rattle.bac_world.specs.ReusingLogs.{Reuses}
 use Rattle.bac_world.specs.ReusingWorlds.{ActsSo, DeliversIfSo, HearsSo, WorldRunSo, WorldStepSo}
 use Rattle.bac_world.specs.World.{Acts, Copy, DeliversIf, Event, Hears, World, WorldRun, WorldStep, is_deliverable}
-use Rattle.bac_world.specs.World.Event.{Ask, AskAway, Deliver, Noise, Stray, Tick, Advance, Change, Restart}
+use Rattle.bac_world.specs.World.Event.{Ask, AskAway, Deliver, Noise, Stray, Tick, Advance, Change, Restart, Begin, BeginAgain}
 
 -- no node lets them
 abbrev pub NONE : Reuses
@@ -15,6 +15,7 @@ acts_ever : (w w' : World) (i : ℕ) (b : Node) (o : Outcome) → ActsSo false w
 acts_ever w w' i b o acts = record {
   nodes = acts.nodes;
   time = acts.time;
+  lives = acts.lives;
   notes = acts.notes;
   sent = acts.sent;
   copies = acts.copies;
@@ -48,6 +49,8 @@ step_ever overtake w (Tick node) w' s = s
 step_ever overtake w (Advance by own) w' s = s
 step_ever overtake w (Change node change) w' s = s
 step_ever overtake w (Restart node exact store) w' s = s
+step_ever overtake w (Begin node exact) w' s = s
+step_ever overtake w (BeginAgain node exact first_id store) w' s = s
 
 pub run_ever : (overtake : ℕ) (w : World) (events : List Event) (w' : World) → WorldRunSo overtake NONE w events w' → WorldRun overtake w events w'
 run_ever overtake w [] w' run = run

@@ -7,7 +7,7 @@ use Rattle.bac_protocol.specs.Pace.{clock_at}
 use Rattle.bac_store.specs.Stores.{Store}
 use Rattle.bac_world.specs.Node.{Node, restarted}
 use Rattle.bac_world.specs.Once.Fact.{Restarted}
-use Rattle.bac_world.specs.World.{with_clock}
+use Rattle.bac_world.specs.World.{with_clock, with_restart}
 use Rattle.bac_journal.proofs.Lists.{get_set}
 use Rattle.bac_driver.specs.BoundNodes.{BoundNode}
 use Rattle.bac_driver.specs.Rounds.{in_order}
@@ -44,7 +44,11 @@ lost_turns_go_on overtake c i before at turn after holds source from = record {
 can_start : (overtake : ℕ) (stands : BoundNode) (s : Store) → s ≡ stands.node.store → CanStart overtake stands s
 can_start overtake stands s same c i at exact after is reuse = record {
   new = record {
-    plant = record (with_station c.plant i after) { time = with_clock c.plant.time i exact; log = Restarted i None ∷ c.plant.log };
+    plant = record (with_station c.plant i after) {
+      time = with_clock c.plant.time i exact;
+      lives = with_restart c.plant.time c.plant.lives i;
+      log = Restarted i None ∷ c.plant.log;
+    };
     losing = with_losing c.losing i None;
   };
   goes = record {

@@ -1,11 +1,13 @@
 -- The nodes of a script can make a network: nothing but memory speaks against it.
-use Rattle.std.proofs.Common.{◌≡◌, ℕ, zero, suc, ◌+◌, ◌-◌, ◌*◌, ◌<◌, ◌≤◌, true, false, List, [], ◌∷◌, ◌++◌, None, Some, slice_get}
+use Rattle.std.proofs.Common.{◌≡◌, ℕ, zero, suc, ◌+◌, ◌-◌, ◌*◌, ◌<◌, ◌≤◌, true, false, List, [], ◌∷◌, ◌++◌, map, None, Some, slice_get}
 use Rattle.std.proofs.Common.{refl, sym, ap, subst, ◌∙◌, arith, append_assoc}
 use Rattle.std.proofs.lemmas.Bool.Decides.{nat_tests}
 use Rattle.bac_apdu.specs.Apdu as plain
 use Rattle.bac_apdu.specs.Views.{limits_view}
 use Rattle.bac_apdu.specs.declared.limits.Limits.{Limits}
-use Rattle.bac_network.specs.Fresh.{fresh_world, nodes_of, opening_of, Maker, HaveSameLink, HasBadSlots, HasBadWindow, IsRefusedFor, PassesBound}
+use Rattle.bac_journal.specs.Lives.{fresh_life}
+use Rattle.bac_journal.specs.declared.lives.Life.{Life}
+use Rattle.bac_network.specs.Fresh.{fresh_world, links_of, nodes_of, opening_of, Maker, HaveSameLink, HasBadSlots, HasBadWindow, IsRefusedFor, PassesBound}
 use Rattle.bac_network.specs.Fresh.{greatest_window}
 use Rattle.bac_network.specs.declared.fault.NewWorldFault.{NewWorldFault}
 use Rattle.bac_network.specs.declared.fault.NewWorldFault.TheVariants as fault
@@ -15,7 +17,7 @@ use Rattle.bac_store.specs.House.{house}
 use Rattle.bac_store.specs.Stores.{Store}
 use Rattle.bac_world.specs.Node.{Node}
 use Rattle.bac_simulate.specs.Lines.{Setting}
-use Rattle.bac_simulate.specs.Houses.{house_node, house_nodes, houses, maker_at, makers_from, world_set}
+use Rattle.bac_simulate.specs.Houses.{fresh_lives, house_node, house_nodes, houses, maker_at, makers_from, world_set}
 use Rattle.bac_simulate.specs.Scripts.{most_limits}
 
 some_is : (x y : Maker) → Some x ≡ Some y → x ≡ y
@@ -99,13 +101,31 @@ opening_is : (limits : Limits) (window first count : ℕ) → opening_of (makers
 opening_is limits window first zero = refl
 opening_is limits window first (suc count) = ap (λ (stores : List Store). house ∷ stores) (opening_is limits window (first + 1) count)
 
-abbrev of_parts : (overtake : ℕ) → List Store → List Node → WorldView
-of_parts overtake opening nodes =
-    record { overtake = overtake; opening = opening; nodes = nodes; time = record { moment = 0; own = None }; copies = []; log = []; notes = [] }
+lives_are : (limits : Limits) (window first count : ℕ) → map fresh_life (links_of (makers_from limits window first count)) ≡ fresh_lives count
+lives_are limits window first zero = refl
+lives_are limits window first (suc count) =
+    ap (λ (lives : List Life). record { active = false; sends_until = 0 } ∷ lives) (lives_are limits window (first + 1) count)
+
+abbrev of_parts : (overtake : ℕ) → List Store → List Node → List Life → WorldView
+of_parts overtake opening nodes lives =
+    record {
+      overtake = overtake;
+      opening = opening;
+      nodes = nodes;
+      time = record { moment = 0; own = None };
+      lives = lives;
+      copies = [];
+      log = [];
+      notes = [];
+    }
+
+abbrev all_of : Limits → Setting → List Maker
+all_of limits s = makers_from limits s.window 0 s.nodes
 
 pub world_made : (limits : Limits) (s : Setting) (overtake : ℕ) (makers : List Maker) (w : WorldView) → limits_view limits ≡ most_limits
     → overtake ≡ s.overtake → makers ≡ makers_from limits s.window 0 s.nodes → w ≡ fresh_world overtake makers → w ≡ world_set s
 world_made limits s overtake makers w e same is made =
     made ∙ (ap (λ (n : ℕ). fresh_world n makers) same ∙ (ap (fresh_world s.overtake) is
-    ∙ (ap (λ (o : List Store). of_parts s.overtake o (nodes_of (makers_from limits s.window 0 s.nodes))) (opening_is limits s.window 0 s.nodes)
-    ∙ ap (of_parts s.overtake (houses s.nodes)) (nodes_are limits s.window 0 s.nodes e))))
+    ∙ (ap (λ (o : List Store). of_parts s.overtake o (nodes_of (all_of limits s)) (map fresh_life (links_of (all_of limits s)))) (opening_is limits s.window 0 s.nodes)
+    ∙ (ap (λ (n : List Node). of_parts s.overtake (houses s.nodes) n (map fresh_life (links_of (all_of limits s)))) (nodes_are limits s.window 0 s.nodes e)
+    ∙ ap (of_parts s.overtake (houses s.nodes) (house_nodes s.window 0 s.nodes)) (lives_are limits s.window 0 s.nodes)))))

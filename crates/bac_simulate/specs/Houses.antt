@@ -4,6 +4,7 @@ use Rattle.std.specs.List.{list_any}
 use Rattle.bac_apdu.specs.Apdu as plain
 use Rattle.bac_apdu.specs.declared.limits.Limits.{Limits}
 use Rattle.bac_journal.specs.Clocks.{fresh_clocks}
+use Rattle.bac_journal.specs.declared.lives.Life.{Life}
 use Rattle.bac_network.specs.Fresh.{Maker}
 use Rattle.bac_network.specs.Histories.{WorldView}
 use Rattle.bac_simulate.specs.Lines.{Setting}
@@ -37,6 +38,11 @@ abbrev pub houses : (count : ℕ) → List Store
 houses zero = []
 houses (suc count) = house ∷ houses count
 
+-- nothing happened at any of so many nodes
+abbrev pub fresh_lives : (count : ℕ) → List Life
+fresh_lives zero = []
+fresh_lives (suc count) = record { active = false; sends_until = 0 } ∷ fresh_lives count
+
 -- nothing has happened in it
 abbrev pub world_set : Setting → WorldView
 world_set s =
@@ -45,6 +51,7 @@ world_set s =
       opening = houses s.nodes;
       nodes = house_nodes s.window 0 s.nodes;
       time = record { moment = 0; own = None };
+      lives = fresh_lives s.nodes;
       copies = [];
       log = [];
       notes = [];

@@ -91,7 +91,8 @@ abbrev pub rate_of : (word : List ℕ) → Option ℕ
 rate_of word = if is_minus word then slow_of (drop 1 word) else fast_of word
 
 -- ---- the lines after it: ask CLIENT SERVER REQUEST, ask CLIENT LINK REQUEST, deliver COPY, lose COPY, noise NODE HEX, stranger NODE LINK HEX, tick NODE,
--- ---- advance MILLISECONDS, clock NODE MILLISECONDS, pace NODE PARTS, set NODE OBJECT PROPERTY HEX, file NODE OBJECT HEX, restart NODE
+-- ---- advance MILLISECONDS, clock NODE MILLISECONDS, pace NODE PARTS, set NODE OBJECT PROPERTY HEX, file NODE OBJECT HEX, restart NODE, begin NODE,
+-- ---- begin again NODE
 
 pub data Statement : Type 0 where
   Ask : (client server : ℕ) (request : Request) → Statement
@@ -103,6 +104,9 @@ pub data Statement : Type 0 where
   SetProperty : (node : ℕ) (object : ObjectId) (property : ℕ) (octets : List ℕ) → Statement
   SetFile : (node : ℕ) (object : ObjectId) (octets : List ℕ) → Statement
   Restart : (node : ℕ) → Statement
+  -- a node at which nothing happened begins, and another program begins where one was, with the store that is there
+  Begin : (node : ℕ) → Statement
+  BeginAgain : (node : ℕ) → Statement
   -- a node asks a stranger, and octets of a stranger come to a node
   AskStranger : (client : ℕ) (link : List ℕ) (request : Request) → Statement
   Stranger : (node : ℕ) (link octets : List ℕ) → Statement
@@ -188,13 +192,20 @@ change_of word node object (octets ∷ []) = with_octets word node object octets
 change_of word node object (property ∷ octets ∷ []) = if bytes_eq word (codes "set") then set_property_of node object property octets else None
 change_of word node object (a ∷ b ∷ c ∷ words) = None
 
--- a node, and one word more
+-- another program begins at a node
+unfoldable pub again_of : (word node : List ℕ) → Option Statement
+again_of word node = do
+  n ← number_of node
+  if bytes_eq word (codes "again") then Some (BeginAgain n) else None
+
+-- a node, and one word more; or two words and a node
 abbrev pub of_node : (word node more : List ℕ) → Option Statement
 of_node word node more =
     if bytes_eq word (codes "noise") then noise_of node more
     else (if bytes_eq word (codes "clock") then clock_of node more
     else (if bytes_eq word (codes "pace") then pace_of node more
-    else None))
+    else (if bytes_eq word (codes "begin") then again_of node more
+    else None)))
 
 -- a word and a number
 unfoldable pub numbered : (word number : List ℕ) → Option Statement
@@ -205,7 +216,8 @@ numbered word number = do
       else (if bytes_eq word (codes "advance") then Some (Advance n)
       else (if bytes_eq word (codes "lose") then Some (Lose n)
       else (if bytes_eq word (codes "restart") then Some (Restart n)
-      else None))))
+      else (if bytes_eq word (codes "begin") then Some (Begin n)
+      else None)))))
 
 abbrev pub statement_of : List (List ℕ) → Option Statement
 statement_of (word ∷ number ∷ []) = numbered word number

@@ -23,6 +23,8 @@ happening_view (event.Tick node) = Happening.Tick node
 happening_view (event.Advance by) = Happening.Advance by
 happening_view (event.Change node change) = Happening.Change node (change_view change)
 happening_view (event.Restart node store) = Happening.Restart node store
+happening_view (event.Begin node) = Happening.Begin node
+happening_view (event.BeginAgain node first_id store) = Happening.BeginAgain node first_id store
 happening_view (event.Stranger node from octets) = Happening.Stranger node from octets.items
 happening_view (event.AskStranger node peer limits request) =
     Happening.AskStranger node (peer_view peer) (limits_view limits) (owned_request_view request)
@@ -47,6 +49,8 @@ statement_view (step.Advance by) = plain_line.Statement.Advance by
 statement_view (step.SetProperty s) = plain_line.Statement.SetProperty s.node (object_identifier_view s.object) s.property s.octets.items
 statement_view (step.SetFile s) = plain_line.Statement.SetFile s.node (object_identifier_view s.object) s.octets.items
 statement_view (step.Restart node) = plain_line.Statement.Restart node
+statement_view (step.Begin node) = plain_line.Statement.Begin node
+statement_view (step.BeginAgain node) = plain_line.Statement.BeginAgain node
 statement_view (step.AskStranger a) = plain_line.Statement.AskStranger a.client a.link (owned_request_view a.request)
 statement_view (step.Stranger s) = plain_line.Statement.Stranger s.node s.link s.octets.items
 statement_view (step.Clock c) = plain_line.Statement.Clock c.node c.start

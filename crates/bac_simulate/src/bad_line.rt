@@ -103,6 +103,7 @@ const EVENTS: &[(&str, &str)] = &[
     ("set", "`set N T:I P HEX`"),
     ("file", "`file N T:I HEX`"),
     ("restart", "`restart N`"),
+    ("begin", "`begin N` or `begin again N`"),
     ("pace", "`pace N P`"),
     ("clock", "`clock N MS`"),
 ];

@@ -28,6 +28,7 @@ pub(crate) fn fault_words(fault: u8) -> &'static str
         3 => "the clock is at its end",
         10 => "the link is a node's",
         11 => "a clock may not be so fast or slow",
+        12 => "the node may not begin now",
         _ => "no memory",
     }
 }

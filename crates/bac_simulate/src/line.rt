@@ -119,6 +119,10 @@ pub enum Statement {
     SetFile(SetFile),
     /// The node of that number restarts, with the store that it has.
     Restart(u64),
+    /// The node of that number begins, where nothing happened at it so far.
+    Begin(u64),
+    /// Another program begins at the link of the node of that number, with the store that is there. Its invoke IDs begin at 0.
+    BeginAgain(u64),
     /// A node asks a stranger.
     AskStranger(AskStranger),
     /// Octets of a stranger come to a node.

@@ -6,7 +6,7 @@ ghost use Rattle.bac_service_text.specs.Reading.{Reads};
 ghost use Rattle.bac_value_text.specs.Numbers.{number_of, number_up_to};
 ghost use Rattle.bac_value_text.specs.Reading.{property_of};
 ghost use Rattle.bac_simulate.specs.Lines.{number_from_one, bounded, setting_with, usual_setting, setting_of};
-ghost use Rattle.bac_simulate.specs.Lines.{setting_at, ask_of, ask_node_of, ask_stranger_of, clock_of, link_of, noise_of, numbered, pace_of, rate_of};
+ghost use Rattle.bac_simulate.specs.Lines.{setting_at, again_of, ask_of, ask_node_of, ask_stranger_of, clock_of, link_of, noise_of, numbered, pace_of, rate_of};
 ghost use Rattle.bac_simulate.specs.Lines.{set_property_of, set_file_of, stranger_of, of_node, change_of, with_octets, statement_of, statement_at};
 ghost use Rattle.bac_simulate.specs.Views.{setting_view, statement_view};
 
@@ -244,6 +244,8 @@ fn with_number(word: &[u8], number: &[u8]) -> Result<Statement, FormFault>
         Ok(Statement::Lose(number))
     } else if word == b"restart".as_slice() {
         Ok(Statement::Restart(number))
+    } else if word == b"begin".as_slice() {
+        Ok(Statement::Begin(number))
     } else {
         Err(FormFault::NoForm)
     }
@@ -337,7 +339,20 @@ fn change(
     }
 }
 
-/// A node, and one word more.
+/// Another program begins at a node.
+#[tactic(auto, unfolding(crate::specs::Lines::again_of))]
+fn again(word: &[u8], node: &[u8]) -> Result<Statement, FormFault>
+    ensures { Reads statement_view result (again_of word.now node.now) }
+{
+    let node = number_or_fault(node)?;
+    if word == b"again".as_slice() {
+        Ok(Statement::BeginAgain(node))
+    } else {
+        Err(FormFault::NoForm)
+    }
+}
+
+/// A node, and one word more; or two words and a node.
 fn of_node(alloc: Global, word: &[u8], node: &[u8], more: &[u8]) -> Result<Statement, FormFault>
     ensures { Reads statement_view result (of_node word.now node.now more.now) }
 {
@@ -347,6 +362,8 @@ fn of_node(alloc: Global, word: &[u8], node: &[u8], more: &[u8]) -> Result<State
         clock(node, more)
     } else if word == b"pace".as_slice() {
         pace(node, more)
+    } else if word == b"begin".as_slice() {
+        again(node, more)
     } else {
         Err(FormFault::NoForm)
     }
@@ -368,8 +385,8 @@ fn statement_in(alloc: Global, words: &[&[u8]]) -> Result<Statement, FormFault>
 
 /// A line after the first one, without its end: `ask CLIENT SERVER` or `ask CLIENT LINK` and the words of a request, `deliver COPY`, `lose COPY`,
 /// `noise NODE HEX`, `stranger NODE LINK HEX`, `tick NODE`, `advance MILLISECONDS`, `clock NODE MILLISECONDS`, `pace NODE PARTS`, `set NODE T:I P HEX`,
-/// `file NODE T:I HEX` or `restart NODE`, separated by single spaces. A LINK is as `192.168.1.20:47808`, and PARTS -1,000 to 1,000 in a million. `NoForm` for
-/// any other line.
+/// `file NODE T:I HEX`, `restart NODE`, `begin NODE` or `begin again NODE`, separated by single spaces. A LINK is as `192.168.1.20:47808`, and PARTS -1,000 to
+/// 1,000 in a million. `NoForm` for any other line.
 pub fn read_statement(alloc: Global, line: &[u8]) -> Result<Statement, FormFault>
     ensures { Reads statement_view result (statement_at line.now) }
 {

@@ -24,6 +24,8 @@ pub(crate) enum Why {
     Passed,
     /// Octets of a stranger came to a node; what it sends to strangers is not followed.
     HeardStranger,
+    /// A node began, of which nothing is noted.
+    Begun,
 }
 
 fn is_young(life: u64, now: u64, copy: &Copy) -> bool
@@ -74,7 +76,9 @@ pub(crate) fn why_nothing(world: &World, event: &Event) -> Why
         Event::Ask { .. }
         | Event::AskStranger { .. }
         | Event::Change { .. }
-        | Event::Restart { .. } => Why::Heard,
+        | Event::Restart { .. }
+        | Event::BeginAgain { .. } => Why::Heard,
+        Event::Begin { .. } => Why::Begun,
     }
 }
 
@@ -90,5 +94,6 @@ pub(crate) fn why_words(why: Why) -> &'static str
         Why::Idle => "idle",
         Why::Passed => "time passed",
         Why::HeardStranger => "heard",
+        Why::Begun => "begun",
     }
 }

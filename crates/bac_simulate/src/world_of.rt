@@ -1,5 +1,5 @@
 //! The network of a script, and its events.
-ghost use Rattle.std.specs.Prelude.{◌≡◌, ◌<◌, IfOk, map};
+ghost use Rattle.std.specs.Prelude.{◌≡◌, ◌<◌, IfOk, None, map};
 ghost use Rattle.std.specs.List.{list_any};
 ghost use Rattle.bac_value.specs.Views.{object_identifier_view};
 ghost use Rattle.bac_apdu.specs.Views.{limits_view};
@@ -7,7 +7,7 @@ ghost use Rattle.bac_store.specs.AtNode.Change.{Value, File};
 ghost use Rattle.bac_network.specs.declared.fault.NewClocksFault.TheVariants as clocks_fault;
 ghost use Rattle.bac_network.specs.declared.fault.NewWorldFault.TheVariants as new_fault;
 ghost use Rattle.bac_service.specs.Views.{owned_request_view};
-ghost use Rattle.bac_simulate.specs.Happenings.Happening.{AskStranger as AsksStranger, Change as Changes, Stranger as OfStranger};
+ghost use Rattle.bac_simulate.specs.Happenings.Happening.{AskStranger as AsksStranger, BeginAgain as BeginsAgain, Change as Changes, Stranger as OfStranger};
 ghost use Rattle.bac_simulate.specs.Houses.{clock_world_set, is_of_clock, link_at, makers_from, script_world, start_after, start_by, starts_from, world_set};
 ghost use Rattle.bac_world.specs.World.{peer_at};
 ghost use Rattle.bac_simulate.specs.Scripts.{IsModest, limits_in, most_limits, said_by};
@@ -256,6 +256,17 @@ fn stranger_ask(ask: AskStranger) -> Event
     }
 }
 
+/// Another program begins at a node, with the store that is there.
+fn begun_again(node: u64) -> Event
+    ensures { happening_view result ≡ BeginsAgain node 0 None }
+{
+    Event::BeginAgain {
+        node: node as usize,
+        first_id: 0,
+        store: None,
+    }
+}
+
 /// What a line says in a world: who asks knows what the other node takes.
 pub(crate) fn said_by(world: &World, step: Statement) -> ScriptLine
     ensures { line_view result ≡ said_by (limits_in world.now.nodes) (statement_view step) }
@@ -286,6 +297,10 @@ pub(crate) fn said_by(world: &World, step: Statement) -> ScriptLine
             node: node as usize,
             store: None,
         }),
+        Statement::Begin(node) => ScriptLine::Happens(Event::Begin {
+            node: node as usize,
+        }),
+        Statement::BeginAgain(node) => ScriptLine::Happens(begun_again(node)),
         Statement::Stranger(stranger) => ScriptLine::Happens(stranger_event(stranger)),
         Statement::AskStranger(ask) => ScriptLine::Happens(stranger_ask(ask)),
         Statement::Clock(clock) => ScriptLine::Began(clock),

@@ -319,6 +319,8 @@ Each later line is an event; nodes and datagrams count from 0:
   set N T:I P HEX      node N gives a property of its store other values
   file N T:I HEX       node N gives a file of its store other octets
   restart N            node N restarts with its store
+  begin N              node N begins; nothing happened there before
+  begin again N        another program begins at the link of node N
   pace N P             N's clock runs P millionths fast, -1000 to 1000
   clock N MS           N's clock begins at MS; before the first event
 

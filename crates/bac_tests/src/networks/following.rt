@@ -22,7 +22,10 @@ struct Deed {
 /// How often something happened in logs.
 #[derive(Clone, Copy)]
 pub(super) struct Counts {
+    /// Restarts, and other programs that began.
     pub(super) restarts: usize,
+    /// The other programs alone; no log tells them from restarts.
+    pub(super) begun_again: usize,
     pub(super) changes: usize,
     /// Changes that were refused, of which no log tells.
     pub(super) refused: usize,
@@ -40,6 +43,7 @@ impl Counts {
     pub(super) fn none() -> Counts {
         Counts {
             restarts: 0,
+            begun_again: 0,
             changes: 0,
             refused: 0,
             performed: 0,
@@ -55,6 +59,7 @@ impl Counts {
     pub(super) fn plus(self, other: Counts) -> Counts {
         Counts {
             restarts: self.restarts.saturating_add(other.restarts),
+            begun_again: self.begun_again.saturating_add(other.begun_again),
             changes: self.changes.saturating_add(other.changes),
             refused: self.refused.saturating_add(other.refused),
             performed: self.performed.saturating_add(other.performed),

@@ -1,5 +1,5 @@
-//! Worlds whose nodes change their stores and restart again and again, by schedules that are made up from a number; and such whose nodes have clocks of their
-//! own and are among strangers. Each log is followed on stores of the test's own, as it grows.
+//! Worlds whose nodes change their stores, restart, and have other programs begin at their links again and again, by schedules that are made up from a number;
+//! and such whose nodes have clocks of their own and are among strangers. Each log is followed on stores of the test's own, as it grows.
 use super::chance::Chance;
 use super::following::{Counts, Followed};
 use super::schedules::{of_nodes, of_strangers};
@@ -16,7 +16,7 @@ const STRANGE_SEEDS: u64 = 12;
 /// Of how many events each is.
 const EVENTS: usize = 400;
 
-/// A world that goes by a schedule, what its log says so far, and how many asks and changes were refused.
+/// A world that goes by a schedule, what its log says so far, how many changes were refused, and how many other programs began.
 #[derive(Drop)]
 struct Going {
     world: World,
@@ -25,6 +25,7 @@ struct Going {
     are_strange: bool,
     line: String,
     changes_refused: usize,
+    begun_again: usize,
 }
 
 impl Going {
@@ -38,6 +39,7 @@ impl Going {
             are_strange,
             line: String::new(alloc),
             changes_refused: 0,
+            begun_again: 0,
         }
     }
 
@@ -52,7 +54,10 @@ impl Going {
     }
 
     fn goes_on(&mut self, alloc: Global) -> bool {
+        let facts = self.world.log().len();
         let went = happens(alloc, &mut self.world, &self.line);
+        let is_begun = self.line.contains("begin again") && self.world.log().len() > facts;
+        self.begun_again = self.begun_again.saturating_add(usize::from(is_begun));
         let is_change = self.line.starts_with("set ") || self.line.starts_with("file ");
         let is_refused = is_change && went == Went::Refused;
         self.changes_refused = self.changes_refused.saturating_add(usize::from(is_refused));
@@ -86,6 +91,7 @@ impl Going {
     fn counts(&self) -> Counts {
         Counts {
             refused: self.changes_refused,
+            begun_again: self.begun_again,
             ..self.followed.counts()
         }
     }
@@ -119,7 +125,11 @@ fn gone_by_strangers(alloc: Global, seed: u64) -> Option<Counts> {
 
 /// Whether enough happened in all worlds.
 fn is_enough(counts: &Counts) -> bool {
-    let happened = counts.restarts.min(counts.changes).min(counts.refused);
+    let happened = counts
+        .restarts
+        .min(counts.begun_again)
+        .min(counts.changes)
+        .min(counts.refused);
     let went_on = counts.performed_anew.min(counts.asked_anew);
     happened.min(counts.performed) >= 100 && went_on.min(counts.answered) >= 50
 }
@@ -138,7 +148,7 @@ fn generated_worlds_with_changes_and_restarts(rt: HostRuntime) -> Result<(), Fai
 
 /// Whether enough happened in all worlds with strangers.
 fn is_strange_enough(counts: &Counts) -> bool {
-    let happened = counts.restarts.min(counts.changes);
+    let happened = counts.restarts.min(counts.begun_again).min(counts.changes);
     let for_nodes = counts.performed.min(counts.answered);
     let for_strangers = counts.served.min(counts.answered_away);
     happened >= 20 && for_nodes >= 10 && for_strangers >= 10

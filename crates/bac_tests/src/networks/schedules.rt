@@ -86,16 +86,28 @@ pub(super) fn restart(line: &mut String, chance: &mut Chance) -> bool {
     write!(line, "{verb} {node}").is_ok()
 }
 
+/// A node begins at which nothing happened, or another program where one was: mostly once all is over that the one before sent.
+fn begin(line: &mut String, chance: &mut Chance) -> bool {
+    let node = chance.below(3);
+    let words = match chance.below(4) {
+        0 => "begin",
+        1 => "begin again",
+        _ => "advance 140000|begin again",
+    };
+    write!(line, "{words} {node}").is_ok()
+}
+
 fn tick(line: &mut String, chance: &mut Chance) -> bool {
     write!(line, "tick {}", chance.below(3)).is_ok()
 }
 
 /// An event among nodes.
 pub(super) fn of_nodes(line: &mut String, chance: &mut Chance, world: &World) -> bool {
-    match chance.below(22) {
+    match chance.below(23) {
         0..=2 => ask(line, chance),
         3 => restart(line, chance),
         20 | 21 => change(line, chance),
+        22 => begin(line, chance),
         4 | 5 => pause(line, chance),
         6..=8 => tick(line, chance),
         _ => deliver(line, chance, world.copies().len(), 8),

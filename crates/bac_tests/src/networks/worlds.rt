@@ -66,7 +66,7 @@ pub(super) fn clock_world(alloc: Global, starts: &[u32]) -> Option<World> {
 /// How a line went.
 #[derive(Clone, Copy, PartialEq)]
 pub(super) enum Went {
-    /// It happened, or there is no such copy.
+    /// It happened, or there is no such copy, or the node may not begin yet.
     On,
     /// An ask or a change was refused.
     Refused,
@@ -78,10 +78,11 @@ fn how_went(out: &[u8]) -> Went {
     if out.starts_with(b"refused ") {
         return Went::Refused;
     }
-    if out.starts_with(b"line ") && out != b"line 1: fault 2\n".as_slice() {
-        return Went::Wrong;
+    match out {
+        b"line 1: fault 2\n" | b"line 1: fault 12\n" => Went::On,
+        _ if out.starts_with(b"line ") => Went::Wrong,
+        _ => Went::On,
     }
-    Went::On
 }
 
 /// A line of a script happens.
