@@ -12,14 +12,16 @@
  * - A call whose node is const leaves the node as it was. Even so, no other call of that node may run beside it.
  * - Moments are milliseconds of one clock that never goes back, from any start.
  * - A link is four octets of IPv4 address and two of UDP port, the high one first, as sockaddr_in has them.
- * - Octets are given by address and number, and stay the caller's. A call that copies octets out returns how many there are; where they are more than there is
- *   room, it copies none.
+ * - Octets are given by address and number, and stay the caller's. A call that copies octets out tells how many there are, by what it returns or, where it
+ *   returns a status, in *len. If they are more than there is room for, it copies none.
  * - What came of a call (bac_sends to bac_cause) is there to be read until the next bac_on, bac_tick, bac_ask_.., bac_start.. or bac_close that succeeds. So
  *   read all of it after each.
  *
  * What the program promises (nothing checks it)
  * - Each pointer is valid for the call, never null (but that of bac_close), also where the number is 0, and no two of one call overlap. A bool is 0 or 1.
  * - One call at a time for a node: from any thread, under one lock, and none from a signal handler. Two nodes share nothing but the heap.
+ * - That nothing is performed twice also needs these: the moment of bac_on is read after the datagram came, with its true sender; each datagram of a call is
+ *   sent once, at once, and never again; none is given to bac_on long after it came, not even again after BAC_NO_MEMORY. docs/C.md says more.
  */
 #ifndef BAC_H
 #define BAC_H
@@ -74,7 +76,7 @@ typedef enum bac_status {
 
 /* What a node is made of. Set it by BAC_SETTINGS, and then the members that are to be others. */
 typedef struct bac_settings {
-    size_t size;           /* sizeof(bac_settings): by this the library knows a program of another version, and refuses its settings */
+    size_t size;           /* sizeof(bac_settings), 48 in each version from 1.1 on: a library refuses settings of another size (BAC_BAD_SETTINGS) */
     uint8_t link[6];       /* its own link */
     uint8_t max_apdu;      /* the longest APDU that it takes: 0 to 5 for 50, 128, 206, 480, 1024 and 1476 octets */
     bool takes_segments;   /* whether it takes replies in segments */
@@ -86,12 +88,14 @@ typedef struct bac_settings {
                               Each takes 30 octets from the start, and some 240 in all while it remembers a short reply */
     bool reuse_invoke_ids; /* whether a client, of another make say, may use an invoke ID again as soon as its transaction is over (clause 5.4).
                               false: for 65,000 ms an equal request of the same peer under the same invoke ID gets the old answer and is not performed, a read
-                              too; another one is answered by Abort 0. So a peer gets at most 256 new requests in 65,000 ms.
+                              too (no answer if that went in segments, and was acknowledged or aborted); another one is answered by Abort 0. So a peer gets
+                              at most 256 new requests in 65,000 ms.
                               true: a read whose reply is one APDU is performed each time that it comes, and takes no slot; a longer reply holds its slot until
-                              its last segment is acknowledged, or the peer aborts it. Another request ends the kept reply and is performed. A write that
-                              equals the last request of the same peer under its invoke ID, within 65,000 ms, is a repeat: it gets the old answer and is not
-                              performed again, even if bac_set_value changed the value since.
-                              So is a request in segments, if the last one had the same service and first segment, or more than 256 segments */
+                              its last segment is acknowledged, or the peer aborts it. A different request of that peer under that invoke ID ends the kept
+                              reply and is performed. A write that equals the last request of the same peer under its invoke ID, within 65,000 ms, is a
+                              repeat: it gets the old answer and is not performed again, even if bac_set_value changed the value since. A request in
+                              segments counts as a repeat if the last request came in segments too, and either begins with the same service and first
+                              segment, or had more than 256 segments. Later segments are not compared */
     uint8_t later[3];      /* 0: room for members of later versions */
     uint32_t memory;       /* how many octets of requests and replies it keeps for those that ask it, 65,540 and more; 0: 67,108,864. Set 131,072 or more: a
                               new request, and each of its segments, is heard only if 65,539 octets are free beside its own; otherwise bac_on answers
@@ -296,8 +300,8 @@ bac_status bac_add_kept(bac_node *node, uint64_t place, const uint8_t *octets, s
  * limits and lists of values do not matter here. A cell has no effect if its property or file is gone, or if the network may no longer write it.
  * The statuses are those of bac_start_restarted, and after these BAC_BAD_VALUE if a cell does not fit. Of a property: it has another kind now. Of a file: a
  * part is missing, a part has a wrong length (the last one 1 to 1,024 octets, each before it 1,024), or all parts have more than 60,000 octets. Memory may be
- * refused before that. With BAC_BAD_VALUE, and only then, the place of that cell is written to place: of a file that of the number of its parts. All stays
- * listed, and you may list another cell of that place before the next start. */
+ * refused before that. With BAC_BAD_VALUE, and only then, the place of that cell is written to *place; of a file, the place of the cell that holds the
+ * number of its parts. All stays listed, and you may list another cell of that place before the next start. */
 bac_status bac_start_kept(bac_node *node, const bac_settings *settings, uint64_t now, uint64_t *place);
 
 /* The same with objects of any type, as bac_start_described_restarted. */
@@ -326,13 +330,15 @@ uint64_t bac_next_due(const bac_node *node);
  * BAC_CLOCK_BACK, BAC_SELF_PEER, BAC_TOO_LONG, BAC_NEEDS_SEGMENTS, BAC_NO_INVOKE_ID and BAC_NO_SLOT that holds, or BAC_NO_MEMORY: memory may be refused before
  * these are looked at. The ticket is written with BAC_OK alone. */
 
+/* Reads a property, or one element of it. */
 bac_status bac_ask_read(bac_node *node, uint64_t now, const bac_target *target, const bac_reference *reference, uint64_t *ticket);
 
-/* priority: 1 to 16, or 0 for none */
+/* Writes values, as octets of data (clause 20.2), to a property or one element of it. priority: 1 to 16, or 0 for none */
 bac_status bac_ask_write(bac_node *node, uint64_t now, const bac_target *target, const bac_reference *reference, const uint8_t *octets, size_t len,
                          uint8_t priority, uint64_t *ticket);
 
-/* file: the instance of a file object. position: where the octets go, -1 at the end (an append). 2^32 octets or more are BAC_BAD_REQUEST. */
+/* Puts octets into a file. file: the instance of a file object. position: where the octets go, -1 at the end (an append). 2^32 octets or more are
+ * BAC_BAD_REQUEST. */
 bac_status bac_ask_put(bac_node *node, uint64_t now, const bac_target *target, uint32_t file, int64_t position, const uint8_t *octets, size_t len,
                        uint64_t *ticket);
 
@@ -343,21 +349,23 @@ static inline bac_status bac_ask_append(bac_node *node, uint64_t now, const bac_
     return bac_ask_put(node, now, target, file, -1, octets, len, ticket);
 }
 
+/* Gets at most count octets of a file, from the position on. */
 bac_status bac_ask_get(bac_node *node, uint64_t now, const bac_target *target, uint32_t file, int64_t position, uint64_t count, uint64_t *ticket);
 
 /* ---- what came of the last call */
 
-/* How many datagrams are to be sent, and each, in order: where it goes, and its octets (at most 1,514). At an index that is not below bac_sends 0, and nothing
- * is written. */
+/* How many datagrams are to be sent, and each, in order: where it goes, and its octets (at most 1,514). If the index is not below what bac_sends returns,
+ * bac_send returns 0 and writes nothing. */
 size_t bac_sends(const bac_node *node);
 size_t bac_send(const bac_node *node, size_t index, uint8_t to[6], uint8_t *out, size_t room);
 
-/* How many asks have ended, and how each did, with the octets that came: look after each bac_on and each bac_tick. At an index that is not below bac_ends 0,
- * and nothing is written. */
+/* How many asks have ended, and how each did, with the octets that came (at most 65,535): look after each bac_on and each bac_tick. At an index that is not
+ * below bac_ends 0, and nothing is written. */
 size_t bac_ends(const bac_node *node);
 size_t bac_end(const bac_node *node, size_t index, bac_ending *ending, uint8_t *out, size_t room);
 
-/* The request that was performed, with the octets that it asks to write: where act->service is 7 or 15 and act->done holds, they were written: act on it. */
+/* The request that was performed, with the octets that it asks to write (at most 65,535; where act->done holds, at most 4,096 of a property, 60,000 of a
+ * file). Where act->service is 7 or 15 and act->done holds, they were written: act on it. */
 size_t bac_performed(const bac_node *node, bac_act *act, uint8_t *out, size_t room);
 
 /* Whether that request wrote something; if so, written says what: a property, or, with BAC_WHOLE in place of its number, the octets of a file. Otherwise
@@ -368,7 +376,7 @@ bool bac_written(const bac_node *node, bac_reference *written);
  * network message, 5 no APDU, 6 from the node's own link. */
 uint32_t bac_cause(const bac_node *node);
 
-/* ---- the node's own store: a change and a read take no time, send nothing, and leave what is there to be read of the last call
+/* ---- the node's own store: a change and a read have no moment among their arguments, send nothing, and leave what is there to be read of the last call
  *
  * BAC_NOT_OPEN; BAC_NOT_STARTED; BAC_BAD_REQUEST exactly where a type is above 1,023 or an instance above 4,194,303; then what each call names.
  * BAC_NO_MEMORY only where there are octets to copy. */
