@@ -2,7 +2,7 @@
 use Rattle.std.proofs.Common.{◌≡◌, ℕ, zero, suc, ◌+◌, Bool, List, [], ◌∷◌, Option, Some, None, refl, ap, ◌∙◌}
 use Rattle.std.specs.Option.{option_map}
 use Rattle.bac_simulate.specs.Lines.{Statement, statement_at}
-use Rattle.bac_simulate.specs.Lines.Statement.{Ask, Deliver, Lose, Noise, Tick, Advance, SetProperty, SetFile, Restart, AskStranger, Stranger, Clock, Pace}
+use Rattle.bac_simulate.specs.Lines.Statement.{Ask, Deliver, Lose, Noise, Tick, Advance, SetProperty, SetFile, Restart, AskStranger, Stranger, Clock, Pace, Begin, BeginAgain}
 use Rattle.bac_apdu.specs.Apdu as plain
 use Rattle.bac_simulate.specs.Happenings.{Happening}
 use Rattle.bac_simulate.specs.Houses.{house_nodes}
@@ -31,6 +31,8 @@ same_event f g same (AskStranger client link request) = refl
 same_event f g same (Stranger node link octets) = refl
 same_event f g same (Clock node start) = refl
 same_event f g same (Pace node rate) = refl
+same_event f g same (Begin node) = refl
+same_event f g same (BeginAgain node) = refl
 
 same_step : (f g : NodeLimits) → ((node : ℕ) → f node ≡ g node) → (o : Option Statement) → option_map (said_by f) o ≡ option_map (said_by g) o
 same_step f g same None = refl

@@ -24,4 +24,4 @@ pub returns-in_ok-print_end-in-None : goal.returns-in_ok-print_end-in-None
 returns-in_ok-print_end-in-None g c =
     let told = c.in-Err.ensures in
     fault_told c.args.style c.args.line c.args.event.now c.in-Err.fault c.args.world.now c.step.new.self _ _ _ (sym c.change_fault_in.ensures ∙ c.in-None.is)
-    told.node told.datagram told.link told.clock told.change told.memory told.err c.number-in-None.ensures c.in_ok-print_end-in-None.ensures
+    told.node told.datagram told.link told.clock told.soon told.change told.memory told.err c.number-in-None.ensures c.in_ok-print_end-in-None.ensures

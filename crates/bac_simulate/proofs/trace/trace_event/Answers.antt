@@ -76,7 +76,7 @@ returns g c =
       (
         subst (λ (b : Bool). Steps in_marks c.args.line b (Happens (happening_view e)) c.args.world.now c.step.new.self []) (sym c.stops.ensures)
             (fails in_marks c.args.line e c.in-Err.fault c.args.world.now c.step.new.self [] (sym c.change_fault_in.ensures ∙ c.in-None.is) told.node
-            told.datagram told.link told.clock told.change told.memory told.err refl),
+            told.datagram told.link told.clock told.soon told.change told.memory told.err refl),
         sym (append-nil (map mark_view c.args.marks.now.items)),
       ),
     )
