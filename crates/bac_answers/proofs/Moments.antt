@@ -16,7 +16,7 @@ use Rattle.bac_world.specs.ReusingLogs.{IsOnceSo, Reuses}
 use Rattle.bac_world.specs.ReusingWorlds.{ActsSo, AreLoggedSo, DeliversIfSo, IsServedSo, WorldRunSo, WorldStepSo}
 use Rattle.bac_world.specs.Services as service
 use Rattle.bac_world.specs.World.{AreEnded, Copy, Event, IsBounded, IsFresh, IsLogged, IsServedTo, Note, World, ending_fact, is_away, is_deliverable, stores_of}
-use Rattle.bac_world.specs.World.Event.{Advance, Ask, AskAway, Change, Deliver, Noise, Restart, Stray, Tick}
+use Rattle.bac_world.specs.World.Event.{Advance, Ask, AskAway, Begin, BeginAgain, Change, Deliver, Noise, Restart, Stray, Tick}
 use Rattle.bac_world.proofs.Headline.{headline_so}
 use Rattle.bac_world.proofs.Steps.{acts_as}
 use Rattle.bac_answers.specs.Answers.{WasReply}
@@ -176,6 +176,8 @@ module _ (n : ℕ) (r : Request) (p : Reply) (before : List Fact) where
     by_step overtake u (Advance by own) w s there = inl (subst (λ (l : List Fact). StandsIn l) (ap (λ (y : World). y.log) s) there)
     by_step overtake u (Change i c) w s there = by_fact (Changed i c) w.log (λ e. absurd cc) s.log there
     by_step overtake u (Restart i exact store) w s there = by_fact (Restarted i store) w.log (λ e. absurd cc) s.log there
+    by_step overtake u (Begin i exact) w s there = inl (subst (λ (y : World). StandsIn y.log) s.is there)
+    by_step overtake u (BeginAgain i exact first_id store) w s there = by_fact (Restarted i store) w.log (λ e. absurd cc) s.log there
 
   -- so it was there at the beginning of a run, or entered at a moment of it
   record EntersIn (overtake : ℕ) (u : Reuses) (first : World) (events : List Event) (last : World) : Type 0 where

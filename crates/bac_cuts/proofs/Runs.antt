@@ -23,6 +23,7 @@ again old i exact new a =
       at = s.at;
       nodes = subst (λ (x : Store). IsWithNode old.nodes i (restarted (clock_at old.time.pace exact).shows x s.before) new.nodes) (sym same) s.nodes;
       time = s.time;
+      lives = s.lives;
       copies = s.copies;
       notes = s.notes;
       log = s.log;

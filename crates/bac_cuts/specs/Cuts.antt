@@ -6,7 +6,7 @@ use Rattle.bac_world.specs.Node.{Node, restarted}
 use Rattle.bac_world.specs.Once.Fact.{Restarted}
 use Rattle.bac_world.specs.ReusingLogs.{Reuses}
 use Rattle.bac_world.specs.ReusingWorlds.{WorldRunSo, WorldStepSo}
-use Rattle.bac_world.specs.World.{World, Event, WorldStep, WorldRun, IsWithNode, stores_of, with_clock}
+use Rattle.bac_world.specs.World.{World, Event, WorldStep, WorldRun, IsWithNode, stores_of, with_clock, with_restart}
 
 -- an event as it was; a cut while the node does nothing; a cut in the midst of what the node does at an event. The clock of the node begins anew, at that real
 -- time.
@@ -21,6 +21,7 @@ pub record Starts (old : World) (i exact : ℕ) (s : Store) (new : World) : Type
   pub at : slice_get old.nodes i ≡ Some before
   pub nodes : IsWithNode old.nodes i (restarted (clock_at old.time.pace exact).shows s before) new.nodes
   pub time : new.time ≡ with_clock old.time i exact
+  pub lives : new.lives ≡ with_restart old.time old.lives i
   pub copies : new.copies ≡ old.copies
   pub notes : new.notes ≡ old.notes
   pub log : new.log ≡ Restarted i None ∷ old.log

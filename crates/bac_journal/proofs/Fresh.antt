@@ -1,5 +1,5 @@
 -- What is kept of nodes that have asked nothing.
-use Rattle.std.proofs.Common.{◌≡◌, ℕ, ◌⊎◌, List, [], ◌∷◌, ◌++◌, length, Option, Some, None, slice_get, refl, sym, ap, subst, inl, inr, ◌∙◌}
+use Rattle.std.proofs.Common.{◌≡◌, false, ℕ, zero, suc, ◌+◌, ◌<◌, ◌⊎◌, arith, map, take, List, [], ◌∷◌, ◌++◌, length, Option, Some, None, slice_get, refl, sym, ap, subst, inl, inr, ◌∙◌}
 use Rattle.std.specs.Prelude.{option_and_then}
 use Rattle.std.specs.Option.{option_map}
 use Rattle.std.proofs.lemmas.List.{length-map}
@@ -11,6 +11,8 @@ use Rattle.bac_journal.specs.declared.asks.Cell.{Cell}
 use Rattle.bac_journal.specs.declared.asks.Row.{Row}
 use Rattle.bac_journal.specs.Index.{cell_at, cell_in, cells_of, number_at, newest_at, places_of, ArePlaces}
 use Rattle.bac_journal.specs.Journals.{AreEmpty, AreFresh, IsFreshRow}
+use Rattle.bac_protocol.specs.Service.{Octets}
+use Rattle.bac_journal.specs.Lives.{fresh_life}
 use Rattle.bac_journal.specs.Records.{IsKept}
 use Rattle.bac_journal.proofs.Lists.{get_push, get_push_other}
 
@@ -77,3 +79,14 @@ empty_push pages p all empty s q at = go (decide_number s (length pages))
         let same : p ≡ q = let e : Some p ≡ Some q = sym (get_push pages p) ∙ ap (slice_get (pages ++ p ∷ [])) (sym is) ∙ at in cc in
         ap (λ (v : Vec Cell). v.items) (sym same) ∙ empty
     go (inr ne) = all s q (sym (get_push_other pages p s ne) ∙ at)
+
+-- one life more
+pub fresh_more : (links : List Octets) (i : ℕ) → i < length links
+    → map fresh_life (take (i + 1) links) ≡ map fresh_life (take i links) ++ record { active = false; sends_until = 0 } ∷ []
+fresh_more links i h = ap (λ n. map fresh_life (take n links)) (let on : i + 1 ≡ suc i = omega arith in on) ∙ go links i h
+  where
+    go : (ls : List Octets) (k : ℕ) → k < length ls
+        → map fresh_life (take (suc k) ls) ≡ map fresh_life (take k ls) ++ record { active = false; sends_until = 0 } ∷ []
+    go [] k lt = absurd (omega (arith, lt))
+    go (l ∷ ls) zero lt = refl
+    go (l ∷ ls) (suc k) lt = ap (λ t. fresh_life l ∷ t) (go ls k (omega (arith, lt)))

@@ -1,6 +1,6 @@
 -- What is known of each world that a run of a fresh one leads to.
 use Rattle.std.proofs.Common.{◌≡◌, ℕ, suc, ◌+◌, ◌<◌, ◌≤◌, ◌⊎◌, Bool, true, false, List, [], ◌∷◌, Option, Some, None, slice_get, if◌then◌else◌}
-use Rattle.std.proofs.Common.{nat_eq, nat_lt, refl, sym, ap, subst, inl, inr, ◌∙◌, arith}
+use Rattle.std.proofs.Common.{min, nat_eq, nat_lt, refl, sym, ap, subst, inl, inr, ◌∙◌, arith}
 use Rattle.std.proofs.lemmas.Bool.Decides.{nat_tests}
 use Rattle.std.specs.Option.{option_map}
 use Rattle.bac_apdu.specs.Apdu.{Apdu, Limits}
@@ -8,9 +8,9 @@ use Rattle.bac_npdu.specs.Peers.{PeerView}
 use Rattle.bac_service.specs.Values.{Request, choice_of}
 use Rattle.bac_service.specs.Services.{reads_reply}
 use Rattle.bac_store.specs.AtNode as at_node
-use Rattle.bac_store.specs.Stores.{Store}
 use Rattle.bac_protocol.specs.Context.{Settings}
-use Rattle.bac_protocol.specs.Pace.{Clock, IsShown, IsTimely, clock_at, goes_on}
+use Rattle.bac_protocol.specs.Pace.{Clock, IsShown, IsTimely, clock_at, goes_on, most}
+use Rattle.bac_protocol.specs.declared.times.TheConstants.{DEADLINE}
 use Rattle.bac_protocol.specs.Service.{Octets, Readable}
 use Rattle.bac_protocol.specs.Wire.{is_from_client}
 use Rattle.bac_protocol.specs.Transaction.{Rules}
@@ -26,11 +26,12 @@ use Rattle.bac_world.specs.Node.{Node, Outcome, IsDropped, NodeTick, NodeAsks, w
 use Rattle.bac_world.specs.ReusingLogs.{IsOnceSo, Reuses}
 use Rattle.bac_world.specs.ReusingNodes.{NodeHears}
 use Rattle.bac_world.specs.ReusingWorlds.{DeliversIfSo, HearsSo, WorldRunSo, WorldStepSo}
-use Rattle.bac_world.specs.World.{World, Time, Event, Copy, told, passes, with_clock, link_at, stores_of, peer_at, is_deliverable, IsWithNode, IsOutside, IsChanged, IsRestarted}
+use Rattle.bac_world.specs.World.{World, Time, Event, Copy, told, passes, with_clock, link_at, stores_of, peer_at, is_deliverable, IsWithNode, IsOutside, IsChanged, IsBegun}
+use Rattle.bac_world.specs.World.{Life, with_act, with_life}
 use Rattle.bac_world.specs.World.{Note}
 use Rattle.bac_transaction.specs.Sends.{Datagram}
 use Rattle.bac_world.specs.World.{WorldRun, IsFresh, IsBounded}
-use Rattle.bac_world.specs.World.Event.{Ask, AskAway, Deliver, Noise, Stray, Tick, Advance, Change, Restart}
+use Rattle.bac_world.specs.World.Event.{Ask, AskAway, Deliver, Noise, Stray, Tick, Advance, Change, Restart, Begin, BeginAgain}
 use Rattle.bac_world.proofs.Pairs.{IsPaired, pairwise_get}
 use Rattle.bac_world.proofs.Bridge.{IsCopyOf, IsBetween, framed_means}
 use Rattle.bac_world.proofs.Steps.{Over, decide_number, each_with}
@@ -110,15 +111,26 @@ record Tidy (w : World) : Type 0 where
   right : IsRightTime w.time
   punctual : (i : ℕ) (a : Node) → slice_get w.nodes i ≡ Some a → a.latest ≤ told w i
   counted : (i : ℕ) (a : Node) → slice_get w.nodes i ≡ Some a → a.clients.asked ≤ tickets_of i w.notes
+  idle : (i : ℕ) (a : Node) → slice_get w.nodes i ≡ Some a → (w.lives i).active ≡ false → a.latest ≡ 0
+
+-- something happens at one node
+record Touches (w w' : World) (i : ℕ) : Type 0 where
+  life : Life
+  is : w'.lives ≡ with_life w.lives i life
+  active : life.active ≡ true
+
+acts_there : (w w' : World) (i : ℕ) → w'.lives ≡ with_act w.lives i → Touches w w' i
+acts_there w w' i is = record { life = record { active = true; sends_until = (w.lives i).sends_until }; is = is; active = refl }
 
 -- one node went on, and more asks of it were noted; the other nodes' clocks show the same
-tidy_with : (w w' : World) → Tidy w → (i : ℕ) (b : Node) → IsWithNode w.nodes i b w'.nodes → IsRightTime w'.time
+tidy_with : (w w' : World) → Tidy w → (i : ℕ) (b : Node) → Touches w w' i → IsWithNode w.nodes i b w'.nodes → IsRightTime w'.time
     → ((j : ℕ) → (j ≡ i → ⊥) → told w' j ≡ told w j) → b.latest ≡ told w' i → b.clients.asked ≤ tickets_of i w'.notes
     → ((j : ℕ) → (j ≡ i → ⊥) → tickets_of j w'.notes ≡ tickets_of j w.notes) → Tidy w'
-tidy_with w w' t i b nodes right tells latest mine others = record {
+tidy_with w w' t i b touches nodes right tells latest mine others = record {
   right = right;
   punctual = λ j c at'. later j c at' (decide_number j i);
   counted = λ j c at'. counts j c at' (decide_number j i);
+  idle = λ j c at' off. unmoved j c at' (nat_eq j i) refl (subst (λ (f : ℕ → Life). (f j).active ≡ false) touches.is off);
 }
   where
     here : (j : ℕ) (c : Node) → slice_get w'.nodes j ≡ Some c → j ≡ i → b ≡ c
@@ -135,23 +147,29 @@ tidy_with w w' t i b nodes right tells latest mine others = record {
         let same : told w' j ≡ told w j = tells j ne in
         omega arith
 
+    unmoved : (j : ℕ) (c : Node) → slice_get w'.nodes j ≡ Some c → (b : Bool) → nat_eq j i ≡ b
+        → (if b then touches.life else w.lives j).active ≡ false → c.latest ≡ 0
+    unmoved j c at' true e off = absurd (let no : true ≡ false = sym touches.active ∙ off in cc)
+    unmoved j c at' false e off =
+        t.idle j c (sym (nodes.others j (λ same. let is : j ≡ i = same in grind (arith, nat_tests))) ∙ at') off
+
     counts : (j : ℕ) (c : Node) → slice_get w'.nodes j ≡ Some c → ((j ≡ i) ⊎ (j ≡ i → ⊥)) → c.clients.asked ≤ tickets_of j w'.notes
     counts j c at' (inl is) = subst (λ (k : ℕ). c.clients.asked ≤ tickets_of k w'.notes) (sym is)
         (subst (λ (n : Node). n.clients.asked ≤ tickets_of i w'.notes) (here j c at' is) mine)
     counts j c at' (inr ne) = subst (λ (k : ℕ). c.clients.asked ≤ k) (sym (others j ne)) (t.counted j c (sym (nodes.others j ne) ∙ at'))
 
 -- where time stays
-tidy_still : (w w' : World) → Tidy w → (i : ℕ) (b : Node) → IsWithNode w.nodes i b w'.nodes → w'.time ≡ w.time → b.latest ≡ told w i
+tidy_still : (w w' : World) → Tidy w → (i : ℕ) (b : Node) → Touches w w' i → IsWithNode w.nodes i b w'.nodes → w'.time ≡ w.time → b.latest ≡ told w i
     → b.clients.asked ≤ tickets_of i w'.notes → ((j : ℕ) → (j ≡ i → ⊥) → tickets_of j w'.notes ≡ tickets_of j w.notes) → Tidy w'
-tidy_still w w' t i b nodes time latest mine others = tidy_with w w' t i b nodes (subst IsRightTime (sym time) t.right) (λ j ne. tells j)
+tidy_still w w' t i b touches nodes time latest mine others = tidy_with w w' t i b touches nodes (subst IsRightTime (sym time) t.right) (λ j ne. tells j)
     (latest ∙ sym (tells i)) mine others
   where
     tells : (j : ℕ) → told w' j ≡ told w j
     tells j = ap (λ (y : Time). (y.clocks j).shows) time
 
-tidy_acts : (w w' : World) → Tidy w → (i : ℕ) (a b : Node) → slice_get w.nodes i ≡ Some a → IsWithNode w.nodes i b w'.nodes → w'.time ≡ w.time
+tidy_acts : (w w' : World) → Tidy w → (i : ℕ) (a b : Node) → Touches w w' i → slice_get w.nodes i ≡ Some a → IsWithNode w.nodes i b w'.nodes → w'.time ≡ w.time
     → w'.notes ≡ w.notes → IsCounted (told w i) 0 a b → Tidy w'
-tidy_acts w w' t i a b at nodes time notes f = tidy_still w w' t i b nodes time f.latest
+tidy_acts w w' t i a b touches at nodes time notes f = tidy_still w w' t i b touches nodes time f.latest
     (subst (λ notes. b.clients.asked ≤ tickets_of i notes) (sym notes) as_many) (λ j ne. ap (tickets_of j) notes)
   where
     as_many : b.clients.asked ≤ tickets_of i w.notes
@@ -161,7 +179,7 @@ tidy_acts w w' t i a b at nodes time notes f = tidy_still w w' t i b nodes time 
         omega arith
 
 tidy_hears : (reuse : Bool) (w w' : World) → Tidy w → (i : ℕ) (from octets : Octets) → HearsSo reuse w i from octets w' → Tidy w'
-tidy_hears reuse w w' t i from octets h = tidy_acts w w' t i h.before h.after h.at h.acts.nodes h.acts.time h.acts.notes
+tidy_hears reuse w w' t i from octets h = tidy_acts w w' t i h.before h.after (acts_there w w' i h.acts.lives) h.at h.acts.nodes h.acts.time h.acts.notes
     (on_counted reuse (told w i) from octets h.before h.after h.outcome h.on)
 
 -- a ticket is among those with it
@@ -183,7 +201,7 @@ away i j ne = go (nat_eq i j) refl
     go false e = refl
 
 -- an ask of a peer was noted
-module _ (w w' : World) (t : Tidy w) (i : ℕ) (peer : PeerView) (limits : Limits) (r : Request) (a b : Node) (at : slice_get w.nodes i ≡ Some a)
+module _ (w w' : World) (t : Tidy w) (i : ℕ) (touches : Touches w w' i) (peer : PeerView) (limits : Limits) (r : Request) (a b : Node) (at : slice_get w.nodes i ≡ Some a)
     (accepted : Accepted) (ds : List Datagram) (k : NodeAsks (told w i) peer limits r a b accepted ds) (nodes : IsWithNode w.nodes i b w'.nodes)
     (time : w'.time ≡ w.time) (note : Note) (client : note.key.client ≡ i) (ticket : note.ticket ≡ accepted.ticket) (notes : w'.notes ≡ note ∷ w.notes) where
   counted : IsCounted (told w i) 1 a b
@@ -205,7 +223,7 @@ module _ (w w' : World) (t : Tidy w) (i : ℕ) (peer : PeerView) (limits : Limit
   tickets_in y j = if y then with_ticket note.ticket (tickets_of j w.notes) else tickets_of j w.notes
 
   tidy_noted : Tidy w'
-  tidy_noted = tidy_still w w' t i b nodes time counted.latest
+  tidy_noted = tidy_still w w' t i b touches nodes time counted.latest
       (subst (λ notes'. b.clients.asked ≤ tickets_of i notes') (sym notes)
       (subst (λ (y : Bool). b.clients.asked ≤ tickets_in y i) (sym (ap (λ (c : ℕ). nat_eq c i) client ∙ self i)) one_more))
       (λ j ne. ap (tickets_of j) notes ∙ ap (λ y. tickets_in y j) (ap (λ (c : ℕ). nat_eq c j) client ∙ away i j (λ is. ne (sym is))))
@@ -218,6 +236,8 @@ tidy_changed w w' t i c k = record {
   counted = λ j a at. subst (λ notes. a.clients.asked ≤ tickets_of j notes) (sym k.notes)
       (each_with (λ m b. b.clients.asked ≤ tickets_of m w.notes) w.nodes w'.nodes i
       (with_change c k.before) k.nodes (t.counted i k.before k.at) t.counted j a at);
+  idle = λ j a at off. each_with (λ m b. (w.lives m).active ≡ false → b.latest ≡ 0) w.nodes w'.nodes i (with_change c k.before) k.nodes
+      (t.idle i k.before k.at) t.idle j a at (subst (λ (f : ℕ → Life). (f j).active ≡ false) k.lives off);
 }
 
 -- a node's new clock is right, and so are the others
@@ -229,21 +249,38 @@ anew_right t right i exact = record { some = right.some; shown = λ j. go (nat_e
     go true c e = refl
     go false c e = e
 
-tidy_restarted : (w w' : World) → Tidy w → (i exact : ℕ) (store : Option Store) → IsRestarted w i exact store w' → Tidy w'
-tidy_restarted w w' t i exact store k = tidy_with w w' t i _ k.nodes (subst IsRightTime (sym k.time) (anew_right w.time t.right i exact)) others here
-    (omega arith) (λ j ne. ap (tickets_of j) k.notes)
+-- a node began with a new clock, and with no tickets
+tidy_anew : (w w' : World) → Tidy w → (i exact : ℕ) (b : Node) → Touches w w' i → IsWithNode w.nodes i b w'.nodes → w'.time ≡ with_clock w.time i exact
+    → w'.notes ≡ w.notes → b.latest ≡ (clock_at w.time.pace exact).shows → b.clients.asked ≡ 0 → Tidy w'
+tidy_anew w w' t i exact b touches nodes time notes latest asked = tidy_with w w' t i b touches nodes
+    (subst IsRightTime (sym time) (anew_right w.time t.right i exact)) others (latest ∙ here) (omega arith) (λ j ne. ap (tickets_of j) notes)
   where
     new_clock : Bool → ℕ → ℕ
     new_clock b j = (if b then clock_at w.time.pace exact else w.time.clocks j).shows
 
     tells : (j : ℕ) → told w' j ≡ new_clock (nat_eq j i) j
-    tells j = ap (λ (y : Time). (y.clocks j).shows) k.time
+    tells j = ap (λ (y : Time). (y.clocks j).shows) time
 
     others : (j : ℕ) → (j ≡ i → ⊥) → told w' j ≡ told w j
     others j ne = tells j ∙ ap (λ b. new_clock b j) (away j i ne)
 
     here : (clock_at w.time.pace exact).shows ≡ told w' i
     here = sym (tells i ∙ ap (λ b. new_clock b i) (self i))
+
+tidy_begun : (w w' : World) → Tidy w → (i exact : ℕ) → IsBegun w i exact w' → Tidy w'
+tidy_begun w w' t i exact k = subst Tidy (sym k.is) (record {
+  right = anew_right w.time t.right i exact;
+  punctual = λ j a at. later j a at (nat_eq j i) refl;
+  counted = t.counted;
+  idle = t.idle;
+})
+  where
+    later : (j : ℕ) (a : Node) → slice_get w.nodes j ≡ Some a → (b : Bool) → nat_eq j i ≡ b
+        → a.latest ≤ (if nat_eq j i then clock_at w.time.pace exact else w.time.clocks j).shows
+    later j a at true e =
+        let is : j ≡ i = grind (arith, nat_tests) in
+        let first : a.latest ≡ 0 = t.idle j a at (ap (λ (l : ℕ). (w.lives l).active) is ∙ k.first) in omega arith
+    later j a at false e = subst (λ (b : Bool). a.latest ≤ (if b then clock_at w.time.pace exact else w.time.clocks j).shows) (sym e) (t.punctual j a at)
 
 -- clocks go on
 tidy_later : (w : World) → Tidy w → (by : ℕ) (own : ℕ → ℕ) → Tidy (record w { time = passes w.time by own })
@@ -254,6 +291,7 @@ tidy_later w t by own = record {
       let on : told w i ≤ (goes_on w.time.pace by (own i) (w.time.clocks i)).shows = later i in
       omega arith;
   counted = t.counted;
+  idle = t.idle;
 }
   where
     later : (i : ℕ) → told w i ≤ (goes_on w.time.pace by (own i) (w.time.clocks i)).shows
@@ -265,10 +303,11 @@ tidy_delivered true u w c w' t d = tidy_hears (u c.to) w w' t c.to d.link c.octe
 tidy_delivered false u w c w' t same = subst Tidy (sym same) t
 
 tidy_step : (overtake : ℕ) (u : Reuses) (w w' : World) (e : Event) → Tidy w → WorldStepSo overtake u w e w' → Tidy w'
-tidy_step overtake u w w' (Ask client server limits r) t (inl s) = tidy_noted w w' t client (peer_at s.link) limits r s.before s.after s.at s.accepted s.sends s.asks
+tidy_step overtake u w w' (Ask client server limits r) t (inl s) = tidy_noted w w' t client
+    (record { life = record { active = true; sends_until = w.time.now + most w.time.pace DEADLINE + 1 }; is = s.lives; active = refl }) (peer_at s.link) limits r s.before s.after s.at s.accepted s.sends s.asks
     s.nodes s.time (note_of client server s.accepted.invoke_id s.accepted.ticket) refl refl s.notes
 tidy_step overtake u w w' (Ask client server limits r) t (inr s) = subst Tidy (sym s.same) t
-tidy_step overtake u w w' (AskAway client peer limits r) t (inl s) = tidy_noted w w' t client peer limits r s.before s.after s.at s.accepted s.sends s.asks
+tidy_step overtake u w w' (AskAway client peer limits r) t (inl s) = tidy_noted w w' t client (acts_there w w' client s.lives) peer limits r s.before s.after s.at s.accepted s.sends s.asks
     s.nodes s.time
     (record { key = record { client = client; server = 0; invoke_id = s.accepted.invoke_id }; ticket = s.accepted.ticket; away = Some peer }) refl refl s.notes
 tidy_step overtake u w w' (AskAway client peer limits r) t (inr s) = subst Tidy (sym s.same) t
@@ -279,11 +318,15 @@ tidy_step overtake u w w' (Noise node from octets) t (inr s) = subst Tidy (sym s
 tidy_step overtake u w w' (Stray node from octets) t (inl s) = tidy_hears (u node) w w' t node from octets s.hears
 tidy_step overtake u w w' (Stray node from octets) t (inr s) = subst Tidy (sym s.same) t
 tidy_step overtake u w w' (Tick node) t s =
-    tidy_acts w w' t node s.before s.after s.at s.acts.nodes s.acts.time s.acts.notes
+    tidy_acts w w' t node s.before s.after (acts_there w w' node s.acts.lives) s.at s.acts.nodes s.acts.time s.acts.notes
     (tick_counted (told w node) s.before s.after s.outcome s.tick)
 tidy_step overtake u w w' (Advance by own) t s = subst Tidy (sym s) (tidy_later w t by own)
 tidy_step overtake u w w' (Change node change) t s = tidy_changed w w' t node change s
-tidy_step overtake u w w' (Restart node exact store) t s = tidy_restarted w w' t node exact store s
+tidy_step overtake u w w' (Restart node exact store) t s = tidy_anew w w' t node exact _
+    (record { life = record { active = true; sends_until = min (w.lives node).sends_until (w.time.now + 1) }; is = s.lives; active = refl }) s.nodes s.time s.notes
+    refl refl
+tidy_step overtake u w w' (Begin node exact) t s = tidy_begun w w' t node exact s
+tidy_step overtake u w w' (BeginAgain node exact first_id store) t s = tidy_anew w w' t node exact _ (acts_there w w' node s.lives) s.nodes s.time s.notes refl refl
 
 tidy_run : (overtake : ℕ) (u : Reuses) (events : List Event) (w w' : World) → Tidy w → WorldRunSo overtake u w events w' → Tidy w'
 tidy_run overtake u [] w w' t run = subst Tidy (sym run) t
@@ -294,6 +337,7 @@ tidy_fresh w f timely = record {
   right = record { some = timely.some; shown = f.clocks };
   punctual = λ i a at. let e : a.latest ≡ 0 = (f.nodes i a at).latest in omega arith;
   counted = λ i a at. let e : a.clients.asked ≡ 0 = (f.nodes i a at).asked in omega arith;
+  idle = λ i a at off. (f.nodes i a at).latest;
 }
 
 -- All of it.

@@ -4,7 +4,7 @@ use Rattle.std.proofs.Common.{if◌then◌else◌, nat_eq, refl, sym, ap, subst,
 use Rattle.std.proofs.lemmas.Bool.Decides.{nat_tests}
 use Rattle.std.proofs.lemmas.List.{length-map, map-append}
 use Rattle.std.proofs.Math.Nat.{mul-zero, mul-add, add-mul, mul_comm, mul_assoc, mul-le-mul_left, mul-div_cancel}
-use Rattle.bac_protocol.specs.Pace.{Pace, clock_at, goes_on, slack, steps, one_clock}
+use Rattle.bac_protocol.specs.Pace.{Pace, clock_at, goes_on, most, slack, steps, one_clock}
 use Rattle.bac_protocol.proofs.Paces.{steps_low, steps_high}
 use Rattle.bac_world.specs.World.{passes, with_clock}
 use Rattle.bac_world.proofs.Steps.{decide_number}
@@ -14,6 +14,11 @@ use Rattle.bac_journal.specs.Clocks.{IsSane, AreSane, AreGoing, MayGo, starting}
 use Rattle.bac_journal.proofs.Lists.{get_push, get_push_other, get_set, get_set_other}
 
 -- Where all nodes have one clock.
+
+-- no clock is slow
+pub one_most : (ms : ℕ) → most one_clock ms ≡ ms
+unfolding most
+one_most ms = omega arith
 
 -- a part is a millisecond
 pub by_one : (n : ℕ) → n / 1 ≡ n

@@ -6,6 +6,7 @@ use Rattle.bac_world.specs.World as world
 use Rattle.bac_journal.specs.declared.asks.Cell.{Cell}
 use Rattle.bac_journal.specs.declared.asks.Row.{Row}
 use Rattle.bac_journal.specs.declared.copies.Copy.{Copy}
+use Rattle.bac_journal.specs.declared.lives.Life.{Life}
 use Rattle.bac_journal.specs.declared.noting.Note.{Note}
 use Rattle.bac_journal.specs.Clocks.{OwnClocks}
 use Rattle.bac_journal.specs.Index.{places_of}
@@ -22,12 +23,13 @@ pub record NoteRoom : Type 0 where
   pub notes : ℕ
   pub clients : List ClientRoom
 
--- the nodes' links, the moment, the nodes' own clocks if they have some, the copies and for how many more there is room, and the notes and for how many
--- more there is room
+-- the nodes' links, the moment, the nodes' own clocks if they have some, what they did so far, the copies and for how many more there is room, and the notes
+-- and for how many more there is room
 pub record JournalView : Type 0 where
   pub links : List Octets
   pub moment : ℕ
   pub own : Option OwnClocks
+  pub lives : List Life
   pub copies : List world.Copy
   pub room : ℕ
   pub notes : List world.Note
@@ -53,6 +55,7 @@ pub record AreSame (one other : JournalView) : Type 0 where
   pub links : one.links ≡ other.links
   pub moment : one.moment ≡ other.moment
   pub own : one.own ≡ other.own
+  pub lives : one.lives ≡ other.lives
   pub copies : one.copies ≡ other.copies
   pub notes : one.notes ≡ other.notes
 
@@ -62,12 +65,13 @@ room_of r = record { tickets = vec_capacity r.numbers - length r.numbers.items; 
 abbrev pub note_room_of : List Note → (capacity : ℕ) → List Row → NoteRoom
 note_room_of notes capacity rows = record { notes = capacity - length notes; clients = map room_of rows }
 
-abbrev pub view_of : List Octets → (now : ℕ) → Option OwnClocks → List Copy → (capacity : ℕ) → List Note → NoteRoom → JournalView
-view_of links now own copies capacity notes note_room =
+abbrev pub view_of : List Octets → (now : ℕ) → Option OwnClocks → List Life → List Copy → (capacity : ℕ) → List Note → NoteRoom → JournalView
+view_of links now own lives copies capacity notes note_room =
     record {
       links = links;
       moment = now;
       own = own;
+      lives = lives;
       copies = map copy_view copies;
       room = capacity - length copies;
       notes = notes_view notes;

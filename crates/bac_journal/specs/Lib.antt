@@ -1,4 +1,5 @@
 pub mod Clocks
+pub mod Lives
 pub mod Entering
 pub mod Views
 pub mod Index

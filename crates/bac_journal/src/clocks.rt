@@ -35,7 +35,7 @@ impl Pace {
 }
 
 /// The most real time that passes while a clock goes on by no more than that many milliseconds, in millionths of a millisecond.
-fn most(drift: u32, ms: u64) -> u64
+pub(crate) fn most(drift: u32, ms: u64) -> u64
     requires slow { drift < 1000000 }
     requires short { ms ≤ 75000 }
     ensures is { (life : ℕ) → result ≡ most (own_pace drift life) ms }

@@ -8,6 +8,7 @@ ghost use Rattle.bac_journal.specs.Views.{key_view, copy_view};
 
 use crate::clocks::{NodeClock, OwnClocks};
 use crate::copies::Copy;
+use crate::lives::Life;
 use crate::noting::Note;
 use crate::transaction::Transaction;
 use bac_npdu::{LinkAddress, Peer};
@@ -160,6 +161,30 @@ pub(crate) fn are_same_clocks(one: &Option<OwnClocks>, other: &Option<OwnClocks>
             None => true,
         },
     }
+}
+
+fn is_same_life(one: &Life, other: &Life) -> bool
+    ensures { MatchBool result (one.now ≡ other.now) (one.now ≡ other.now → ⊥) }
+{
+    if one.active != other.active {
+        return false;
+    }
+    one.sends_until == other.sends_until
+}
+
+/// Whether nodes did the same in both.
+pub(crate) fn are_same_lives(ones: &[Life], others: &[Life]) -> bool
+    ensures { MatchBool result (ones.now ≡ others.now) (ones.now ≡ others.now → ⊥) }
+{
+    if ones.len() != others.len() {
+        return false;
+    }
+    for at in 0..ones.len() {
+        if !is_same_life(&ones[at], &others[at]) {
+            return false;
+        }
+    }
+    true
 }
 
 /// Whether both are the same links in the same order.

@@ -1,27 +1,31 @@
 //! What a simulated network keeps beside its nodes.
 ghost use Rattle.std.specs.Prelude.{◌≡◌, ◌↔◌, ◌+◌, ◌*◌, ◌<◌, ◌≤◌, ◌≢◌, ℕ, IfOk, IfSome, IsNone, IsSome};
-ghost use Rattle.std.specs.Prelude.{IsTrue, OnOk, OnErr, List, [], ◌∷◌, None, Some, length, map, slice_get};
-ghost use Rattle.bac_protocol.specs.Pace.{clock_at};
+ghost use Rattle.std.specs.Prelude.{IsTrue, OnOk, OnErr, List, [], ◌∷◌, None, Some, length, map, nat_le, true, slice_get};
+ghost use Rattle.bac_protocol.specs.Pace.{clock_at, most};
 ghost use Rattle.bac_world.specs.Node.{Node};
 ghost use Rattle.bac_world.specs.World as world;
-ghost use Rattle.bac_world.specs.World.{ask_of, is_away, is_deliverable, newest, passes, with_clock};
+ghost use Rattle.bac_world.specs.World.{ask_of, is_away, is_deliverable, newest, passes, with_act, with_ask, with_clock, with_life, with_restart};
 ghost use Rattle.bac_journal.specs.Clocks.{clock_of, drift_of, fresh_clocks, later_by, pace_of, paced, parts_of, restart_at, restarted_own, steps_of, time_of};
 ghost use Rattle.bac_journal.specs.Entering.{tickets_of};
 ghost use Rattle.bac_journal.specs.Growing.{BecomeCopies, CanGo};
 ghost use Rattle.bac_journal.specs.Journals.{AreEmpty, AreFresh, AreSame, HasNoteRoom, HasStrangerRoom, IsFreshRow, JournalView};
+ghost use Rattle.bac_journal.specs.Lives.{fresh_life, lives_at};
 ghost use Rattle.bac_journal.specs.Notes.{note_view, notes_view};
 ghost use Rattle.bac_journal.specs.Views.{copy_view, key_view, AreLinks};
 
 use crate::arriving::deliverable;
 use crate::asks::{Cell, Row, known, number_of, reserve_ask, reserve_ticket};
 use crate::clocks::{OwnClocks, Pace, pass, restart, set_rate, starting_clocks, told};
-use crate::comparing::{are_same_clocks, are_same_copies, are_same_links, are_same_notes};
+use crate::comparing::{
+    are_same_clocks, are_same_copies, are_same_links, are_same_lives, are_same_notes,
+};
 use crate::copies::{Copy, node_at};
+use crate::lives::{Life, fresh_lives, most_time};
 use crate::noting::{Note, add_note, add_stranger_note, is_of_stranger};
 use crate::sending::send_all;
 use crate::transaction::Transaction;
 use bac_npdu::LinkAddress;
-use bac_protocol::times::LIFE;
+use bac_protocol::times::{DEADLINE, KEEP, LIFE};
 use bac_transaction::Datagram;
 use bac_value::NoMemory;
 use std::alloc::Global;
@@ -34,6 +38,7 @@ pub struct Journal {
     links: Vec<LinkAddress>,
     moment: u64,
     own: Option<OwnClocks>,
+    lives: Vec<Life>,
     copies: Vec<Copy>,
     notes: Vec<Note>,
     rows: Vec<Row>,
@@ -48,11 +53,11 @@ impl Model for Journal {
 
     ghost Value = { JournalView };
 
-    ghost view = { λ j. view_of j.links.items j.moment (view_of_own j.own) j.copies.items j.copies.cap j.notes.items
+    ghost view = { λ j. view_of j.links.items j.moment (view_of_own j.own) j.lives.items j.copies.items j.copies.cap j.notes.items
         (note_room_of j.notes.items j.notes.cap j.rows.items) };
 
     ghost invariant = { λ j. IsKept j.rows.items j.copies.items (notes_view j.notes.items) × (length j.rows.items ≡ length j.links.items)
-        × MayGo j.moment (length j.links.items) (view_of_own j.own) };
+        × MayGo j.moment (length j.links.items) (view_of_own j.own) × (length j.lives.items ≡ length j.links.items) };
 }
 
 /// So many empty pages: each gets its cells as its server is asked.
@@ -93,13 +98,15 @@ impl Journal {
     /// Nothing has happened: the moment is 0. Places for the transactions of a client and a server are made as the one asks the other (`reserve_note`).
     /// `NoMemory` where memory is refused.
     pub fn new(alloc: Global, links: Vec<LinkAddress>) -> Result<Journal, NoMemory>
-        ensures { IfOk result (λ j. j ≡ record (j) { links = links.items; moment = 0; own = None; copies = []; notes = [] }) }
+        ensures { IfOk result (λ j. j ≡ record (j) { links = links.items; moment = 0; own = None; lives = map fresh_life links.items; copies = []; notes = [] }) }
     {
+        let lives = fresh_lives(alloc, &links)?;
         let rows = fresh_rows(alloc, links.len())?;
         Ok(Journal {
             links,
             moment: 0,
             own: None,
+            lives,
             copies: Vec::new(alloc),
             notes: Vec::new(alloc),
             rows,
@@ -119,10 +126,12 @@ impl Journal {
           links = links.items;
           moment = 0;
           own = Some (fresh_clocks pace.drift pace.life starts.now);
+          lives = map fresh_life links.items;
           copies = [];
           notes = [];
         }) }
     {
+        let lives = fresh_lives(alloc, &links)?;
         let rows = fresh_rows(alloc, links.len())?;
         let nodes = starting_clocks(alloc, starts)?;
         Ok(Journal {
@@ -133,6 +142,7 @@ impl Journal {
                 pace,
                 nodes,
             }),
+            lives,
             copies: Vec::new(alloc),
             notes: Vec::new(alloc),
             rows,
@@ -232,6 +242,72 @@ impl Journal {
             ≡ with_clock (time_of self.old.moment self.old.own) node (restart_at self.old.moment self.old.own) }
     {
         restart(&mut self.own, node);
+    }
+
+    /// Whether anything happened at a node so far.
+    pub fn is_active(&self, node: usize) -> bool
+        ensures { result ≡ (lives_at self.now.lives node).active }
+    {
+        match self.lives.get(node) {
+            Some(life) => life.active,
+            None => false,
+        }
+    }
+
+    /// Whether all is over that a node's client sent: no copy of it can arrive, nor any for which a server's entry lives that it began.
+    pub fn is_quiet(&self, node: usize) -> bool
+        requires { node < length self.now.links }
+        ensures { result ≡ nat_le ((lives_at self.now.lives node).sends_until + (pace_of self.now.own).life + most (pace_of self.now.own) KEEP
+            + (pace_of self.now.own).life) self.now.moment }
+    {
+        let life = u128::from(self.life());
+        let kept = u128::from(most_time(&self.own, KEEP));
+        let over = life + kept + life;
+        let now = u128::from(self.moment);
+        over <= now && self.lives[node].sends_until <= now - over
+    }
+
+    /// Something happens at a node. It takes no memory.
+    pub fn act(&mut self, node: usize)
+        requires { node < length self.old.links }
+        ensures is { self.new ≡ record (self.old) { lives = self.new.lives } }
+        ensures lives { lives_at self.new.lives ≡ with_act (lives_at self.old.lives) node }
+    {
+        let sends_until = self.lives[node].sends_until;
+        self.set_life(node, sends_until);
+    }
+
+    /// A node asks another one: it sends for that no longer than its deadline lasts. It takes no memory.
+    pub fn begin_ask(&mut self, node: usize)
+        requires { node < length self.old.links }
+        ensures is { self.new ≡ record (self.old) { lives = self.new.lives } }
+        ensures lives { lives_at self.new.lives ≡ with_ask (time_of self.old.moment self.old.own) (lives_at self.old.lives) node }
+    {
+        let longest = u128::from(most_time(&self.own, DEADLINE));
+        self.set_life(node, u128::from(self.moment) + longest + 1);
+    }
+
+    /// A node restarts: it sends nothing more for what it asked before. It takes no memory.
+    pub fn end_asks(&mut self, node: usize)
+        requires { node < length self.old.links }
+        ensures is { self.new ≡ record (self.old) { lives = self.new.lives } }
+        ensures lives { lives_at self.new.lives ≡ with_restart (time_of self.old.moment self.old.own) (lives_at self.old.lives) node }
+    {
+        let next = u128::from(self.moment) + 1;
+        let sends_until = self.lives[node].sends_until.min(next);
+        self.set_life(node, sends_until);
+    }
+
+    /// Something happens at a node, and from that moment on its client sends nothing for what it asked so far.
+    fn set_life(&mut self, node: usize, sends_until: u128)
+        requires { node < length self.old.links }
+        ensures is { self.new ≡ record (self.old) { lives = self.new.lives } }
+        ensures lives { lives_at self.new.lives ≡ with_life (lives_at self.old.lives) node (record { active = true; sends_until = sends_until }) }
+    {
+        self.lives[node] = Life {
+            active: true,
+            sends_until,
+        };
     }
 
     /// How long a copy may be under way after its sending, in parts of a millisecond (`parts`); after that it is lost.
@@ -378,7 +454,7 @@ impl Journal {
         add_stranger_note(&mut self.notes, &mut self.rows, note);
     }
 
-    /// Whether both have the same links, moment, clocks, copies and notes; it doesn't matter for how many more there is room. It takes no memory.
+    /// Whether both have the same links, moment, clocks, lives of nodes, copies and notes; it doesn't matter for how many more there is room. It takes no memory.
     pub fn same(&self, other: &Journal) -> bool
         ensures { IsTrue result ↔ AreSame self.now other.now }
     {
@@ -386,6 +462,9 @@ impl Journal {
             return false;
         }
         if !are_same_clocks(&self.own, &other.own) {
+            return false;
+        }
+        if !are_same_lives(&self.lives, &other.lives) {
             return false;
         }
         if !are_same_links(&self.links, &other.links) {

@@ -7,6 +7,7 @@ mod clocks;
 mod comparing;
 mod copies;
 mod journal;
+mod lives;
 mod meaning;
 mod noting;
 mod sending;

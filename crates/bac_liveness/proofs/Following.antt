@@ -28,7 +28,7 @@ use Rattle.bac_world.specs.Services.{ArePerformed}
 use Rattle.bac_world.specs.Node.{Node, Outcome, IsDropped, IsHeard, IsHeardBy, NodeOn}
 use Rattle.bac_world.specs.World.{World, Event, Copy, later, is_deliverable, peer_at, Acts, DeliversIf, Delivers, HearsNoise, HearsStranger, IsAsked, WorldStep}
 use Rattle.bac_world.specs.World.{WorldRun, RunsOn, told}
-use Rattle.bac_world.specs.World.Event.{Ask, AskAway, Deliver, Noise, Stray, Tick, Advance, Change, Restart}
+use Rattle.bac_world.specs.World.Event.{Ask, AskAway, Deliver, Noise, Stray, Tick, Advance, Change, Restart, Begin, BeginAgain}
 use Rattle.bac_world.specs.Laws.{IsMeaningless}
 use Rattle.bac_world.proofs.NodeLaws.{drops_exactly}
 use Rattle.bac_world.proofs.Pairs.{IsPaired, pairwise_get}
@@ -37,7 +37,7 @@ use Rattle.bac_world.proofs.Steps.{Over, Goes, acts_as}
 use Rattle.bac_world.proofs.Heard.{heard_as}
 use Rattle.bac_world.proofs.StrangersHeard.{hears_stranger}
 use Rattle.bac_world.proofs.StrangersAsked.{asks_away_over}
-use Rattle.bac_protocol.specs.World.{client_acts_away, server_acts_away}
+use Rattle.bac_protocol.specs.World.{begun, client_acts_away, next_client, server_acts_away, server_begun}
 use Rattle.bac_protocol.specs.Client as client
 use Rattle.bac_protocol.proofs.Aside.{IsAside, client_aside, server_aside}
 use Rattle.bac_liveness.proofs.Paths.{aside_step}
@@ -47,7 +47,10 @@ use Rattle.bac_world.proofs.Serving.{room_is, serves, served_so}
 use Rattle.bac_world.proofs.Clients.{hears, quiet}
 use Rattle.bac_world.proofs.Asking.{IsAccepted, accepted_is, free_ticket, key_free, asks_with}
 use Rattle.bac_world.proofs.Ticking.{tick_over, tick_leads}
-use Rattle.bac_world.proofs.Restarting.{restarted_net, restarted_over}
+use Rattle.bac_world.proofs.Beginning.{begun_over}
+use Rattle.bac_world.proofs.Restarting.{asked_earlier, quiet_net, replaced_net, replaced_over, restarted_net, restarted_over}
+use Rattle.bac_protocol.proofs.Resting.{not_active}
+use Rattle.bac_protocol.proofs.SingleMoves.{reached_stands}
 use Rattle.bac_world.proofs.Headline.{advanced_over, changed_over}
 use Rattle.bac_liveness.specs.WorldRuns.{Throughout}
 use Rattle.bac_liveness.specs.WorldRoundTrip.{MayArrive}
@@ -65,6 +68,8 @@ first_on i (Tick node) es h = (tt, h)
 first_on i (Advance by own) es h = (tt, h)
 first_on i (Change node change) es h = (tt, h)
 first_on i (Restart node exact store) es h = ((h.0, tt), h.1)
+first_on i (Begin node exact) es h = (tt, h)
+first_on i (BeginAgain node exact first_id store) es h = ((h.0, tt), h.1)
 
 module _ (links : ℕ → Option Octets) (apart : (i j : ℕ) (l : Octets) → links i ≡ Some l → links j ≡ Some l → i ≡ j) (W : ℕ) (x : Rules)
     (bound : claims.IsBounded W x) (readable : x.readable ≡ reads_reply) where
@@ -374,10 +379,10 @@ module _ (links : ℕ → Option Octets) (apart : (i j : ℕ) (l : Octets) → l
         }
 
     -- another node's restart
-    restart_lives : (n : Net) (node exact i : ℕ) → node ≢ i → (restarted_net n node exact).restarted i ≡ n.restarted i
-    restart_lives n node exact i other = go (nat_eq i node) refl
+    elsewhere : (at old node i : ℕ) → node ≢ i → (if nat_eq i node then at else old) ≡ old
+    elsewhere at old node i other = go (nat_eq i node) refl
       where
-        go : (b : Bool) → nat_eq i node ≡ b → (if b then n.now + 1 else n.restarted i) ≡ n.restarted i
+        go : (b : Bool) → nat_eq i node ≡ b → (if b then at else old) ≡ old
         go true e = let same : node ≡ i = grind (arith, nat_tests) in absurd (other same)
         go false e = refl
 
@@ -417,7 +422,27 @@ module _ (links : ℕ → Option Octets) (apart : (i j : ℕ) (l : Octets) → l
       over = restarted_over links apart W x None bound w w' n h node exact store s;
       path = Then (client_restarted n node exact) (restarted_net n node exact) (Then n (client_restarted n node exact) Here (Step.RestartsClient node exact))
           (Step.RestartsServer node exact None);
-      lives = λ i on. restart_lives n node exact i on.0;
+      lives = λ i on. elsewhere (n.now + 1) (n.restarted i) node i on.0;
+    }
+    step_followed w w' n h (Begin node exact) gives s = record {
+      net = begun n node exact;
+      over = subst (λ (u : World). Over links apart W x None u (begun n node exact)) (sym s.is)
+          (begun_over links apart W x None bound w w' n h node exact s);
+      path =
+          let off = not_active n node ((h.lives node).active s.first) in
+          let stands = reached_stands W x bound h.sound.0 h.sound.2 h.sound.1 n h.sound.3 in
+          Then (server_begun n node exact) (begun n node exact)
+          (Then n (server_begun n node exact) Here (Step.BeginsServer node exact (stands.unserved node off.1)))
+          (Step.BeginsClient node exact (stands.unasked node off.0));
+      lives = λ i on. refl;
+    }
+    step_followed w w' n h (BeginAgain node exact first_id store) gives s = record {
+      net = replaced_net n node exact;
+      over = replaced_over links apart W x None bound w w' n h node exact first_id store s;
+      path = Then (next_client n node exact) (replaced_net n node exact) (Then n (next_client n node exact) Here
+          (Step.BeginsNext node exact (quiet_net links apart W x None bound w w' n h node exact s.quiet) (λ key t its is. asked_earlier links apart W x None bound w w' n h node exact s.quiet key t is its)))
+          (Step.RestartsServer node exact None);
+      lives = λ i on. elsewhere n.now (n.restarted i) node i on.0;
     }
 
     -- and every run, where what is said of its events gives that

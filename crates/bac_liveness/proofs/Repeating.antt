@@ -158,6 +158,8 @@ module _ (links : ℕ → Option Octets) (apart : (i j : ℕ) (l : Octets) → l
   gives w m over (Event.Advance by own) f = tt
   gives w m over (Event.Change node change) f = tt
   gives w m over (Event.Restart node exact store) f = tt
+  gives w m over (Event.Begin node exact) f = tt
+  gives w m over (Event.BeginAgain node exact first_id store) f = tt
 
   -- It is waited for.
 

@@ -20,7 +20,7 @@ use Rattle.bac_world.proofs.Bridge.{each_copied}
 use Rattle.bac_world.specs.Node.{Node, Outcome, IsServerTurn}
 use Rattle.bac_world.specs.Once.{Fact}
 use Rattle.bac_world.specs.Once.Fact.{Performed, Ended}
-use Rattle.bac_world.specs.World.{World, Time, passes, Copy, Hears, Ticks, IsAsked, IsCopied, link_at, peer_at, transaction_of}
+use Rattle.bac_world.specs.World.{World, Time, passes, Copy, Hears, Life, Ticks, IsAsked, IsCopied, link_at, peer_at, transaction_of, with_act, with_ask}
 use Rattle.bac_world.specs.Examples.{REQUEST, REPLY, STORE, ASKED}
 use Rattle.bac_world.specs.AnsweredRun.{TIME, LIMITS, SETTINGS, LOG, link, node}
 use Rattle.bac_world.proofs.Answered.{SERVICE_DATA, ASK, ANSWER, apart, spelled, datagram, ASKED_NODE, copy, NOTES, SECOND, THIRD, LAST, ask_fits, ask_short}
@@ -47,7 +47,15 @@ abbrev LATE : World
 LATE = record (SECOND) { time = at_time 60001 }
 
 abbrev EXPIRED : World
-EXPIRED = record { nodes = ticked_node 60001 ∷ node 1 ∷ []; time = at_time 60001; copies = SECOND.copies; log = Ended 0 Expired ∷ ASKED; notes = NOTES }
+EXPIRED =
+    record {
+      nodes = ticked_node 60001 ∷ node 1 ∷ [];
+      time = at_time 60001;
+      lives = with_act SECOND.lives 0;
+      copies = SECOND.copies;
+      log = Ended 0 Expired ∷ ASKED;
+      notes = NOTES;
+    }
 
 abbrev EXPIRES : Outcome
 EXPIRES = record { sends = []; performed = None; ended = record { ticket = 0; how = Expired } ∷ []; dropped = None }
@@ -62,6 +70,7 @@ expires = record {
   acts = record {
     nodes = record { here = refl; others = others_first (ticked_node 60001) ASKED_NODE (node 1) };
     time = refl;
+    lives = refl;
     notes = refl;
     sent = [];
     copies = refl;
@@ -90,10 +99,14 @@ late_tick = record {
 abbrev drifts : (by own : ℕ) → Time
 drifts by own = passes DRIFTS.time by (λ i. own)
 
-abbrev slow_world : Time → List Node → List Fact → World
-slow_world time nodes log = record { nodes = nodes; time = time; copies = SECOND.copies; log = log; notes = NOTES }
+abbrev slow_world : Time → (ℕ → Life) → List Node → List Fact → World
+slow_world time lives nodes log = record { nodes = nodes; time = time; lives = lives; copies = SECOND.copies; log = log; notes = NOTES }
 
-asked_slowly : IsAsked DRIFTS 0 1 LIMITS REQUEST (slow_world DRIFTS.time SECOND.nodes ASKED)
+-- what both nodes did by then
+abbrev SLOW_LIVES : ℕ → Life
+SLOW_LIVES = with_ask DRIFTS.time DRIFTS.lives 0
+
+asked_slowly : IsAsked DRIFTS 0 1 LIMITS REQUEST (slow_world DRIFTS.time SLOW_LIVES SECOND.nodes ASKED)
 asked_slowly = record {
   before = node 0;
   at = refl;
@@ -105,6 +118,7 @@ asked_slowly = record {
   asks = asks;
   nodes = record { here = refl; others = others_first ASKED_NODE (node 0) (node 1) };
   time = refl;
+  lives = refl;
   sent = copy 0 1 ASK ∷ [];
   copies = refl;
   copied = (ask_copied, tt);
@@ -116,7 +130,7 @@ asked_slowly = record {
 abbrev late_time : Time
 late_time = passes (drifts 60060 60000) 1 (λ i. 1)
 
-expires_slowly : Ticks (slow_world late_time SECOND.nodes ASKED) 0 (slow_world late_time (ticked_node 60001 ∷ node 1 ∷ []) (Ended 0 Expired ∷ ASKED))
+expires_slowly : Ticks (slow_world late_time SLOW_LIVES SECOND.nodes ASKED) 0 (slow_world late_time (with_act SLOW_LIVES 0) (ticked_node 60001 ∷ node 1 ∷ []) (Ended 0 Expired ∷ ASKED))
 expires_slowly = record {
   before = ASKED_NODE;
   at = refl;
@@ -126,6 +140,7 @@ expires_slowly = record {
   acts = record {
     nodes = record { here = refl; others = others_first (ticked_node 60001) ASKED_NODE (node 1) };
     time = refl;
+    lives = refl;
     notes = refl;
     sent = [];
     copies = refl;
@@ -141,6 +156,7 @@ slow_tick = record {
   fresh = record {
     nodes = answered_run.fresh.nodes;
     apart = answered_run.fresh.apart;
+    lives = λ i. refl;
     now = refl;
     clocks = λ i. refl;
     copies = refl;
@@ -149,17 +165,17 @@ slow_tick = record {
   };
   timely = lives.at_thousandth;
   bounded = record { some = omega arith; windows = answered_run.bounded.windows; room = omega arith };
-  second = slow_world DRIFTS.time SECOND.nodes ASKED;
+  second = slow_world DRIFTS.time SLOW_LIVES SECOND.nodes ASKED;
   asks = asked_slowly;
-  early = slow_world (drifts 60060 60000) SECOND.nodes ASKED;
-  waits = (slow_world (drifts 60060 60000) SECOND.nodes ASKED, refl, refl);
+  early = slow_world (drifts 60060 60000) SLOW_LIVES SECOND.nodes ASKED;
+  waits = (slow_world (drifts 60060 60000) SLOW_LIVES SECOND.nodes ASKED, refl, refl);
   last = refl;
-  late = slow_world late_time SECOND.nodes ASKED;
-  goes_on = (slow_world late_time SECOND.nodes ASKED, refl, refl);
+  late = slow_world late_time SLOW_LIVES SECOND.nodes ASKED;
+  goes_on = (slow_world late_time SLOW_LIVES SECOND.nodes ASKED, refl, refl);
   real = refl;
   passed = omega arith;
   before = refl;
-  ticked = slow_world late_time (ticked_node 60001 ∷ node 1 ∷ []) (Ended 0 Expired ∷ ASKED);
+  ticked = slow_world late_time (with_act SLOW_LIVES 0) (ticked_node 60001 ∷ node 1 ∷ []) (Ended 0 Expired ∷ ASKED);
   ticks = expires_slowly;
   after = refl;
 }
@@ -207,7 +223,15 @@ abbrev SECOND_COPY : Copy
 SECOND_COPY = record (copy 0 1 ASK) { moment = 3000 }
 
 abbrev AGAIN : World
-AGAIN = record { nodes = ticked_node 3000 ∷ node 1 ∷ []; time = at_time 3000; copies = copy 0 1 ASK ∷ SECOND_COPY ∷ []; log = ASKED; notes = NOTES }
+AGAIN =
+    record {
+      nodes = ticked_node 3000 ∷ node 1 ∷ [];
+      time = at_time 3000;
+      lives = with_act LATER.lives 0;
+      copies = copy 0 1 ASK ∷ SECOND_COPY ∷ [];
+      log = ASKED;
+      notes = NOTES;
+    }
 
 answer_fits : IsTrue (apdu_fits ANSWER)
 unfolding apdu_fits
@@ -245,6 +269,7 @@ sends_again = record {
   acts = record {
     nodes = record { here = refl; others = others_first (ticked_node 3000) ASKED_NODE (node 1) };
     time = refl;
+    lives = refl;
     notes = refl;
     sent = SECOND_COPY ∷ [];
     copies = refl;
@@ -305,6 +330,7 @@ abbrev SERVED : World
 SERVED = record {
   nodes = ticked_node 3000 ∷ SERVED_NODE ∷ [];
   time = at_time 3000;
+  lives = with_act AGAIN.lives 1;
   copies = copy 0 1 ASK ∷ SECOND_COPY ∷ ANSWER_COPY ∷ [];
   log = Performed 0 REQUEST REPLY ∷ ASKED;
   notes = NOTES;
@@ -326,6 +352,7 @@ serves = record {
   acts = record {
     nodes = record { here = refl; others = others_second SERVED_NODE (node 1) (ticked_node 3000) };
     time = refl;
+    lives = refl;
     notes = refl;
     sent = ANSWER_COPY ∷ [];
     copies = refl;
@@ -340,7 +367,15 @@ abbrev ENDED_NODE : Node
 ENDED_NODE = record (ticked_node 3000) { clients = (requester_on_apdu SETTINGS reads_reply 3000 (peer_at (link 1)) ANSWER (ticked_node 3000).clients).end }
 
 abbrev ANSWERED : World
-ANSWERED = record { nodes = ENDED_NODE ∷ SERVED_NODE ∷ []; time = at_time 3000; copies = SERVED.copies; log = LOG; notes = NOTES }
+ANSWERED =
+    record {
+      nodes = ENDED_NODE ∷ SERVED_NODE ∷ [];
+      time = at_time 3000;
+      lives = with_act SERVED.lives 0;
+      copies = SERVED.copies;
+      log = LOG;
+      notes = NOTES;
+    }
 
 hears : Hears SERVED 0 (link 1) ANSWER_COPY.octets ANSWERED
 hears = record {
@@ -358,6 +393,7 @@ hears = record {
   acts = record {
     nodes = record { here = refl; others = others_first ENDED_NODE (ticked_node 3000) SERVED_NODE };
     time = refl;
+    lives = refl;
     notes = refl;
     sent = [];
     copies = refl;

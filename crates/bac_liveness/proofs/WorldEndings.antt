@@ -72,6 +72,8 @@ on_then i (Event.Tick node ∷ es) fs h k = on_then i es fs h k
 on_then i (Event.Advance by own ∷ es) fs h k = on_then i es fs h k
 on_then i (Event.Change node change ∷ es) fs h k = on_then i es fs h k
 on_then i (Event.Restart node exact store ∷ es) fs h k = (h.0, on_then i es fs h.1 k)
+on_then i (Event.Begin node exact ∷ es) fs h k = on_then i es fs h k
+on_then i (Event.BeginAgain node exact first_id store ∷ es) fs h k = (h.0, on_then i es fs h.1 k)
 
 -- Endings are counted alike in a log of octets and in the same log as values.
 
@@ -208,6 +210,8 @@ module _ (links : ℕ → Option Octets) (apart : (i j : ℕ) (l : Octets) → l
   gives_any w n (Event.Advance by own) = tt
   gives_any w n (Event.Change node change) = tt
   gives_any w n (Event.Restart node exact store) = tt
+  gives_any w n (Event.Begin node exact) = tt
+  gives_any w n (Event.BeginAgain node exact first_id store) = tt
 
   pub on_run : (events : List Event) (w w' : World) (n : Net) → Over links apart W x None w n → WorldRun x.overtake w events w'
       → Followed links apart W x bound readable Any events w' n

@@ -14,12 +14,14 @@ use Rattle.bac_node.specs.Calls as node
 use Rattle.bac_node.specs.Calls.{Refuses}
 use Rattle.bac_world.specs.Node.{Node, NodeAsks, NodeRefuses, Refusal}
 use Rattle.bac_world.specs.Once.{Fact}
-use Rattle.bac_world.specs.World.{AreCopied, Copy, Event, Note, IsAsked, IsCopied, IsRefused, IsWithNode, link_at, peer_at}
+use Rattle.bac_world.specs.World.{AreCopied, Copy, Event, Note, IsAsked, IsCopied, IsRefused, IsWithNode, link_at, peer_at, with_ask}
 use Rattle.bac_world.specs.World.Event.{Ask}
 use Rattle.bac_world.proofs.Asking.{accepted_is}
 use Rattle.bac_journal.specs.Entering.{note_of, CanBeCopied, Every}
 use Rattle.bac_journal.specs.Growing.{BecomeCopies, CanBecome}
+use Rattle.bac_journal.specs.Clocks.{time_of}
 use Rattle.bac_journal.specs.Journals.{JournalView, NoteRoom}
+use Rattle.bac_journal.specs.Lives.{lives_at}
 use Rattle.bac_journal.specs.Views.{AreLinks}
 use Rattle.bac_network.specs.Asks.{CanAsk, CanBeNoted, IsNotedAsk, TellsFault}
 use Rattle.bac_network.specs.Clocks.{time_at}
@@ -109,6 +111,7 @@ module _ (n : Network) (client server : ℕ) (can : CanAsk client server n) (b :
         asks = k.asks;
         nodes = subst (λ l. IsWithNode n.nodes.items client g.after l) (sym same) g.nodes;
         time = λ i. time_at (record { moment = h.moment i; own = h.own i });
+        lives = h.lives;
         sent = h.sent.sent;
         copies = h.sent.copies;
         copied = all_copied n.nodes.items (note_of client server k.accepted.invoke_id k.accepted.ticket ∷ n.journal.notes) n.journal.moment client
@@ -119,7 +122,7 @@ module _ (n : Network) (client server : ℕ) (can : CanAsk client server n) (b :
         log = h.log;
       }
 
-pub noted_ask : (nodes : List Node) (client server : ℕ) (r : Request) (invoke_id ticket : ℕ) (sends : List Datagram) (old mid new : JournalView)
+pub noted_ask : (nodes : List Node) (client server : ℕ) (r : Request) (invoke_id ticket : ℕ) (sends : List Datagram) (old mid new last : JournalView)
     (facts facts' : List Fact) (room : NoteRoom)
     → mid ≡ record old {
       notes = note_of client server invoke_id ticket ∷ old.notes;
@@ -127,20 +130,26 @@ pub noted_ask : (nodes : List Node) (client server : ℕ) (r : Request) (invoke_
     }
     → new ≡ record mid { copies = new.copies; room = new.room } → AreLinks nodes old.links
     → (AreLinks nodes mid.links → BecomeCopies nodes mid.moment client sends mid.copies new.copies)
+    → last ≡ record new { lives = last.lives } → lives_at last.lives ≡ with_ask (time_of new.moment new.own) (lives_at new.lives) client
     → (number : ℕ) → facts' ≡ Fact.Asked number client server r ∷ facts → number ≡ length old.notes
-    → IsNotedAsk nodes client server r invoke_id ticket sends old new facts facts'
-noted_ask nodes client server r invoke_id ticket sends old mid new facts facts' room noted sent linked become number log count =
+    → IsNotedAsk nodes client server r invoke_id ticket sends old last facts facts'
+noted_ask nodes client server r invoke_id ticket sends old mid new last facts facts' room noted sent linked become is lives number log count =
     let links : mid.links ≡ old.links = ap (λ (j : JournalView). j.links) noted in
     let moment : mid.moment ≡ old.moment = ap (λ (j : JournalView). j.moment) noted in
     let copies : mid.copies ≡ old.copies = ap (λ (j : JournalView). j.copies) noted in
+    let then : new.moment ≡ old.moment = ap (λ (j : JournalView). j.moment) sent ∙ moment in
+    let own : new.own ≡ old.own = ap (λ (j : JournalView). j.own) sent ∙ ap (λ (j : JournalView). j.own) noted in
+    let were : new.lives ≡ old.lives = ap (λ (j : JournalView). j.lives) sent ∙ ap (λ (j : JournalView). j.lives) noted in
     record {
-      sent = subst (λ (t : ℕ). BecomeCopies nodes t client sends old.copies new.copies) moment
-          (subst (λ l. BecomeCopies nodes mid.moment client sends l new.copies) copies (become (subst (λ l. AreLinks nodes l) (sym links) linked)));
-      notes = ap (λ (j : JournalView). j.notes) sent ∙ ap (λ (j : JournalView). j.notes) noted;
+      sent = subst (λ l. BecomeCopies nodes old.moment client sends old.copies l) (sym (ap (λ (j : JournalView). j.copies) is))
+          (subst (λ (t : ℕ). BecomeCopies nodes t client sends old.copies new.copies) moment
+          (subst (λ l. BecomeCopies nodes mid.moment client sends l new.copies) copies (become (subst (λ l. AreLinks nodes l) (sym links) linked))));
+      lives = lives ∙ (λ i. with_ask (time_of (then i) (own i)) (lives_at (were i)) client);
+      notes = ap (λ (j : JournalView). j.notes) is ∙ ap (λ (j : JournalView). j.notes) sent ∙ ap (λ (j : JournalView). j.notes) noted;
       log = log ∙ ap (λ (k : ℕ). Fact.Asked k client server r ∷ facts) count;
-      moment = ap (λ (j : JournalView). j.moment) sent ∙ moment;
-      own = ap (λ (j : JournalView). j.own) sent ∙ ap (λ (j : JournalView). j.own) noted;
-      links = ap (λ (j : JournalView). j.links) sent ∙ links;
+      moment = ap (λ (j : JournalView). j.moment) is ∙ ap (λ (j : JournalView). j.moment) sent ∙ moment;
+      own = ap (λ (j : JournalView). j.own) is ∙ ap (λ (j : JournalView). j.own) sent ∙ ap (λ (j : JournalView). j.own) noted;
+      links = ap (λ (j : JournalView). j.links) is ∙ ap (λ (j : JournalView). j.links) sent ∙ links;
     }
 
 -- One that was refused.

@@ -10,10 +10,11 @@ use Rattle.bac_node.specs.Calls as node
 use Rattle.bac_node.specs.Calls.{Refuses}
 use Rattle.bac_world.specs.Node.{Node, NodeRefuses, Refusal}
 use Rattle.bac_world.specs.Once.{Fact}
-use Rattle.bac_world.specs.World.{Event, IsAskedAway, IsWithNode}
+use Rattle.bac_world.specs.World.{Event, IsAskedAway, IsWithNode, with_act}
 use Rattle.bac_world.specs.World.Event.{AskAway}
 use Rattle.bac_journal.specs.Entering.{tickets_of}
 use Rattle.bac_journal.specs.Journals.{JournalView}
+use Rattle.bac_journal.specs.Lives.{lives_at}
 use Rattle.bac_network.specs.Asks.{CanAskAway, IsNotedAway, TellsFault, away_note}
 use Rattle.bac_network.specs.Clocks.{instant, time_at}
 use Rattle.bac_network.specs.Goings.{Goes}
@@ -55,6 +56,7 @@ module _ (n : Network) (client : ℕ) (peer : PeerView) (can : CanAskAway client
         asks = k.asks;
         nodes = subst (λ l. IsWithNode n.nodes.items client g.after l) (sym same) g.nodes;
         time = ap (λ (j : JournalView). time_at (instant j)) h.same;
+        lives = h.lives;
         copies = ap (λ (j : JournalView). j.copies) h.same;
         notes = ap (λ (j : JournalView). j.notes) h.same ∙ (λ i. away_note client (k.invoke_id i) (k.ticket i) peer ∷ n.journal.notes);
         log = h.log;
@@ -104,9 +106,15 @@ away_told_so overtake n n' client peer can limits r same before after are now is
 
 -- Its note.
 
-pub noted_away : (client : ℕ) (peer : PeerView) (r : Request) (invoke_id ticket : ℕ) (old new : JournalView) (facts facts' : List Fact)
-    → new ≡ record old { notes = away_note client invoke_id ticket peer ∷ old.notes; note_room = new.note_room }
+pub noted_away : (client : ℕ) (peer : PeerView) (r : Request) (invoke_id ticket : ℕ) (old mid new : JournalView) (facts facts' : List Fact)
+    → mid ≡ record old { notes = away_note client invoke_id ticket peer ∷ old.notes; note_room = mid.note_room }
+    → new ≡ record mid { lives = new.lives } → lives_at new.lives ≡ with_act (lives_at mid.lives) client
     → (number : ℕ) → facts' ≡ Fact.AskedAway number client peer r ∷ facts → number ≡ length old.notes
     → IsNotedAway client peer r invoke_id ticket old new facts facts'
-noted_away client peer r invoke_id ticket old new facts facts' same number log count =
-    record { same = same; log = log ∙ ap (λ (k : ℕ). Fact.AskedAway k client peer r ∷ facts) count }
+noted_away client peer r invoke_id ticket old mid new facts facts' noted is lives number log count = record {
+  same = is ∙ ap (λ (j : JournalView). record j { lives = new.lives }) noted
+      ∙ ap (λ room. record old { lives = new.lives; notes = away_note client invoke_id ticket peer ∷ old.notes; note_room = room })
+      (sym (ap (λ (j : JournalView). j.note_room) is));
+  lives = lives ∙ ap (λ (j : JournalView). with_act (lives_at j.lives) client) noted;
+  log = log ∙ ap (λ (k : ℕ). Fact.AskedAway k client peer r ∷ facts) count;
+}

@@ -5,6 +5,7 @@ use Rattle.bac_world.specs.Node.{Node, with_change}
 use Rattle.bac_world.specs.Once.Fact.{Changed}
 use Rattle.bac_world.specs.World.{IsChanged, IsWithNode}
 use Rattle.bac_journal.specs.Journals.{JournalView}
+use Rattle.bac_journal.specs.Lives.{lives_at}
 use Rattle.bac_network.specs.Clocks.{instant, time_at}
 use Rattle.bac_network.specs.Goings.{Goes}
 use Rattle.bac_network.specs.Networks.{world_of}
@@ -28,6 +29,7 @@ node_changed n n' node c nodes are new fits went may journal log =
       may = may g.before g.at;
       nodes = subst (λ (b : Node). IsWithNode n.nodes.items node b n'.nodes.items) g.goes g.nodes;
       time = ap (λ (j : JournalView). time_at (instant j)) journal;
+      lives = ap (λ (j : JournalView). lives_at j.lives) journal;
       copies = ap (λ (j : JournalView). j.copies) journal;
       notes = ap (λ (j : JournalView). j.notes) journal;
       log = log;

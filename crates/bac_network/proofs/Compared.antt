@@ -40,6 +40,7 @@ worlds_alike v w opening stores one other limit opened nodes log journal =
       opening = before i;
       nodes = now i;
       time = record { moment = journal.moment i; own = journal.own i };
+      lives = journal.lives i;
       copies = journal.copies i;
       log = reverse (log i);
       notes = journal.notes i;
@@ -65,6 +66,7 @@ same_journals v w opening stores one other a b same =
       links = same_links one.nodes.items other.nodes.items one.journal.links other.journal.links (ap (λ (w : WorldView). w.nodes) same) a b;
       moment = ap (λ (w : WorldView). w.time.moment) same;
       own = ap (λ (w : WorldView). w.time.own) same;
+      lives = ap (λ (w : WorldView). w.lives) same;
       copies = ap (λ (w : WorldView). w.copies) same;
       notes = ap (λ (w : WorldView). w.notes) same;
     }

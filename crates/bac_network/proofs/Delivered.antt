@@ -9,11 +9,12 @@ use Rattle.bac_world.specs.Laws.{IsMeaningless}
 use Rattle.bac_world.specs.Node.{Node, Outcome, NodeOn, NodeTick, IsDropped, dropped_for}
 use Rattle.bac_world.specs.Services.{Performed}
 use Rattle.bac_world.specs.World.{World, Copy, DeliversIf, HearsNoise, HearsStranger, IsDelivered, IsOfNone, Ticks}
-use Rattle.bac_world.specs.World.{is_deliverable}
+use Rattle.bac_world.specs.World.{is_deliverable, with_act}
 use Rattle.bac_world.specs.World.Event.{Deliver}
 use Rattle.bac_world.proofs.Pairs.{append_none}
 use Rattle.bac_journal.specs.Entering.{CanEnter, CanGoOn}
 use Rattle.bac_journal.specs.Journals.{JournalView}
+use Rattle.bac_journal.specs.Lives.{lives_at}
 use Rattle.bac_journal.specs.Views.{AreLinks}
 use Rattle.bac_journal.specs.Clocks.{pace_of}
 use Rattle.bac_network.specs.Clocks.{instant, time_at, told_at}
@@ -31,6 +32,7 @@ pub world_alike : (m n : Network) → AreAlike m n → world_of n ≡ world_of m
 world_alike m n a = λ i. record {
   nodes = (a.nodes i).items;
   time = time_at (record { moment = a.moment i; own = a.own i });
+  lives = lives_at (a.lives i);
   copies = a.copies i;
   log = log_view (a.log i);
   notes = a.notes i;
@@ -288,9 +290,9 @@ dropped_is now from octets a b o none (inr h) = absurd (none h.peer h.apdu h.mea
 
 pub noise_heard : (n n' : Network) (node : ℕ) (from octets : Octets) (o : Outcome) → IsMeaningless from octets
     → (nodes : List Node) → nodes ≡ n.nodes.items → (now : ℕ) → now ≡ told_in n node
-    → (new : List Node) → n'.nodes.items ≡ new → Goes nodes node (λ a b. NodeOn now from octets a b o) new → n'.journal ≡ n.journal → n'.log ≡ n.log
-    → HearsNoise (world_of n) node from octets (world_of n')
-noise_heard n n' node from octets o noise nodes are now is new fits went journal log =
+    → (new : List Node) → n'.nodes.items ≡ new → Goes nodes node (λ a b. NodeOn now from octets a b o) new → n'.journal ≡ record (n.journal) { lives = n'.journal.lives }
+    → lives_at n'.journal.lives ≡ with_act (lives_at n.journal.lives) node → n'.log ≡ n.log → HearsNoise (world_of n) node from octets (world_of n')
+noise_heard n n' node from octets o noise nodes are now is new fits went journal lives log =
     let g = heard_here n n' node from octets o nodes are now is new fits went in
     let d = dropped_is (told_in n node) from octets g.before g.after o noise g.goes in
     record {
@@ -304,6 +306,7 @@ noise_heard n n' node from octets o noise nodes are now is new fits went journal
         acts = record {
           nodes = g.nodes;
           time = ap (λ (j : JournalView). time_at (instant j)) journal;
+          lives = lives;
           notes = ap (λ (j : JournalView). j.notes) journal;
           sent = [];
           copies = ap (λ (j : JournalView). j.copies) journal ∙ sym (append_none n.journal.copies);

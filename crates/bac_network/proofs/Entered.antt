@@ -83,6 +83,7 @@ pub acts_as : (nodes nodes' : List Node) (j j' : JournalView) (log log' : List o
 acts_as nodes nodes' j j' log log' i b o with_node h time notes = record {
   nodes = with_node;
   time = time;
+  lives = h.lives;
   notes = notes;
   sent = h.sent.sent;
   copies = h.sent.copies;

@@ -1,18 +1,19 @@
 -- What follows from how an event went.
-use Rattle.std.proofs.Common.{◌≡◌, ◌↔◌, ℕ, Bool, List, Option, Some, None, Result, Ok, Err, IsErrOf, OnOk, OnErr, IfOk, slice_get}
+use Rattle.std.proofs.Common.{◌≡◌, ◌↔◌, ℕ, Bool, true, false, List, Option, Some, None, Result, Ok, Err, IsErrOf, OnOk, OnErr, IfOk, slice_get}
 use Rattle.std.proofs.Common.{refl, sym, ap, subst, inl, inr, ◌∙◌}
 use Rattle.std.specs.Option.{option_map}
 use Rattle.bac_protocol.specs.Service.{Octets}
 use Rattle.bac_store.specs.AtNode.{change_fault}
 use Rattle.bac_store.specs.Stores.{Store}
 use Rattle.bac_store.specs.declared.change_fault.ChangeFault.{ChangeFault}
+use Rattle.bac_journal.specs.declared.lives.Life.{Life}
 use Rattle.bac_network.specs.Clocks.{Instant}
 use Rattle.bac_network.specs.Histories.{WorldView}
 use Rattle.bac_requester.specs.declared.ask_fault.AskFault.{AskFault}
 use Rattle.bac_world.specs.Node.{Node}
 use Rattle.bac_world.specs.World.{World, Event, Copy, WorldStep, link_at, is_deliverable}
-use Rattle.bac_world.specs.World.Event.{Ask, AskAway, Deliver, Noise, Stray, Tick, Advance, Change, Restart}
-use Rattle.bac_network.specs.Steps.{NamesNoNode, NamesNoCopy, NamesNodeLink, PassesClock, RefusesChange, TakesMemory, Happens, HappensTelling, Tells, Untells}
+use Rattle.bac_world.specs.World.Event.{Ask, AskAway, Deliver, Noise, Stray, Tick, Advance, Change, Restart, Begin, BeginAgain}
+use Rattle.bac_network.specs.Steps.{BeginsTooSoon, NamesNoNode, NamesNoCopy, NamesNodeLink, PassesClock, RefusesChange, TakesMemory, Happens, HappensTelling, Tells, Untells}
 use Rattle.bac_network.specs.declared.fault.WorldFault.{WorldFault}
 use Rattle.bac_network.specs.declared.fault.WorldFault.TheVariants as fault
 
@@ -25,9 +26,9 @@ no_link nodes i l e at =
 none_some : {A : Type 0} (o : Option A) (x : A) → o ≡ None → o ≡ Some x → ⊥
 none_some o x e at = let f : None ≡ Some x = sym e ∙ at in cc
 
-abbrev seen : ℕ → List Store → World → Instant → WorldView
-seen limit opening w t =
-    record { overtake = limit; opening = opening; nodes = w.nodes; time = t; copies = w.copies; log = w.log; notes = w.notes }
+abbrev seen : ℕ → List Store → World → Instant → List Life → WorldView
+seen limit opening w t lives =
+    record { overtake = limit; opening = opening; nodes = w.nodes; time = t; lives = lives; copies = w.copies; log = w.log; notes = w.notes }
 
 module _ (overtake : ℕ) (old new : World) where
   no_node : (e : Event) → WorldStep overtake old e new → NamesNoNode old e → ⊥
@@ -44,6 +45,8 @@ module _ (overtake : ℕ) (old new : World) where
   no_node (AskAway client peer limits q) (inr h) n = none_some (slice_get old.nodes client) h.node n h.at
   no_node (Tick node) h n = none_some (slice_get old.nodes node) h.before n h.at
   no_node (Restart node exact store) h n = none_some (slice_get old.nodes node) h.before n h.at
+  no_node (Begin node exact) h n = none_some (slice_get old.nodes node) h.node n h.at
+  no_node (BeginAgain node exact first_id store) h n = none_some (slice_get old.nodes node) h.before n h.at
   no_node (Advance by own) h n = n
   no_node (Change node c) h n = none_some (slice_get old.nodes node) h.before n h.at
 
@@ -55,6 +58,8 @@ module _ (overtake : ℕ) (old new : World) where
   no_copy (AskAway client peer limits q) h n = n
   no_copy (Tick node) h n = n
   no_copy (Restart node exact store) h n = n
+  no_copy (Begin node exact) h n = n
+  no_copy (BeginAgain node exact first_id store) h n = n
   no_copy (Advance by own) h n = n
   no_copy (Change node c) h n = n
 
@@ -66,6 +71,8 @@ module _ (overtake : ℕ) (old new : World) where
   node_or_copy (AskAway client peer limits q) n c = c
   node_or_copy (Tick node) n c = c
   node_or_copy (Restart node exact store) n c = c
+  node_or_copy (Begin node exact) n c = c
+  node_or_copy (BeginAgain node exact first_id store) n c = c
   node_or_copy (Advance by own) n c = n
   node_or_copy (Change node d) n c = c
 
@@ -77,6 +84,8 @@ module _ (overtake : ℕ) (old new : World) where
   node_or_clock (AskAway client peer limits q) n c = c
   node_or_clock (Tick node) n c = c
   node_or_clock (Restart node exact store) n c = c
+  node_or_clock (Begin node exact) n c = c
+  node_or_clock (BeginAgain node exact first_id store) n c = c
   node_or_clock (Advance by own) n c = n
   node_or_clock (Change node d) n c = c
 
@@ -88,6 +97,8 @@ module _ (overtake : ℕ) (old new : World) where
   copy_or_clock (AskAway client peer limits q) n c = n
   copy_or_clock (Tick node) n c = n
   copy_or_clock (Restart node exact store) n c = n
+  copy_or_clock (Begin node exact) n c = n
+  copy_or_clock (BeginAgain node exact first_id store) n c = n
   copy_or_clock (Advance by own) n c = n
   copy_or_clock (Change node d) n c = n
 
@@ -99,6 +110,8 @@ module _ (overtake : ℕ) (old new : World) where
   copy_or_memory (AskAway client peer limits q) n m = n
   copy_or_memory (Tick node) n m = n
   copy_or_memory (Restart node exact store) n m = n
+  copy_or_memory (Begin node exact) n m = n
+  copy_or_memory (BeginAgain node exact first_id store) n m = n
   copy_or_memory (Advance by own) n m = n
   copy_or_memory (Change node d) n m = n
 
@@ -110,6 +123,8 @@ module _ (overtake : ℕ) (old new : World) where
   clock_or_memory (AskAway client peer limits q) n m = n
   clock_or_memory (Tick node) n m = n
   clock_or_memory (Restart node exact store) n m = n
+  clock_or_memory (Begin node exact) n m = n
+  clock_or_memory (BeginAgain node exact first_id store) n m = n
   clock_or_memory (Advance by own) n m = m
   clock_or_memory (Change node d) n m = n
 
@@ -125,6 +140,8 @@ module _ (overtake : ℕ) (old new : World) where
   no_refusal (AskAway client peer limits q) h why r = r
   no_refusal (Tick node) h why r = r
   no_refusal (Restart node exact store) h why r = r
+  no_refusal (Begin node exact) h why r = r
+  no_refusal (BeginAgain node exact first_id store) h why r = r
   no_refusal (Advance by own) h why r = r
 
   node_or_refusal : (e : Event) → NamesNoNode old e → (why : ChangeFault) → RefusesChange old e why → ⊥
@@ -136,6 +153,8 @@ module _ (overtake : ℕ) (old new : World) where
   node_or_refusal (AskAway client peer limits q) n why r = r
   node_or_refusal (Tick node) n why r = r
   node_or_refusal (Restart node exact store) n why r = r
+  node_or_refusal (Begin node exact) n why r = r
+  node_or_refusal (BeginAgain node exact first_id store) n why r = r
   node_or_refusal (Advance by own) n why r = r
 
   copy_or_refusal : (e : Event) → NamesNoCopy old e → (why : ChangeFault) → RefusesChange old e why → ⊥
@@ -147,6 +166,8 @@ module _ (overtake : ℕ) (old new : World) where
   copy_or_refusal (AskAway client peer limits q) n why r = r
   copy_or_refusal (Tick node) n why r = r
   copy_or_refusal (Restart node exact store) n why r = r
+  copy_or_refusal (Begin node exact) n why r = r
+  copy_or_refusal (BeginAgain node exact first_id store) n why r = r
   copy_or_refusal (Advance by own) n why r = r
 
   clock_or_refusal : (e : Event) → PassesClock old e → (why : ChangeFault) → RefusesChange old e why → ⊥
@@ -158,6 +179,8 @@ module _ (overtake : ℕ) (old new : World) where
   clock_or_refusal (AskAway client peer limits q) n why r = r
   clock_or_refusal (Tick node) n why r = r
   clock_or_refusal (Restart node exact store) n why r = r
+  clock_or_refusal (Begin node exact) n why r = r
+  clock_or_refusal (BeginAgain node exact first_id store) n why r = r
   clock_or_refusal (Advance by own) n why r = r
 
   memory_or_refusal : (e : Event) → TakesMemory overtake old e → (why : ChangeFault) → RefusesChange old e why → ⊥
@@ -169,6 +192,8 @@ module _ (overtake : ℕ) (old new : World) where
   memory_or_refusal (AskAway client peer limits q) m why r = r
   memory_or_refusal (Tick node) m why r = r
   memory_or_refusal (Restart node exact store) m why r = r
+  memory_or_refusal (Begin node exact) m why r = r
+  memory_or_refusal (BeginAgain node exact first_id store) m why r = r
   memory_or_refusal (Advance by own) m why r = r
 
   one_refusal : (e : Event) (why other : ChangeFault) → RefusesChange old e why → RefusesChange old e other → why ≡ other
@@ -184,6 +209,8 @@ module _ (overtake : ℕ) (old new : World) where
   one_refusal (AskAway client peer limits q) why other r s = absurd r
   one_refusal (Tick node) why other r s = absurd r
   one_refusal (Restart node exact store) why other r s = absurd r
+  one_refusal (Begin node exact) why other r s = absurd r
+  one_refusal (BeginAgain node exact first_id store) why other r s = absurd r
   one_refusal (Advance by own) why other r s = absurd r
 
   -- a stranger's link that is a node's excludes all other faults
@@ -208,8 +235,41 @@ module _ (overtake : ℕ) (old new : World) where
   link_alone (Noise node from octets) l = absurd l
   link_alone (Tick node) l = absurd l
   link_alone (Restart node exact store) l = absurd l
+  link_alone (Begin node exact) l = absurd l
+  link_alone (BeginAgain node exact first_id store) l = absurd l
   link_alone (Advance by own) l = absurd l
   link_alone (Change node c) l = absurd l
+
+  -- a node that may not begin excludes all other faults
+  soon_alone : (e : Event) → BeginsTooSoon old e → (NamesNoNode old e → ⊥) × (NamesNoCopy old e → ⊥) × (NamesNodeLink old e → ⊥) × (PassesClock old e → ⊥)
+      × ((why : ChangeFault) → RefusesChange old e why → ⊥) × (TakesMemory overtake old e → ⊥) × (WorldStep overtake old e new → ⊥)
+  soon_alone (Begin node exact) l = (
+    λ n. none_some (slice_get old.nodes node) (l.0).0 n (l.0).1,
+    λ n. n,
+    λ n. n,
+    λ n. n,
+    λ why n. n,
+    λ n. n,
+    λ h. (let no : false ≡ true = sym h.first ∙ l.1 in cc),
+  )
+  soon_alone (BeginAgain node exact first_id store) l = (
+    λ n. none_some (slice_get old.nodes node) (l.0).0 n (l.0).1,
+    λ n. n,
+    λ n. n,
+    λ n. n,
+    λ why n. n,
+    λ quiet. (let no : false ≡ true = sym l.1 ∙ quiet in cc),
+    λ h. (let no : false ≡ true = sym l.1 ∙ h.quiet in cc),
+  )
+  soon_alone (Ask client server limits q) l = absurd l
+  soon_alone (AskAway client peer limits q) l = absurd l
+  soon_alone (Deliver number) l = absurd l
+  soon_alone (Noise node from octets) l = absurd l
+  soon_alone (Stray node from octets) l = absurd l
+  soon_alone (Tick node) l = absurd l
+  soon_alone (Restart node exact store) l = absurd l
+  soon_alone (Advance by own) l = absurd l
+  soon_alone (Change node c) l = absurd l
 
   -- Each fault comes exactly where it says.
 
@@ -223,6 +283,7 @@ module _ (overtake : ℕ) (old new : World) where
     fails_node (Err fault.NoSuchDatagram) h n = absurd (node_or_copy e n h.0)
     fails_node (Err fault.NodeLink) h n = absurd ((link_alone e h.0).0 n)
     fails_node (Err fault.ClockEnd) h n = absurd (node_or_clock e n h.0)
+    fails_node (Err fault.TooSoon) h n = absurd ((soon_alone e h.0).0 n)
     fails_node (Err fault.NoMemory) h n = absurd ((h.0).1 n)
     fails_node (Err (fault.BadChange why)) h n = absurd (node_or_refusal e n why h.0)
 
@@ -232,6 +293,7 @@ module _ (overtake : ℕ) (old new : World) where
     fails_copy (Err fault.NoSuchDatagram) h n = refl
     fails_copy (Err fault.NodeLink) h n = absurd ((link_alone e h.0).1 n)
     fails_copy (Err fault.ClockEnd) h n = absurd (copy_or_clock e n h.0)
+    fails_copy (Err fault.TooSoon) h n = absurd ((soon_alone e h.0).1 n)
     fails_copy (Err fault.NoMemory) h n = absurd (copy_or_memory e n (h.0).0)
     fails_copy (Err (fault.BadChange why)) h n = absurd (copy_or_refusal e n why h.0)
 
@@ -241,6 +303,7 @@ module _ (overtake : ℕ) (old new : World) where
     fails_clock (Err fault.NoSuchNode) h n = absurd (node_or_clock e h.0 n)
     fails_clock (Err fault.NoSuchDatagram) h n = absurd (copy_or_clock e h.0 n)
     fails_clock (Err fault.ClockEnd) h n = refl
+    fails_clock (Err fault.TooSoon) h n = absurd ((soon_alone e h.0).3 n)
     fails_clock (Err fault.NoMemory) h n = absurd (clock_or_memory e n (h.0).0)
     fails_clock (Err (fault.BadChange why)) h n = absurd (clock_or_refusal e n why h.0)
 
@@ -250,6 +313,7 @@ module _ (overtake : ℕ) (old new : World) where
     fails_change (Err fault.NoSuchDatagram) h why n = absurd (copy_or_refusal e h.0 why n)
     fails_change (Err fault.NodeLink) h why n = absurd ((link_alone e h.0).3 why n)
     fails_change (Err fault.ClockEnd) h why n = absurd (clock_or_refusal e h.0 why n)
+    fails_change (Err fault.TooSoon) h why n = absurd ((soon_alone e h.0).4 why n)
     fails_change (Err fault.NoMemory) h why n = absurd (memory_or_refusal e (h.0).0 why n)
     fails_change (Err (fault.BadChange other)) h why n = ap (λ (w : ChangeFault). Err (fault.BadChange w)) (one_refusal e other why h.0 n)
 
@@ -259,8 +323,19 @@ module _ (overtake : ℕ) (old new : World) where
     fails_link (Err fault.NoSuchDatagram) h n = absurd ((link_alone e n).1 h.0)
     fails_link (Err fault.NodeLink) h n = refl
     fails_link (Err fault.ClockEnd) h n = absurd ((link_alone e n).2 h.0)
+    fails_link (Err fault.TooSoon) h n = absurd ((soon_alone e h.0).2 n)
     fails_link (Err fault.NoMemory) h n = absurd ((link_alone e n).4 (h.0).0)
     fails_link (Err (fault.BadChange why)) h n = absurd ((link_alone e n).3 why h.0)
+
+    fails_soon : (r : Result (Option AskFault) WorldFault) → How r → BeginsTooSoon old e → r ≡ Err fault.TooSoon
+    fails_soon (Ok told) h n = absurd ((soon_alone e n).6 h.0)
+    fails_soon (Err fault.NoSuchNode) h n = absurd ((soon_alone e n).0 h.0)
+    fails_soon (Err fault.NoSuchDatagram) h n = absurd ((soon_alone e n).1 h.0)
+    fails_soon (Err fault.NodeLink) h n = absurd ((soon_alone e n).2 h.0)
+    fails_soon (Err fault.ClockEnd) h n = absurd ((soon_alone e n).3 h.0)
+    fails_soon (Err fault.TooSoon) h n = refl
+    fails_soon (Err fault.NoMemory) h n = absurd ((soon_alone e n).5 (h.0).0)
+    fails_soon (Err (fault.BadChange why)) h n = absurd ((soon_alone e n).4 why h.0)
 
     pub node_exactly : (r : Result (Option AskFault) WorldFault) → How r → (IsErrOf r fault.NoSuchNode ↔ NamesNoNode old e)
     node_exactly r h = (λ is. (let k : How (Err fault.NoSuchNode) = subst How is h in k.0), fails_node r h)
@@ -270,6 +345,9 @@ module _ (overtake : ℕ) (old new : World) where
 
     pub link_exactly : (r : Result (Option AskFault) WorldFault) → How r → (IsErrOf r fault.NodeLink ↔ NamesNodeLink old e)
     link_exactly r h = (λ is. (let k : How (Err fault.NodeLink) = subst How is h in k.0), fails_link r h)
+
+    pub soon_exactly : (r : Result (Option AskFault) WorldFault) → How r → (IsErrOf r fault.TooSoon ↔ BeginsTooSoon old e)
+    soon_exactly r h = (λ is. (let k : How (Err fault.TooSoon) = subst How is h in k.0), fails_soon r h)
 
     pub clock_exactly : (r : Result (Option AskFault) WorldFault) → How r → (IsErrOf r fault.ClockEnd ↔ PassesClock old e)
     clock_exactly r h = (λ is. (let k : How (Err fault.ClockEnd) = subst How is h in k.0), fails_clock r h)
@@ -294,10 +372,10 @@ module _ (overtake : ℕ) (old new : World) where
     same_is (Err f) h = h.1
 
     -- in code the opening stores and the limit stay beside it
-    pub same_seen : (r : Result (Option AskFault) WorldFault) → How r → (now then : Instant) → OnErr r (now ≡ then) → (limit : ℕ) (opening : List Store)
-        → OnErr r (seen limit opening new now ≡ seen limit opening old then)
-    same_seen (Ok told) h now then same limit opening = tt
-    same_seen (Err f) h now then same limit opening = λ i. seen limit opening (h.1 i) (same i)
+    pub same_seen : (r : Result (Option AskFault) WorldFault) → How r → (now then : Instant) → OnErr r (now ≡ then) → (lives was : List Life)
+        → OnErr r (lives ≡ was) → (limit : ℕ) (opening : List Store) → OnErr r (seen limit opening new now lives ≡ seen limit opening old then was)
+    same_seen (Ok told) h now then same lives was lived limit opening = tt
+    same_seen (Err f) h now then same lives was lived limit opening = λ i. seen limit opening (h.1 i) (same i) (lived i)
 
 -- Want of memory.
 
@@ -325,6 +403,8 @@ IsNoAsk (Stray node from octets) = Unit {0}
 IsNoAsk (AskAway client peer limits q) = ⊥
 IsNoAsk (Tick node) = Unit {0}
 IsNoAsk (Restart node exact store) = Unit {0}
+IsNoAsk (Begin node exact) = Unit {0}
+IsNoAsk (BeginAgain node exact first_id store) = Unit {0}
 IsNoAsk (Advance by own) = Unit {0}
 IsNoAsk (Change node c) = Unit {0}
 
@@ -336,6 +416,8 @@ tells_none old new (Stray node from octets) n = tt
 tells_none old new (AskAway client peer limits q) n = absurd n
 tells_none old new (Tick node) n = tt
 tells_none old new (Restart node exact store) n = tt
+tells_none old new (Begin node exact) n = tt
+tells_none old new (BeginAgain node exact first_id store) n = tt
 tells_none old new (Advance by own) n = tt
 tells_none old new (Change node c) n = tt
 

@@ -1,5 +1,5 @@
 -- Worlds to which nothing has happened.
-use Rattle.std.proofs.Common.{◌≡◌, ◌⊎◌, ℕ, zero, suc, ◌+◌, ◌<◌, ◌≤◌, ◌&&◌, Bool, true, false, List, [], ◌∷◌, length, max, drop, None, Some, slice_get}
+use Rattle.std.proofs.Common.{◌≡◌, ◌⊎◌, ℕ, zero, suc, ◌+◌, ◌<◌, ◌≤◌, ◌&&◌, Bool, true, false, List, [], ◌∷◌, length, map, max, drop, None, Some, slice_get}
 use Rattle.std.proofs.Common.{nat_lt, refl, sym, ap, subst, inl, inr, ◌∙◌, arith}
 use Rattle.std.proofs.lemmas.Bool.Decides.{nat_tests}
 use Rattle.std.proofs.lemmas.Option.{slice_get_within}
@@ -8,9 +8,10 @@ use Rattle.bac_store.specs.Stores.{Store}
 use Rattle.bac_node.specs.Fresh.{fresh_node, has_large_slots, has_slots_within, slots_within, window_fits}
 use Rattle.bac_node.specs.declared.config.Config.{Config}
 use Rattle.bac_world.specs.Node.{Node}
-use Rattle.bac_world.specs.World.{World, IsFresh, IsFreshNode, IsBounded, link_at, stores_of}
+use Rattle.bac_world.specs.World.{World, IsFresh, IsFreshNode, IsBounded, link_at, stores_of, untouched}
 use Rattle.bac_world.proofs.Steps.{decide_number}
 use Rattle.bac_journal.specs.Entering.{Every}
+use Rattle.bac_journal.specs.Lives.{fresh_life, lives_at}
 use Rattle.bac_journal.specs.Views.{AreLinks}
 use Rattle.bac_network.specs.Fresh.{Maker, fresh_at, greatest_window, links_of, nodes_of, opening_of}
 use Rattle.bac_network.specs.Fresh.{HasBadSlotsWithin, HasBadWindow, HaveSameLink, IsGood, IsRightWithin, IsTaken}
@@ -34,6 +35,12 @@ window_within (x ∷ makers) (suc i) m at = let rest = window_within makers i m 
 pub window_some : (makers : List Maker) → 1 ≤ greatest_window makers
 window_some [] = omega arith
 window_some (x ∷ makers) = let rest = window_some makers in omega arith
+
+-- Nothing happened at any of them.
+untouched_at : (links : List Octets) (i : ℕ) → lives_at (map fresh_life links) i ≡ untouched
+untouched_at [] i = refl
+untouched_at (l ∷ links) zero = refl
+untouched_at (l ∷ links) (suc i) = untouched_at links i
 
 -- Makers that are right.
 
@@ -152,6 +159,7 @@ module _ (t : Instant) (zero : t.moment ≡ 0) (timely : IsTimely (pace_of t.own
         let m = maker_of makers i n at in
         subst IsFreshNode m.2 (record { latest = refl; slots = refl; asked = refl; asks_from = refl; entries = refl; serves_from = refl });
     apart = apart;
+    lives = λ i. untouched_at (links_of makers) i;
     now = zero;
     clocks = shown;
     copies = refl;
@@ -192,13 +200,14 @@ module _ (t : Instant) (zero : t.moment ≡ 0) (timely : IsTimely (pace_of t.own
 -- what is made, as contracts see it
 pub made_is : (t : Instant) (overtake : ℕ) (makers : List Maker) (opening : List Store) (n : Network) → opening ≡ opening_of makers
     → n.nodes.items ≡ nodes_of makers
-    → n.journal ≡ record (n.journal) { links = links_of makers; moment = t.moment; own = t.own; copies = []; notes = [] } → n.log.items ≡ []
+    → n.journal ≡ record (n.journal) { links = links_of makers; moment = t.moment; own = t.own; lives = map fresh_life (links_of makers); copies = []; notes = [] } → n.log.items ≡ []
     → view_of overtake opening n ≡ fresh_at t overtake makers
 made_is t overtake makers opening n a b d e = λ i. record {
   overtake = overtake;
   opening = a i;
   nodes = b i;
   time = record { moment = (d i).moment; own = (d i).own };
+  lives = (d i).lives;
   copies = (d i).copies;
   log = log_view (e i);
   notes = (d i).notes;

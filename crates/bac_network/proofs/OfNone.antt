@@ -8,7 +8,7 @@ use Rattle.bac_world.specs.Once.{Fact}
 use Rattle.bac_world.specs.Once.Fact.{Asked, Performed, Ended, Changed, Restarted, Served, AskedAway, EndedAway}
 use Rattle.bac_world.specs.World.{World, Event, Copy, Note, Acts, AreEnded, AreLogged, DeliversIf, WorldStep, WorldRun, IsFresh, IsBounded}
 use Rattle.bac_world.specs.World.{ending_fact, is_away, is_deliverable, link_at}
-use Rattle.bac_world.specs.World.Event.{Ask, AskAway, Deliver, Noise, Stray, Tick, Advance, Change, Restart}
+use Rattle.bac_world.specs.World.Event.{Ask, AskAway, Deliver, Noise, Stray, Tick, Advance, Change, Restart, Begin, BeginAgain}
 use Rattle.bac_network.specs.Histories.{WorldView, HasRun, as_world}
 use Rattle.bac_network.specs.OfNone.{HasStrangersOfNone, HasStrangersOfNoneNow}
 use Rattle.bac_network.proofs.Histories.{links_stay, run_more}
@@ -70,6 +70,8 @@ after_step overtake w w' (Tick node) s h = after_acts w w' node s.after s.outcom
 after_step overtake w w' (Advance by own) s h = subst (λ (u : World). HasStrangersOfNone w.nodes u.log) (sym s) h
 after_step overtake w w' (Change node c) s h = subst (HasStrangersOfNone w.nodes) (sym s.log) h
 after_step overtake w w' (Restart node exact store) s h = subst (HasStrangersOfNone w.nodes) (sym s.log) h
+after_step overtake w w' (Begin node exact) s h = subst (λ (u : World). HasStrangersOfNone w.nodes u.log) (sym s.is) h
+after_step overtake w w' (BeginAgain node exact first_id store) s h = subst (HasStrangersOfNone w.nodes) (sym s.log) h
 
 -- A run, after which each link is as at first.
 

@@ -8,7 +8,7 @@ use Rattle.bac_requester.specs.declared.ask_fault.AskFault.{AskFault}
 use Rattle.bac_store.specs.declared.change_fault.ChangeFault.{ChangeFault}
 use Rattle.bac_network.specs.Histories.{WorldView, HasRequestsAloneNow, as_world}
 use Rattle.bac_network.specs.Runs.{StopsAt}
-use Rattle.bac_network.specs.Steps.{IsFault, NamesNoCopy, NamesNodeLink, NamesNoNode, PassesClock, RefusesChange, TakesMemory}
+use Rattle.bac_network.specs.Steps.{BeginsTooSoon, IsFault, NamesNoCopy, NamesNodeLink, NamesNoNode, PassesClock, RefusesChange, TakesMemory}
 use Rattle.bac_network.specs.Clocks.{Instant}
 use Rattle.bac_network.specs.Views.{event_view, events_view, instant_after, instant_after_all}
 use Rattle.bac_network.specs.declared.event.Event.{Event}
@@ -95,6 +95,8 @@ alone_front (world.Event.Tick node ∷ events) (suc place) alone = alone_front e
 alone_front (world.Event.Advance by own ∷ events) (suc place) alone = alone_front events place alone
 alone_front (world.Event.Change node c ∷ events) (suc place) alone = absurd alone
 alone_front (world.Event.Restart node exact store ∷ events) (suc place) alone = absurd alone
+alone_front (world.Event.Begin node exact ∷ events) (suc place) alone = alone_front events place alone
+alone_front (world.Event.BeginAgain node exact first_id store ∷ events) (suc place) alone = absurd alone
 
 pub alone_so_far : (old mid : WorldView) (events : List world.Event) (place : ℕ) → WorldRun old.overtake (as_world old) (take place events) (as_world mid)
     → HasRequestsAloneNow old → MakeRequestsAlone events → HasRequestsAloneNow mid
@@ -109,14 +111,16 @@ clash r a b = cc
 pub fault_is : (f : WorldFault) (overtake : ℕ) (w : World) (e : world.Event) (r : Result (Option AskFault) WorldFault) → r ≡ Err f
     → (IsErrOf r fault.NoSuchNode ↔ NamesNoNode w e) → (IsErrOf r fault.NoSuchDatagram ↔ NamesNoCopy w e)
     → (IsErrOf r fault.NodeLink ↔ NamesNodeLink w e) → (IsErrOf r fault.ClockEnd ↔ PassesClock w e)
+    → (IsErrOf r fault.TooSoon ↔ BeginsTooSoon w e)
     → ((why : ChangeFault) → (IsErrOf r (fault.BadChange why) ↔ RefusesChange w e why))
     → (IsErrOf r fault.NoMemory → TakesMemory overtake w e) → IsFault f overtake w e
-fault_is fault.NoSuchNode overtake w e r is node copy link clock change memory = node.0 is
-fault_is fault.NoSuchDatagram overtake w e r is node copy link clock change memory = copy.0 is
-fault_is fault.NodeLink overtake w e r is node copy link clock change memory = link.0 is
-fault_is fault.ClockEnd overtake w e r is node copy link clock change memory = clock.0 is
-fault_is (fault.BadChange why) overtake w e r is node copy link clock change memory = (change why).0 is
-fault_is fault.NoMemory overtake w e r is node copy link clock change memory = (
+fault_is fault.NoSuchNode overtake w e r is node copy link clock soon change memory = node.0 is
+fault_is fault.NoSuchDatagram overtake w e r is node copy link clock soon change memory = copy.0 is
+fault_is fault.NodeLink overtake w e r is node copy link clock soon change memory = link.0 is
+fault_is fault.ClockEnd overtake w e r is node copy link clock soon change memory = clock.0 is
+fault_is fault.TooSoon overtake w e r is node copy link clock soon change memory = soon.0 is
+fault_is (fault.BadChange why) overtake w e r is node copy link clock soon change memory = (change why).0 is
+fault_is fault.NoMemory overtake w e r is node copy link clock soon change memory = (
   memory is,
   λ n. clash r is (node.1 n),
 )

@@ -8,7 +8,9 @@ use Rattle.bac_service.specs.Values.{Request}
 use Rattle.bac_world.specs.Node.{Node}
 use Rattle.bac_world.specs.Once.{Fact}
 use Rattle.bac_world.specs.Once.Fact.{Asked, AskedAway}
-use Rattle.bac_world.specs.World.{Note, IsOfNone}
+use Rattle.bac_world.specs.World.{Note, IsOfNone, with_act, with_ask}
+use Rattle.bac_journal.specs.Clocks.{time_of}
+use Rattle.bac_journal.specs.Lives.{lives_at}
 use Rattle.bac_journal.specs.Entering.{note_of, tickets_of}
 use Rattle.bac_journal.specs.Growing.{BecomeCopies, CanBecome}
 use Rattle.bac_journal.specs.Journals.{HasNoteRoom, HasStrangerRoom, JournalView}
@@ -45,6 +47,7 @@ pub record IsNotedAsk (nodes : List Node) (client server : ℕ) (r : Request) (i
   pub log : facts' ≡ Asked (length old.notes) client server r ∷ facts
   pub moment : new.moment ≡ old.moment
   pub own : new.own ≡ old.own
+  pub lives : lives_at new.lives ≡ with_ask (time_of old.moment old.own) (lives_at old.lives) client
   pub links : new.links ≡ old.links
 
 -- the fault of a refused ask is told, but where memory was refused, which is the event's
@@ -76,5 +79,6 @@ away_note client invoke_id ticket peer =
 
 -- it is noted, and enters the log with the next number; nothing becomes a copy
 pub record IsNotedAway (client : ℕ) (peer : PeerView) (r : Request) (invoke_id ticket : ℕ) (old new : JournalView) (facts facts' : List Fact) : Type 0 where
-  pub same : new ≡ record old { notes = away_note client invoke_id ticket peer ∷ old.notes; note_room = new.note_room }
+  pub same : new ≡ record old { lives = new.lives; notes = away_note client invoke_id ticket peer ∷ old.notes; note_room = new.note_room }
+  pub lives : lives_at new.lives ≡ with_act (lives_at old.lives) client
   pub log : facts' ≡ AskedAway (length old.notes) client peer r ∷ facts

@@ -6,7 +6,8 @@ use Rattle.bac_world.specs.Services.{Performed}
 use Rattle.bac_slots.specs.Slots.{value_at}
 use Rattle.bac_protocol.specs.Server.{ServerTransaction}
 use Rattle.bac_transaction.specs.Keys.{same_key}
-use Rattle.bac_world.specs.World.{Note, newest, ask_of, AreEnded, AreLogged}
+use Rattle.bac_world.specs.World.{Note, newest, ask_of, with_act, AreEnded, AreLogged}
+use Rattle.bac_journal.specs.Lives.{lives_at}
 use Rattle.bac_transaction.specs.Meanings.{EndedView}
 use Rattle.bac_journal.specs.Entering.{Every}
 use Rattle.bac_journal.specs.Growing.{BecomeCopies, CanBecome}
@@ -51,6 +52,7 @@ performances (Some p) = 1
 -- it has entered; the node is that one after the call
 pub record IsEntered (nodes : List Node) (node : ℕ) (after : Node) (o : Outcome) (old new : JournalView) (log log' : List Fact) : Type 0 where
   pub sent : BecomeCopies nodes old.moment node o.sends old.copies new.copies
+  pub lives : lives_at new.lives ≡ with_act (lives_at old.lives) node
   pub between : List Fact
   pub ended : AreEnded old.notes node o.ended log between
   pub logged : AreLogged nodes old.notes node after o.performed between log'

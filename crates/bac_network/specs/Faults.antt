@@ -11,6 +11,7 @@ fault_number fault.NoSuchDatagram = 2
 fault_number fault.NodeLink = 10
 fault_number fault.ClockEnd = 3
 fault_number (fault.BadChange why) = 9
+fault_number fault.TooSoon = 11
 fault_number fault.NoMemory = 4
 
 abbrev pub new_fault_number : NewWorldFault → ℕ

@@ -7,6 +7,7 @@ use Rattle.bac_world.specs.Node.{Node}
 use Rattle.bac_node.specs.Fresh.{fresh_node, has_large_slots, has_slots_within, window_fits}
 use Rattle.bac_node.specs.declared.config.Config.{Config}
 use Rattle.bac_journal.specs.Clocks.{fresh_clocks, own_pace}
+use Rattle.bac_journal.specs.Lives.{fresh_life}
 use Rattle.bac_network.specs.Clocks.{Instant}
 use Rattle.bac_network.specs.Histories.{WorldView}
 use Rattle.bac_network.specs.declared.fault.NewClocksFault.{NewClocksFault}
@@ -35,6 +36,7 @@ fresh_at t overtake makers =
       opening = opening_of makers;
       nodes = nodes_of makers;
       time = t;
+      lives = map fresh_life (links_of makers);
       copies = [];
       log = [];
       notes = [];

@@ -8,6 +8,8 @@ use Rattle.bac_world.specs.Node.{Node}
 use Rattle.bac_world.specs.Once.{Fact, Stores, HasNoStranger, HasRequestsAlone, IsOnce, IsOnceAmongNodes, IsOnceByRequestsAlone}
 use Rattle.bac_world.specs.World.{World, Copy, Note, Event, WorldRun, IsFresh, IsBounded, stores_of}
 use Rattle.bac_network.specs.Clocks.{Instant, instant, time_at}
+use Rattle.bac_journal.specs.declared.lives.Life.{Life}
+use Rattle.bac_journal.specs.Lives.{lives_at}
 use Rattle.bac_journal.specs.Views.{AreLinks}
 use Rattle.bac_network.specs.Views.{log_view}
 use Rattle.bac_network.specs.declared.network.Network.{Network}
@@ -18,6 +20,7 @@ pub record WorldView : Type 0 where
   pub opening : List Store
   pub nodes : List Node  -- numbered from 0
   pub time : Instant
+  pub lives : List Life  -- what each node did so far
   pub copies : List Copy  -- oldest first, numbered from 0
   pub log : List Fact  -- newest first
   pub notes : List Note  -- newest first
@@ -29,6 +32,7 @@ view_of overtake opening n =
       opening = opening;
       nodes = n.nodes.items;
       time = instant n.journal;
+      lives = n.journal.lives;
       copies = n.journal.copies;
       log = log_view n.log.items;
       notes = n.journal.notes;
@@ -36,7 +40,7 @@ view_of overtake opening n =
 
 -- the world of bac_world that it is
 abbrev pub as_world : WorldView → World
-as_world w = record { nodes = w.nodes; time = time_at w.time; copies = w.copies; log = w.log; notes = w.notes }
+as_world w = record { nodes = w.nodes; time = time_at w.time; lives = lives_at w.lives; copies = w.copies; log = w.log; notes = w.notes }
 
 -- the stores that the nodes had at first
 abbrev pub opening_stores : WorldView → Stores

@@ -7,13 +7,14 @@ use Rattle.bac_world.specs.World.{World}
 use Rattle.bac_network.specs.Clocks.{instant, time_at, told_at}
 use Rattle.bac_journal.specs.Entering.{CanGoOn}
 use Rattle.bac_journal.specs.Journals.{JournalView}
+use Rattle.bac_journal.specs.Lives.{lives_at}
 use Rattle.bac_journal.specs.Views.{AreLinks}
 use Rattle.bac_network.specs.Views.{log_view}
 use Rattle.bac_network.specs.declared.network.Network.{Network}
 
 -- nodes, what a journal keeps beside them, and a log
 abbrev pub world_with : List Node → JournalView → List Fact → World
-world_with nodes j log = record { nodes = nodes; time = time_at (instant j); copies = j.copies; log = log; notes = j.notes }
+world_with nodes j log = record { nodes = nodes; time = time_at (instant j); lives = lives_at j.lives; copies = j.copies; log = log; notes = j.notes }
 
 abbrev pub world_of : Network → World
 world_of n = world_with n.nodes.items n.journal (log_view n.log.items)
@@ -34,6 +35,7 @@ pub record AreAlike (old new : Network) : Type 0 where
   pub links : new.journal.links ≡ old.journal.links
   pub moment : new.journal.moment ≡ old.journal.moment
   pub own : new.journal.own ≡ old.journal.own
+  pub lives : new.journal.lives ≡ old.journal.lives
   pub copies : new.journal.copies ≡ old.journal.copies
   pub notes : new.journal.notes ≡ old.journal.notes
   pub log : new.log.items ≡ old.log.items

@@ -1,5 +1,5 @@
 -- Whether an event happens, and why not.
-use Rattle.std.specs.Prelude.{◌≡◌, ◌⊎◌, ◌<◌, ◌+◌, ◌-◌, ◌^◌, ℕ, true, List, Option, Some, None, Result, Ok, Err, slice_get}
+use Rattle.std.specs.Prelude.{◌≡◌, ◌⊎◌, ◌<◌, ◌+◌, ◌-◌, ◌^◌, ℕ, true, false, List, Option, Some, None, Result, Ok, Err, slice_get}
 use Rattle.bac_apdu.specs.Apdu.{Limits}
 use Rattle.bac_npdu.specs.Peers.{PeerView}
 use Rattle.bac_service.specs.Values.{Request}
@@ -11,8 +11,8 @@ use Rattle.bac_requester.specs.declared.ask_fault.AskFault.TheVariants as ask_fa
 use Rattle.bac_store.specs.AtNode.{change_fault}
 use Rattle.bac_store.specs.declared.change_fault.ChangeFault.{ChangeFault}
 use Rattle.bac_world.specs.Node.{Node, Refusal, NodeRefuses}
-use Rattle.bac_world.specs.World.{World, Copy, Event, WorldStep, IsAsked, IsAskedAway, IsOfNone, IsRefused, is_deliverable, link_at, told}
-use Rattle.bac_world.specs.World.Event.{Ask, AskAway, Deliver, Noise, Stray, Tick, Advance, Change, Restart}
+use Rattle.bac_world.specs.World.{World, Copy, Event, WorldStep, is_quiet, IsAsked, IsAskedAway, IsOfNone, IsRefused, is_deliverable, link_at, told}
+use Rattle.bac_world.specs.World.Event.{Ask, AskAway, Deliver, Noise, Stray, Tick, Advance, Change, Restart, Begin, BeginAgain}
 use Rattle.bac_network.specs.declared.fault.WorldFault.{WorldFault}
 use Rattle.bac_network.specs.declared.fault.WorldFault.TheVariants as fault
 
@@ -33,6 +33,8 @@ NamesNoNode w (Stray node from octets) = slice_get w.nodes node ≡ None
 NamesNoNode w (AskAway client peer limits q) = slice_get w.nodes client ≡ None
 NamesNoNode w (Tick node) = slice_get w.nodes node ≡ None
 NamesNoNode w (Restart node exact store) = slice_get w.nodes node ≡ None
+NamesNoNode w (Begin node exact) = slice_get w.nodes node ≡ None
+NamesNoNode w (BeginAgain node exact first_id store) = slice_get w.nodes node ≡ None
 NamesNoNode w (Advance by own) = ⊥
 NamesNoNode w (Change node c) = slice_get w.nodes node ≡ None
 
@@ -45,6 +47,8 @@ NamesNoCopy w (Stray node from octets) = ⊥
 NamesNoCopy w (AskAway client peer limits q) = ⊥
 NamesNoCopy w (Tick node) = ⊥
 NamesNoCopy w (Restart node exact store) = ⊥
+NamesNoCopy w (Begin node exact) = ⊥
+NamesNoCopy w (BeginAgain node exact first_id store) = ⊥
 NamesNoCopy w (Advance by own) = ⊥
 NamesNoCopy w (Change node c) = ⊥
 
@@ -64,6 +68,8 @@ PassesClock w (Stray node from octets) = ⊥
 PassesClock w (AskAway client peer limits q) = ⊥
 PassesClock w (Tick node) = ⊥
 PassesClock w (Restart node exact store) = ⊥
+PassesClock w (Begin node exact) = ⊥
+PassesClock w (BeginAgain node exact first_id store) = ⊥
 PassesClock w (Change node c) = ⊥
 
 -- it is a change that has that fault
@@ -71,7 +77,13 @@ abbrev pub RefusesChange : World → Event → ChangeFault → Type 0
 RefusesChange w (Change node c) why = (a : Node) × (slice_get w.nodes node ≡ Some a) × (change_fault a.store c ≡ Some why)
 RefusesChange w e why = ⊥
 
--- it takes memory: an ask, a tick, a restart, a copy that is deliverable, octets of a stranger, an ask of one, and a change without a fault
+-- a node may not begin: something happened at it; nor may another program begin there: not all is over that its client sent
+abbrev pub BeginsTooSoon : World → Event → Type 0
+BeginsTooSoon w (Begin node exact) = IsThere w node × ((w.lives node).active ≡ true)
+BeginsTooSoon w (BeginAgain node exact first_id store) = IsThere w node × (is_quiet w node ≡ false)
+BeginsTooSoon w e = ⊥
+
+-- it takes memory: an ask, a tick, a restart, another program that may begin, a copy that is deliverable, octets of a stranger, an ask of one, and a change without a fault
 abbrev pub TakesMemory : (overtake : ℕ) → World → Event → Type 0
 TakesMemory overtake w (Ask client server limits r) = Unit {0}
 TakesMemory overtake w (Deliver number) =
@@ -81,6 +93,8 @@ TakesMemory overtake w (Stray node from octets) = IsOfNone w.nodes from
 TakesMemory overtake w (AskAway client peer limits q) = IsOfNone w.nodes peer.link
 TakesMemory overtake w (Tick node) = Unit {0}
 TakesMemory overtake w (Restart node exact store) = Unit {0}
+TakesMemory overtake w (Begin node exact) = ⊥
+TakesMemory overtake w (BeginAgain node exact first_id store) = is_quiet w node ≡ true
 TakesMemory overtake w (Advance by own) = ⊥
 TakesMemory overtake w (Change node c) = (why : ChangeFault) → RefusesChange w (Change node c) why → ⊥
 
@@ -90,6 +104,7 @@ IsFault fault.NoSuchNode overtake w e = NamesNoNode w e
 IsFault fault.NoSuchDatagram overtake w e = NamesNoCopy w e
 IsFault fault.NodeLink overtake w e = NamesNodeLink w e
 IsFault fault.ClockEnd overtake w e = PassesClock w e
+IsFault fault.TooSoon overtake w e = BeginsTooSoon w e
 IsFault (fault.BadChange why) overtake w e = RefusesChange w e why
 IsFault fault.NoMemory overtake w e = TakesMemory overtake w e × (NamesNoNode w e → ⊥)
 
@@ -129,6 +144,8 @@ Tells None old (Stray node from octets) new = Unit {0}
 Tells None old (AskAway client peer limits q) new = IsAskedAway old client peer limits q new
 Tells None old (Tick node) new = Unit {0}
 Tells None old (Restart node exact store) new = Unit {0}
+Tells None old (Begin node exact) new = Unit {0}
+Tells None old (BeginAgain node exact first_id store) new = Unit {0}
 Tells None old (Advance by own) new = Unit {0}
 Tells None old (Change node c) new = Unit {0}
 Tells (Some f) old (Deliver number) new = ⊥
@@ -137,6 +154,8 @@ Tells (Some f) old (Stray node from octets) new = ⊥
 Tells (Some f) old (AskAway client peer limits q) new = IsRefusedFor f old client peer limits q new
 Tells (Some f) old (Tick node) new = ⊥
 Tells (Some f) old (Restart node exact store) new = ⊥
+Tells (Some f) old (Begin node exact) new = ⊥
+Tells (Some f) old (BeginAgain node exact first_id store) new = ⊥
 Tells (Some f) old (Advance by own) new = ⊥
 Tells (Some f) old (Change node c) new = ⊥
 

@@ -41,11 +41,15 @@ event_view t (event.Tick node) = world.Event.Tick node
 event_view t (event.Advance by) = world.Event.Advance (parts_of t.own * by) (steps_of t.own by)
 event_view t (event.Change node change) = world.Event.Change node (change_view change)
 event_view t (event.Restart node store) = world.Event.Restart node (restart_at t.moment t.own) store
+event_view t (event.Begin node) = world.Event.Begin node (restart_at t.moment t.own)
+event_view t (event.BeginAgain node first_id store) = world.Event.BeginAgain node (restart_at t.moment t.own) first_id store
 
 -- the moment after it
 abbrev pub instant_after : Event → Instant → Instant
 instant_after (event.Advance by) t = record { moment = t.moment + parts_of t.own * by; own = later_by by t.own }
 instant_after (event.Restart node store) t = record t { own = restarted_own node t.own }
+instant_after (event.Begin node) t = record t { own = restarted_own node t.own }
+instant_after (event.BeginAgain node first_id store) t = record t { own = restarted_own node t.own }
 instant_after e t = t
 
 -- events one after the other, the first of them at that moment

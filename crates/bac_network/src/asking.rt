@@ -1,5 +1,5 @@
 //! Asks.
-ghost use Rattle.std.specs.Prelude.{◌≡◌, ◌+◌, ◌<◌, ◌≤◌, ℕ, IfOk, List, OnOk, length, vec_capacity};
+ghost use Rattle.std.specs.Prelude.{◌≡◌, ◌+◌, ◌<◌, ◌≤◌, ℕ, IfOk, List, OnOk, length, vec_capacity, OnErr};
 ghost use Rattle.bac_apdu.specs.Views.{limits_view};
 ghost use Rattle.bac_service.specs.Views.{owned_request_view};
 ghost use Rattle.bac_world.specs.Node.{Node};
@@ -41,6 +41,7 @@ impl Network {
             (world_of self.new) }
         ensures links { self.new.journal.links ≡ self.old.journal.links }
         ensures stays { instant self.new.journal ≡ instant self.old.journal }
+        ensures lived { OnErr result (self.new.journal.lives ≡ self.old.journal.lives) }
     {
         if client >= self.nodes.len() || server >= self.nodes.len() {
             return Err(WorldFault::NoSuchNode);
@@ -87,6 +88,7 @@ impl Network {
             (world_of self.new) }
         ensures links { self.new.journal.links ≡ self.old.journal.links }
         ensures stays { instant self.new.journal ≡ instant self.old.journal }
+        ensures lived { OnErr result (self.new.journal.lives ≡ self.old.journal.lives) }
     {
         let peer = Peer {
             link: self.nodes[server].link(),
@@ -159,4 +161,5 @@ fn note(
         stranger: None,
     });
     journal.send(client, sends);
+    journal.begin_ask(client);
 }

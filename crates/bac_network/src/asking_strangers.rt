@@ -1,5 +1,5 @@
 //! Asks of strangers.
-ghost use Rattle.std.specs.Prelude.{◌≡◌, ◌+◌, ◌<◌, ◌≤◌, ◌∷◌, ℕ, IfOk, OnOk, length, vec_capacity};
+ghost use Rattle.std.specs.Prelude.{◌≡◌, ◌+◌, ◌<◌, ◌≤◌, ◌∷◌, ℕ, IfOk, OnOk, length, vec_capacity, OnErr};
 ghost use Rattle.bac_apdu.specs.Views.{limits_view};
 ghost use Rattle.bac_npdu.specs.Views.{peer_view};
 ghost use Rattle.bac_service.specs.Views.{owned_request_view};
@@ -40,6 +40,7 @@ impl Network {
             (AskAway client (peer_view peer.now) (limits_view limits.now) (owned_request_view request.now)) result (world_of self.new) }
         ensures links { self.new.journal.links ≡ self.old.journal.links }
         ensures stays { instant self.new.journal ≡ instant self.old.journal }
+        ensures lived { OnErr result (self.new.journal.lives ≡ self.old.journal.lives) }
     {
         if client >= self.nodes.len() {
             return Err(WorldFault::NoSuchNode);
@@ -86,6 +87,7 @@ impl Network {
             (AskAway client (peer_view peer.now) (limits_view limits.now) (owned_request_view request.now)) result (world_of self.new) }
         ensures links { self.new.journal.links ≡ self.old.journal.links }
         ensures stays { instant self.new.journal ≡ instant self.old.journal }
+        ensures lived { OnErr result (self.new.journal.lives ≡ self.old.journal.lives) }
     {
         let now = self.journal.told(client);
         match ask(&mut self.nodes, client, now, peer, limits, request) {
@@ -114,6 +116,7 @@ fn note_away(
     request: OwnedRequest,
     asked: Asked,
 )
+    requires there { client < length journal.old.links }
     requires room { HasStrangerRoom journal.old client }
     requires counted { asked.ticket ≤ tickets_of client journal.old.notes }
     requires log_room { length log.old.items + 1 ≤ vec_capacity log.old }
@@ -137,4 +140,5 @@ fn note_away(
         ticket: asked.ticket,
         stranger: Some(peer),
     });
+    journal.act(client);
 }

@@ -29,6 +29,7 @@ impl Network {
             → Happens overtake (world_of self.old) (Happening node (change_view change.now)) result (world_of self.new) }
         ensures links { self.new.journal.links ≡ self.old.journal.links }
         ensures stays { instant self.new.journal ≡ instant self.old.journal }
+        ensures lived { OnErr result (self.new.journal.lives ≡ self.old.journal.lives) }
     {
         if node >= self.nodes.len() {
             return Err(WorldFault::NoSuchNode);
@@ -47,6 +48,7 @@ impl Network {
         ensures err { OnErr result (world_of self.new ≡ world_of self.old) }
         ensures links { self.new.journal.links ≡ self.old.journal.links }
         ensures stays { instant self.new.journal ≡ instant self.old.journal }
+        ensures lived { OnErr result (self.new.journal.lives ≡ self.old.journal.lives) }
     {
         let kept = change.copy(alloc)?;
         self.make_room(1, 0)?;
@@ -63,6 +65,7 @@ impl Network {
         ensures err { OnErr result (world_of self.new ≡ world_of self.old) }
         ensures links { self.new.journal.links ≡ self.old.journal.links }
         ensures stays { instant self.new.journal ≡ instant self.old.journal }
+        ensures lived { OnErr result (self.new.journal.lives ≡ self.old.journal.lives) }
     {
         change_node(&mut self.nodes, node, change)?;
         self.log.push_reserved(Fact::Changed { node, change: kept });

@@ -24,6 +24,7 @@ impl Network {
         ensures happens { Happens overtake (world_of self.old) (Deliver number) result (world_of self.new) }
         ensures links { self.new.journal.links ≡ self.old.journal.links }
         ensures stays { instant self.new.journal ≡ instant self.old.journal }
+        ensures lived { OnErr result (self.new.journal.lives ≡ self.old.journal.lives) }
     {
         match self.journal.is_deliverable(overtake, number) {
             None => Err(WorldFault::NoSuchDatagram),
@@ -39,6 +40,7 @@ impl Network {
         ensures err { OnErr result (world_of self.new ≡ world_of self.old) }
         ensures links { self.new.journal.links ≡ self.old.journal.links }
         ensures stays { instant self.new.journal ≡ instant self.old.journal }
+        ensures lived { OnErr result (self.new.journal.lives ≡ self.old.journal.lives) }
     {
         self.make_room(2, usize::from(window) + 1)?;
         self.hand_over(window, number)
@@ -53,6 +55,7 @@ impl Network {
         ensures err { OnErr result (world_of self.new ≡ world_of self.old) }
         ensures links { self.new.journal.links ≡ self.old.journal.links }
         ensures stays { instant self.new.journal ≡ instant self.old.journal }
+        ensures lived { OnErr result (self.new.journal.lives ≡ self.old.journal.lives) }
     {
         let (to, outcome) = hear_copy(&mut self.nodes, &self.journal, number)?;
         enter(

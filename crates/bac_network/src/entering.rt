@@ -26,7 +26,7 @@ pub(crate) fn enter(
     requires log_room { length log.old.items + length (outcome_view outcome).ended + performances (outcome_view outcome).performed ≤ vec_capacity log.old }
     ensures entered { (nodes : List world.Node) → AreLinks nodes journal.old.links
         → IsEntered nodes node after.now (outcome_view outcome) journal.old journal.new (log_view log.old.items) (log_view log.new.items) }
-    ensures same { journal.new ≡ record (journal.old) { copies = journal.new.copies; room = journal.new.room } }
+    ensures same { journal.new ≡ record (journal.old) { lives = journal.new.lives; copies = journal.new.copies; room = journal.new.room } }
 {
     let Outcome {
         sends,
@@ -37,4 +37,5 @@ pub(crate) fn enter(
     log_endings(log, journal, node, ended);
     log_performed(after, log, journal, node, effect);
     journal.send(node, sends);
+    journal.act(node);
 }

@@ -78,4 +78,20 @@ pub enum Event {
         /// The store with which it starts again, or None where it keeps its own.
         store: Option<Store>,
     },
+    /// A node at which nothing happened so far begins, at any moment: its clock begins at 0, where it has its own, and is as fast as before.
+    Begin {
+        /// The node.
+        node: usize,
+    },
+    /// Another program begins at a node's link, once all is over that the one before sent: 135,001 ms after its last ask, and 75,001 ms after a restart, where
+    /// all nodes have one clock. Its client may ask at once, with tickets from 0 on; its server turns requests away for `KEEP`, as after a restart. Its clock
+    /// begins at 0, where it has its own.
+    BeginAgain {
+        /// The node.
+        node: usize,
+        /// Where its invoke IDs begin.
+        first_id: u8,
+        /// The store with which it starts, or None where it has that of the one before.
+        store: Option<Store>,
+    },
 }

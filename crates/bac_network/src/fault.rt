@@ -24,6 +24,9 @@ pub enum WorldFault {
     /// The moment would pass 64 bits.
     #[error("the clock is at its end")]
     ClockEnd,
+    /// A node may not begin any more: something happened at it. Or another program may not begin there yet: not all is over that its client sent.
+    #[error("the node may not begin now")]
+    TooSoon,
     /// A change of a node's own store has that fault, which is never `NoMemory`.
     #[error("the change is refused: {0}")]
     BadChange(ChangeFault),
@@ -34,7 +37,7 @@ pub enum WorldFault {
 
 impl WorldFault {
     /// The number of the fault (own numbers of this profile): 1 `NoSuchNode`, 2 `NoSuchDatagram`, 3 `ClockEnd`, 4 `NoMemory`, 9
-    /// `BadChange`, 10 `NodeLink`.
+    /// `BadChange`, 10 `NodeLink`, 11 `TooSoon`.
     pub fn number(self) -> u8
         ensures { result ≡ fault_number self }
     {
@@ -43,6 +46,7 @@ impl WorldFault {
             WorldFault::NoSuchDatagram => 2,
             WorldFault::NodeLink => 10,
             WorldFault::ClockEnd => 3,
+            WorldFault::TooSoon => 11,
             WorldFault::BadChange(_) => 9,
             WorldFault::NoMemory => 4,
         }

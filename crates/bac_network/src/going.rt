@@ -8,7 +8,7 @@ ghost use Rattle.bac_store.specs.Views.{change_view};
 ghost use Rattle.bac_node.specs.Calls.{Refuses, IsAsked, ticked};
 ghost use Rattle.bac_node.specs.Views.{outcome_view};
 ghost use Rattle.bac_world.specs.Laws.{IsMeaningless};
-ghost use Rattle.bac_world.specs.Node.{Node as NodeView, NodeOn, NodeTick, restarted, store_after_restart, with_change};
+ghost use Rattle.bac_world.specs.Node.{Node as NodeView, NodeOn, NodeTick, begun_again, restarted, store_after_restart, with_change};
 ghost use Rattle.bac_world.specs.World.{Copy};
 ghost use Rattle.bac_network.specs.Clocks.{instant, told_at};
 ghost use Rattle.bac_network.specs.Goings.{ArePunctual, Goes, IsBetween, IsHeardCopy, IsPunctual};
@@ -116,6 +116,22 @@ pub(crate) fn change_node(nodes: &mut [Node], i: usize, change: &Change) -> Resu
         Err(ChangeFault::NoMemory) => Err(NoMemory),
         Err(_) => unreachable!(),
     }
+}
+
+/// Another program begins at a node's link, with the store that was there or another one.
+pub(crate) fn replace_node(
+    nodes: &mut [Node],
+    i: usize,
+    now: u64,
+    first_id: u8,
+    store: Option<Store>,
+) -> Result<(), NoMemory>
+    requires { i < length nodes.old }
+    ensures went { OnOk result (Goes nodes.old i (λ a b. b ≡ begun_again now first_id (store_after_restart a.store store) a) nodes.new) }
+    ensures err { OnErr result (nodes.new ≡ nodes.old) }
+{
+    let node = &mut nodes[i];
+    node.begin_again(now, first_id, store)
 }
 
 /// A node restarts, with the store that it has or another one.

@@ -8,6 +8,7 @@
 
 mod asking;
 mod asking_strangers;
+mod beginning;
 mod changing;
 mod clocks;
 mod comparing_changes;

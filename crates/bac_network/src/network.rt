@@ -45,6 +45,7 @@ impl Network {
         ensures links { self.new.journal.links ≡ self.old.journal.links }
         ensures passed { OnOk result (instant self.new.journal ≡ instant_after event.now (instant self.old.journal)) }
         ensures stays { OnErr result (instant self.new.journal ≡ instant self.old.journal) }
+        ensures lived { OnErr result (self.new.journal.lives ≡ self.old.journal.lives) }
     {
         match event {
             Event::Ask {
@@ -68,6 +69,12 @@ impl Network {
             Event::Advance { by } => untold(self.advance(*by)),
             Event::Change { node, change } => untold(self.change(alloc, *node, change)),
             Event::Restart { node, store } => untold(self.restart(alloc, *node, store)),
+            Event::Begin { node } => untold(self.begin(*node)),
+            Event::BeginAgain {
+                node,
+                first_id,
+                store,
+            } => untold(self.begin_again(alloc, *node, *first_id, store)),
         }
     }
 }

@@ -1,11 +1,11 @@
 //! Octets that no node sent.
-ghost use Rattle.std.specs.Prelude.{◌≡◌, ◌<◌, ℕ, length};
+ghost use Rattle.std.specs.Prelude.{◌≡◌, ◌<◌, ℕ, length, OnErr};
 ghost use Rattle.bac_world.specs.Laws.{IsMeaningless};
 ghost use Rattle.bac_world.specs.World.{HearsNoise};
 ghost use Rattle.bac_world.specs.World.Event.{Noise};
 ghost use Rattle.bac_network.specs.Goings.{ArePunctual};
 ghost use Rattle.bac_network.specs.Clocks.{instant};
-ghost use Rattle.bac_network.specs.Networks.{told_in, world_of};
+ghost use Rattle.bac_network.specs.Networks.{told_in, world_of, IsReady};
 ghost use Rattle.bac_network.specs.Steps.{Happens};
 
 use crate::fault::WorldFault;
@@ -22,10 +22,11 @@ impl Network {
         from: LinkAddress,
         octets: &[u8],
     ) -> Result<(), WorldFault>
-        requires { ArePunctual self.old.nodes.items (told_in self.old) }
+        requires { (window : ℕ) × (overtake : ℕ) × IsReady window overtake self.old }
         ensures happens { (overtake : ℕ) → Happens overtake (world_of self.old) (Noise node from octets.now) result (world_of self.new) }
         ensures links { self.new.journal.links ≡ self.old.journal.links }
         ensures stays { instant self.new.journal ≡ instant self.old.journal }
+        ensures lived { OnErr result (self.new.journal.lives ≡ self.old.journal.lives) }
     {
         if node >= self.nodes.len() {
             return Err(WorldFault::NoSuchNode);
@@ -40,6 +41,7 @@ impl Network {
     fn drop_noise(&mut self, node: usize, from: LinkAddress, octets: &[u8])
         requires punctual { ArePunctual self.old.nodes.items (told_in self.old) }
         requires there { node < length self.old.nodes.items }
+        requires linked { node < length self.old.journal.links }
         requires noise { IsMeaningless from octets.now }
         ensures heard { HearsNoise (world_of self.old) node from octets.now (world_of self.new) }
         ensures links { self.new.journal.links ≡ self.old.journal.links }
@@ -48,5 +50,6 @@ impl Network {
         let Ok(_outcome) = hear(&mut self.nodes, node, self.journal.told(node), from, octets) else {
             unreachable!()
         };
+        self.journal.act(node);
     }
 }

@@ -16,7 +16,7 @@ use bac_value::NoMemory;
 use std::alloc::Global;
 
 /// A copy of the store with which a node starts again, if it is another one than it had.
-fn start_of(alloc: Global, store: &Option<Store>) -> Result<Option<Store>, NoMemory>
+pub(crate) fn start_of(alloc: Global, store: &Option<Store>) -> Result<Option<Store>, NoMemory>
     ensures { IfOk result (λ s. s ≡ store.now) }
 {
     match store {
@@ -40,6 +40,7 @@ impl Network {
         ensures passed { OnOk result (instant self.new.journal
             ≡ record { moment = self.old.journal.moment; own = restarted_own node self.old.journal.own }) }
         ensures stays { OnErr result (instant self.new.journal ≡ instant self.old.journal) }
+        ensures lived { OnErr result (self.new.journal.lives ≡ self.old.journal.lives) }
     {
         if node >= self.nodes.len() {
             return Err(WorldFault::NoSuchNode);
@@ -63,6 +64,7 @@ impl Network {
         ensures passed { OnOk result (instant self.new.journal
             ≡ record { moment = self.old.journal.moment; own = restarted_own node self.old.journal.own }) }
         ensures stays { OnErr result (instant self.new.journal ≡ instant self.old.journal) }
+        ensures lived { OnErr result (self.new.journal.lives ≡ self.old.journal.lives) }
     {
         let kept = start_of(alloc, store)?;
         let given = start_of(alloc, store)?;
@@ -88,9 +90,11 @@ impl Network {
         ensures passed { OnOk result (instant self.new.journal
             ≡ record { moment = self.old.journal.moment; own = restarted_own node self.old.journal.own }) }
         ensures stays { OnErr result (instant self.new.journal ≡ instant self.old.journal) }
+        ensures lived { OnErr result (self.new.journal.lives ≡ self.old.journal.lives) }
     {
         let now = self.journal.told_at_restart();
         restart_node(&mut self.nodes, node, now, given)?;
+        self.journal.end_asks(node);
         self.journal.restart_clock(node);
         let fact = Fact::Restarted { node, store: kept };
         self.log.push_reserved(fact);

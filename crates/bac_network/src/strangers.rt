@@ -26,6 +26,7 @@ impl Network {
         ensures happens { (overtake : ℕ) → Happens overtake (world_of self.old) (Stray node from octets.now) result (world_of self.new) }
         ensures links { self.new.journal.links ≡ self.old.journal.links }
         ensures stays { instant self.new.journal ≡ instant self.old.journal }
+        ensures lived { OnErr result (self.new.journal.lives ≡ self.old.journal.lives) }
     {
         if node >= self.nodes.len() {
             return Err(WorldFault::NoSuchNode);
@@ -51,6 +52,7 @@ impl Network {
         ensures err { OnErr result (world_of self.new ≡ world_of self.old) }
         ensures links { self.new.journal.links ≡ self.old.journal.links }
         ensures stays { instant self.new.journal ≡ instant self.old.journal }
+        ensures lived { OnErr result (self.new.journal.lives ≡ self.old.journal.lives) }
     {
         self.make_room(2, usize::from(window) + 1)?;
         self.hear_with_room(window, node, from, octets)
@@ -72,6 +74,7 @@ impl Network {
         ensures err { OnErr result (world_of self.new ≡ world_of self.old) }
         ensures links { self.new.journal.links ≡ self.old.journal.links }
         ensures stays { instant self.new.journal ≡ instant self.old.journal }
+        ensures lived { OnErr result (self.new.journal.lives ≡ self.old.journal.lives) }
     {
         let outcome = hear(&mut self.nodes, node, self.journal.told(node), from, octets)?;
         enter(

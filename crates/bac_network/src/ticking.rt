@@ -23,6 +23,7 @@ impl Network {
         ensures happens { (overtake : ℕ) → Happens overtake (world_of self.old) (Tick node) result (world_of self.new) }
         ensures links { self.new.journal.links ≡ self.old.journal.links }
         ensures stays { instant self.new.journal ≡ instant self.old.journal }
+        ensures lived { OnErr result (self.new.journal.lives ≡ self.old.journal.lives) }
     {
         if node >= self.nodes.len() {
             return Err(WorldFault::NoSuchNode);
@@ -38,6 +39,7 @@ impl Network {
         ensures err { OnErr result (world_of self.new ≡ world_of self.old) }
         ensures links { self.new.journal.links ≡ self.old.journal.links }
         ensures stays { instant self.new.journal ≡ instant self.old.journal }
+        ensures lived { OnErr result (self.new.journal.lives ≡ self.old.journal.lives) }
     {
         let outcome = due(&self.nodes[node], self.journal.told(node))?;
         self.make_room(outcome.ended.len(), outcome.sends.len())?;
@@ -72,6 +74,7 @@ impl Network {
         ensures passed { OnOk result (instant self.new.journal
             ≡ record { moment = self.old.journal.moment + parts_of self.old.journal.own * by; own = later_by by self.old.journal.own }) }
         ensures stays { OnErr result (instant self.new.journal ≡ instant self.old.journal) }
+        ensures lived { OnErr result (self.new.journal.lives ≡ self.old.journal.lives) }
     {
         match self.journal.advance(by) {
             Some(()) => Ok(()),

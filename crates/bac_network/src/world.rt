@@ -10,7 +10,7 @@ ghost use Rattle.bac_network.specs.Histories.{AreChangesPermittedNow, AreEndedOn
 ghost use Rattle.bac_network.specs.Histories.{AreServedApartNow, HasNoStrangerNow, HasRequestsAloneNow, IsOnceAmongNodesNow, IsOnceByRequestsAloneNow};
 ghost use Rattle.bac_network.specs.Histories.{IsOnceNow, as_world};
 ghost use Rattle.bac_network.specs.OfNone.{HasStrangersOfNoneNow};
-ghost use Rattle.bac_network.specs.Steps.{NamesNoCopy, NamesNoNode, NamesNodeLink, PassesClock, RefusesChange, TakesMemory, Tells};
+ghost use Rattle.bac_network.specs.Steps.{BeginsTooSoon, NamesNoCopy, NamesNoNode, NamesNodeLink, PassesClock, RefusesChange, TakesMemory, Tells};
 ghost use Rattle.bac_network.specs.Runs.{RequestsTakeEffectOnce, StopsAt};
 ghost use Rattle.bac_network.specs.Views.{event_view, events_view, instant_after, instant_after_all, log_view};
 
@@ -153,7 +153,7 @@ impl World {
     ///
     /// Errors: `NoSuchNode` exactly where the world has no node that the event names, `NoSuchDatagram` exactly where it has no copy of that number, `ClockEnd`
     /// exactly where the moment would pass 64 bits, `BadChange` exactly where a change of a node's own store has that fault, `NodeLink` exactly where the node of
-    /// a stranger's event is there and the stranger's link is a node's, and after these `NoMemory` where an allocation fails: never for noise, for a copy that is
+    /// a stranger's event is there and the stranger's link is a node's, `TooSoon` exactly where a node is there and may not begin now, and after these `NoMemory` where an allocation fails: never for noise, for a copy that is
     /// not deliverable, or for the clock. After an error the world is as before.
     pub fn step(&mut self, event: &Event) -> Result<Option<AskFault>, WorldFault>
         ensures went { OnOk result (WorldStep self.old.overtake (as_world self.old) (event_view self.old.time event.now) (as_world self.new)) }
@@ -162,6 +162,7 @@ impl World {
         ensures datagram { IsErrOf result WorldFault.NoSuchDatagram ↔ NamesNoCopy (as_world self.old) (event_view self.old.time event.now) }
         ensures link { IsErrOf result WorldFault.NodeLink ↔ NamesNodeLink (as_world self.old) (event_view self.old.time event.now) }
         ensures clock { IsErrOf result WorldFault.ClockEnd ↔ PassesClock (as_world self.old) (event_view self.old.time event.now) }
+        ensures soon { IsErrOf result WorldFault.TooSoon ↔ BeginsTooSoon (as_world self.old) (event_view self.old.time event.now) }
         ensures change { (why : ChangeFault)
             → (IsErrOf result (WorldFault.BadChange why) ↔ RefusesChange (as_world self.old) (event_view self.old.time event.now) why) }
         ensures memory { IsErrOf result WorldFault.NoMemory → TakesMemory self.old.overtake (as_world self.old) (event_view self.old.time event.now) }

@@ -1,6 +1,7 @@
 -- Which nodes are made, and what they are then.
 use Rattle.std.specs.Prelude.{ℕ, Option, Some, None, Bool, ◌&&◌, [], nat_le}
 use Rattle.bac_store.specs.Stores.{Store}
+use Rattle.bac_transaction.specs.Ends.{server_restarted}
 use Rattle.bac_world.specs.Node.{Node, restarted}
 use Rattle.bac_node.specs.Views.{settings_of}
 use Rattle.bac_node.specs.declared.config.Config.{Config}
@@ -50,3 +51,13 @@ with_first_id first_id n = record n { clients = record n.clients { first_id = fi
 abbrev pub made_node : Config → Store → (restart : Option ℕ) → Node
 made_node c s None = fresh_node c s
 made_node c s (Some now) = restarted now s (fresh_node c s)
+
+-- both tables of a node are lost at that moment: its client asks from that one on, and its server waits
+abbrev pub renewed : (now asks_from first_id : ℕ) → Store → Node → Node
+renewed now asks_from first_id s n =
+    record n {
+      latest = now;
+      clients = record { slots = []; capacity = n.clients.capacity; asked = 0; asks_from = asks_from; first_id = first_id };
+      servers = server_restarted now n.servers;
+      store = s;
+    }

@@ -10,12 +10,13 @@ use bac_transaction::PeerKey;
 use bac_value::NoMemory;
 use std::alloc::Global;
 
-/// The client's end and the server's, both empty, after a restart at that moment, if there was one.
+/// The client's end and the server's, both empty, each after a restart at its moment, if there was one.
 pub(crate) fn empty_ends(
     alloc: Global,
     client_slots: usize,
     reply_slots: usize,
-    restart: Option<u64>,
+    client_restart: Option<u64>,
+    server_restart: Option<u64>,
 ) -> Result<
     (
         Requester<IndexSlots<PeerKey, Client>>,
@@ -23,10 +24,10 @@ pub(crate) fn empty_ends(
     ),
     NoMemory,
 >
-    ensures clients { IfOk result (λ ends. ends.0 ≡ record { slots = []; capacity = client_slots; asked = 0; asks_from = first_after REST_TIME restart; first_id = 0 }) }
-    ensures servers { IfOk result (λ ends. ends.1 ≡ record { slots = []; capacity = reply_slots; serves_from = first_after KEPT_FOR restart }) }
+    ensures clients { IfOk result (λ ends. ends.0 ≡ record { slots = []; capacity = client_slots; asked = 0; asks_from = first_after REST_TIME client_restart; first_id = 0 }) }
+    ensures servers { IfOk result (λ ends. ends.1 ≡ record { slots = []; capacity = reply_slots; serves_from = first_after KEPT_FOR server_restart }) }
 {
-    let clients = Requester::new(alloc, client_slots, restart)?;
-    let servers = Responder::new(alloc, reply_slots, restart)?;
+    let clients = Requester::new(alloc, client_slots, client_restart)?;
+    let servers = Responder::new(alloc, reply_slots, server_restart)?;
     Ok((clients, servers))
 }

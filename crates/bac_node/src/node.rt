@@ -29,10 +29,10 @@ ghost use Rattle.bac_requester.specs.Short.{AreRepliesShort};
 ghost use Rattle.bac_responder.specs.Kept.{keeps_no_more, knows};
 ghost use Rattle.bac_responder.specs.Short.{AreRequestsShort};
 ghost use Rattle.bac_world.specs.Keys.{HasKeysApart};
-ghost use Rattle.bac_world.specs.Node.{NodeOn, NodeTick, IsHeardBy, restarted, store_after_restart, with_change};
+ghost use Rattle.bac_world.specs.Node.{NodeOn, NodeTick, IsHeardBy, begun_again, restarted, store_after_restart, with_change};
 ghost use Rattle.bac_world.specs.ReusingNodes.{NodeHears, NodeReusing};
 ghost use Rattle.bac_node.specs.Calls.{Dispatches, IsAsked, IsForNoneOpen, IsNotHeard, IsTickOfBoth, Refuses, ticked};
-ghost use Rattle.bac_node.specs.Fresh.{fresh_node, has_large_slots, has_slots, has_slots_within, made_node, window_fits, with_first_id};
+ghost use Rattle.bac_node.specs.Fresh.{fresh_node, has_large_slots, has_slots, has_slots_within, made_node, renewed, window_fits, with_first_id};
 ghost use Rattle.bac_node.specs.Memory.{EndsWithin, KeepsWithin, kept_octets};
 ghost use Rattle.bac_node.specs.Remembering.{DispatchesRemembering, IsHeardRememberingBy, NodeHearsBy};
 ghost use Rattle.bac_node.specs.Views.{outcome_view};
@@ -181,6 +181,7 @@ impl Node {
             alloc,
             config.client_slots,
             config.reply_slots,
+            restart,
             restart,
         )?;
         Ok(Node {
@@ -758,10 +759,46 @@ impl Node {
         ensures went { OnOk result (self.new ≡ restarted now (store_after_restart self.old.store store) self.old) }
         ensures err { OnErr result (self.new ≡ self.old) }
     {
+        let first_id = self.clients.first_id();
+        self.renew(now, Some(now), first_id, store)
+    }
+
+    /// Another program begins at the node's link at a moment in milliseconds, which may be before the latest one, with the store that was there, or with another
+    /// one: its client is as of a new node, and its invoke IDs begin at that one; its server waits as after `restarted`. Use it once all is over that the client
+    /// before it sent. `NoMemory` where its tables can't be allocated; the node is then as before.
+    pub fn begin_again(
+        &mut self,
+        now: u64,
+        first_id: u8,
+        store: Option<Store>,
+    ) -> Result<(), NoMemory>
+        ensures went { OnOk result (self.new ≡ begun_again now first_id (store_after_restart self.old.store store) self.old) }
+        ensures err { OnErr result (self.new ≡ self.old) }
+    {
+        self.renew(now, None, first_id, store)
+    }
+
+    /// Both tables are lost at that moment. The server waits from then on, and the client from a restart on, if there was one.
+    fn renew(
+        &mut self,
+        now: u64,
+        client_restart: Option<u64>,
+        first_id: u8,
+        store: Option<Store>,
+    ) -> Result<(), NoMemory>
+        ensures went { OnOk result (self.new ≡ renewed now (first_after REST_TIME client_restart) first_id (store_after_restart self.old.store store) self.old) }
+        ensures err { OnErr result (self.new ≡ self.old) }
+    {
         let client_slots = self.clients.capacity();
         let reply_slots = self.servers.capacity();
-        let (mut clients, servers) = empty_ends(self.alloc, client_slots, reply_slots, Some(now))?;
-        clients.set_first_invoke_id(self.clients.first_id());
+        let (mut clients, servers) = empty_ends(
+            self.alloc,
+            client_slots,
+            reply_slots,
+            client_restart,
+            Some(now),
+        )?;
+        clients.set_first_invoke_id(first_id);
         put_store(&mut self.store, store);
         self.clients = clients;
         self.servers = servers;

@@ -11,7 +11,7 @@ use Rattle.bac_world.specs.Node.{Node, Outcome, restarted}
 use Rattle.bac_world.specs.Once.Fact.{Restarted}
 use Rattle.bac_protocol.specs.Pace.{clock_at}
 use Rattle.bac_protocol.specs.Service.{Octets}
-use Rattle.bac_world.specs.World.{Copy, Delivers, DeliversIf, Hears, IsDelivered, Time, World, is_deliverable, link_at, peer_at, with_clock}
+use Rattle.bac_world.specs.World.{Copy, Delivers, DeliversIf, Hears, IsDelivered, Life, Time, World, is_deliverable, link_at, peer_at, with_act, with_clock, with_restart}
 use Rattle.bac_world.proofs.Answered.{ACCEPTED, ANSWER, ASK, ASKED_NODE, LAST, SECOND, THIRD, answer_delivered, answered_run, ask_copied, asks}
 use Rattle.bac_world.proofs.Answered.{copy, datagram, request_delivered}
 use Rattle.bac_node.specs.Waiting.{MovesAt, RestsUntil}
@@ -80,7 +80,7 @@ begun = record {
 }
 
 abbrev FIRST : Plant
-FIRST = record { stations = ASKED ∷ station 1 ∷ []; time = TIME; copies = SECOND.copies; log = SECOND.log; notes = SECOND.notes }
+FIRST = record { stations = ASKED ∷ station 1 ∷ []; time = TIME; lives = SECOND.lives; copies = SECOND.copies; log = SECOND.log; notes = SECOND.notes }
 
 asked : AsksAt OPENING 0 1 LIMITS REQUEST FIRST
 asked = record {
@@ -102,7 +102,7 @@ asked_calm : IsCalm 0 ASKED_NODE
 asked_calm = record { sends = refl; ended = refl }
 
 abbrev IDLE : Plant
-IDLE = with_station FIRST 0 (after_none 0 ASKED)
+IDLE = record (with_station FIRST 0 (after_none 0 ASKED)) { lives = with_act FIRST.lives 0 }
 
 abbrev node_in : World → ℕ → Node
 node_in w i = slice_index_or w.nodes i (node 0)
@@ -117,8 +117,32 @@ delivered_hears overtake w w' number c link d there may sender =
     let from : goes.link ≡ link = one_there (link_at w.nodes c.from) goes.link link goes.sender sender in
     subst (λ l. Hears w c.to l c.octets w') from goes.hears
 
-served_hears : Hears (world_of IDLE) 1 (link 0) (copy 0 1 ASK).octets THIRD
-served_hears = delivered_hears 253 SECOND THIRD 0 (copy 0 1 ASK) (link 0) request_delivered refl refl refl
+-- the same, whatever the nodes did before
+lived : (w w' : World) (lives : ℕ → Life) (i : ℕ) (from octets : Octets) → Hears w i from octets w'
+    → Hears (record w { lives = lives }) i from octets (record w' { lives = with_act lives i })
+lived w w' lives i from octets h = record {
+  before = h.before;
+  at = h.at;
+  after = h.after;
+  outcome = h.outcome;
+  on = h.on;
+  acts = record {
+    nodes = h.acts.nodes;
+    time = h.acts.time;
+    lives = refl;
+    notes = h.acts.notes;
+    sent = h.acts.sent;
+    copies = h.acts.copies;
+    copied = h.acts.copied;
+    between = h.acts.between;
+    ended = h.acts.ended;
+    logged = h.acts.logged;
+  };
+}
+
+served_hears : Hears (world_of IDLE) 1 (link 0) (copy 0 1 ASK).octets (record THIRD { lives = with_act IDLE.lives 1 })
+served_hears = lived SECOND THIRD IDLE.lives 1 (link 0) (copy 0 1 ASK).octets
+    (delivered_hears 253 SECOND THIRD 0 (copy 0 1 ASK) (link 0) request_delivered refl refl refl)
 
 served_is : served_hears.after ≡ node_in THIRD 1
 served_is = one_there (slice_get THIRD.nodes 1) served_hears.after (node_in THIRD 1) served_hears.acts.nodes.here refl
@@ -138,8 +162,9 @@ SERVED = next_plant IDLE 1 (after_turn 0 (station 1) (link 0) (copy 0 1 ASK).oct
 answer_comes : IsOfStation 253 SERVED 0 1 (link 1) (copy 1 0 ANSWER).octets
 answer_comes = record { copy = copy 1 0 ANSWER; there = refl; to = refl; sender = refl; whole = refl; young = omega arith; few = omega arith }
 
-answered_hears : Hears (world_of SERVED) 0 (link 1) (copy 1 0 ANSWER).octets LAST
-answered_hears = delivered_hears 253 THIRD LAST 1 (copy 1 0 ANSWER) (link 1) answer_delivered refl refl refl
+answered_hears : Hears (world_of SERVED) 0 (link 1) (copy 1 0 ANSWER).octets (record LAST { lives = with_act SERVED.lives 0 })
+answered_hears = lived THIRD LAST SERVED.lives 0 (link 1) (copy 1 0 ANSWER).octets
+    (delivered_hears 253 THIRD LAST 1 (copy 1 0 ANSWER) (link 1) answer_delivered refl refl refl)
 
 answered_is : answered_hears.after ≡ node_in LAST 0
 answered_is = one_there (slice_get LAST.nodes 0) answered_hears.after (node_in LAST 0) answered_hears.acts.nodes.here refl
@@ -165,10 +190,10 @@ answered_turns = record {
         so_far = record { middle = OPENING; so_far = refl; last = asked };
         last = idle_step 253 FIRST 0 ASKED refl refl (Some T_OUT) asked_due asked_calm;
       };
-      last = hearing_step 253 IDLE 1 (station 1) refl refl None fresh_due 0 (link 0) (copy 0 1 ASK).octets request_comes THIRD served_hears
+      last = hearing_step 253 IDLE 1 (station 1) refl refl None fresh_due 0 (link 0) (copy 0 1 ASK).octets request_comes _ served_hears
           (node_in THIRD 1) served_is served_calm;
     };
-    last = hearing_step 253 SERVED 0 waiting refl refl (Some T_OUT) asked_due 1 (link 1) (copy 1 0 ANSWER).octets answer_comes LAST answered_hears
+    last = hearing_step 253 SERVED 0 waiting refl refl (Some T_OUT) asked_due 1 (link 1) (copy 1 0 ANSWER).octets answer_comes _ answered_hears
         (node_in LAST 0) answered_is answered_calm;
   };
   log = refl;
@@ -220,12 +245,12 @@ answered_round = record {
           so_far = record { middle = OPENING; so_far = refl; last = asked };
           last = idle_step 253 FIRST 0 ASKED refl refl (Some T_OUT) asked_due asked_calm;
         };
-        last = holding_step 253 IDLE 1 (station 1) refl refl None fresh_due 0 (link 0) (copy 0 1 ASK).octets request_comes THIRD served_hears
+        last = holding_step 253 IDLE 1 (station 1) refl refl None fresh_due 0 (link 0) (copy 0 1 ASK).octets request_comes _ served_hears
             (node_in THIRD 1) served_is served_calm;
       };
       last = record { before = held_station; at = refl; after = sent_station; sends = sends_held; is = refl };
     };
-    last = hearing_step 253 SENT 0 waiting refl refl (Some T_OUT) asked_due 1 (link 1) (copy 1 0 ANSWER).octets answer_comes_again LAST answered_hears
+    last = hearing_step 253 SENT 0 waiting refl refl (Some T_OUT) asked_due 1 (link 1) (copy 1 0 ANSWER).octets answer_comes_again _ answered_hears
         (node_in LAST 0) answered_is answered_calm;
   };
   log = refl;
@@ -247,7 +272,7 @@ abbrev started : BoundNode → BoundNode
 started b = record b { node = restarted (clock_at TIME.pace 0).shows b.node.store b.node }
 
 abbrev cut_one : Plant → BoundNode → Plant
-cut_one p b = record (with_station p 1 (started b)) { time = with_clock p.time 1 0; log = Restarted 1 None ∷ p.log }
+cut_one p b = record (with_station p 1 (started b)) { time = with_clock p.time 1 0; lives = with_restart p.time p.lives 1; log = Restarted 1 None ∷ p.log }
 
 idle_run : CutPlantRun 253 (Goes (Takes 0 Nowhere (turn_by_none 0)) ∷ Goes (Begins 0 1 LIMITS REQUEST) ∷ []) CUT_OPENING (cut_plant IDLE)
 idle_run = record {
@@ -261,9 +286,9 @@ loses = record {
   before = station 1;
   at = refl;
   after = held_station;
-  holds = holds_now 253 IDLE 1 (station 1) refl refl None fresh_due 0 (link 0) (copy 0 1 ASK).octets request_comes THIRD served_hears
+  holds = holds_now 253 IDLE 1 (station 1) refl refl None fresh_due 0 (link 0) (copy 0 1 ASK).octets request_comes _ served_hears
       (node_in THIRD 1) served_is served_calm;
-  comes = comes_now 253 IDLE 1 (station 1) refl refl None fresh_due 0 (link 0) (copy 0 1 ASK).octets request_comes THIRD served_hears
+  comes = comes_now 253 IDLE 1 (station 1) refl refl None fresh_due 0 (link 0) (copy 0 1 ASK).octets request_comes _ served_hears
       (node_in THIRD 1) served_is served_calm;
   is = refl;
 }
@@ -301,7 +326,7 @@ cut_rounds = record {
       so_far = idle_run;
       last = record {
         free = refl;
-        goes = holding_step 253 IDLE 1 (station 1) refl refl None fresh_due 0 (link 0) (copy 0 1 ASK).octets request_comes THIRD served_hears
+        goes = holding_step 253 IDLE 1 (station 1) refl refl None fresh_due 0 (link 0) (copy 0 1 ASK).octets request_comes _ served_hears
             (node_in THIRD 1) served_is served_calm;
         same = refl;
       };

@@ -20,7 +20,7 @@ use Rattle.bac_plant.specs.Chains.{AsksAndStops, AsksInChain, Chain, ServesInCha
 use Rattle.bac_plant.specs.Network.{Source}
 use Rattle.bac_plant.specs.Plants.{Plant, shows}
 use Rattle.bac_plant.specs.Steps.{PlantRun, Step, TakesTurnAt}
-use Rattle.bac_plant.specs.Steps.Step.{Begins, BeginsAway, Changes, FailsToReceive, Holds, Passes, Restarts, SendsHeld, Takes}
+use Rattle.bac_plant.specs.Steps.Step.{Begins, BeginsAway, Changes, FailsToReceive, Holds, Passes, Restarts, SendsHeld, Starts, StartsAgain, Takes}
 
 early_turn : (p : WaitLimit) (old : Timed) (turn : Turn) (new : Timed) → TakesEarlyTurn p old turn new → TakesSomeTurn old.bound_node turn new.bound_node
 early_turn p old turn new t = record {
@@ -191,6 +191,14 @@ module _ (overtake i : ℕ) where
       (other_stays run.middle i j _ new.stations (ap (λ (p : Plant). p.stations) run.last.is) alone.0)
       (chain_of steps old run.middle run.so_far alone.1 before at)
   chain_of (Restarts j exact store ∷ steps) old new run alone before at =
+      still (turns_of i steps) run.middle new before
+      (other_stays run.middle i j run.last.after new.stations (ap (λ (p : Plant). p.stations) run.last.is) alone.0)
+      (chain_of steps old run.middle run.so_far alone.1 before at)
+  chain_of (Starts j exact ∷ steps) old new run alone before at =
+      still (turns_of i steps) run.middle new before
+      (other_stays run.middle i j run.last.after new.stations (ap (λ (p : Plant). p.stations) run.last.is) alone.0)
+      (chain_of steps old run.middle run.so_far alone.1 before at)
+  chain_of (StartsAgain j exact first_id store ∷ steps) old new run alone before at =
       still (turns_of i steps) run.middle new before
       (other_stays run.middle i j run.last.after new.stations (ap (λ (p : Plant). p.stations) run.last.is) alone.0)
       (chain_of steps old run.middle run.so_far alone.1 before at)

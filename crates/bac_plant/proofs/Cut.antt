@@ -14,7 +14,7 @@ use Rattle.bac_driver.specs.Turns.{Turn, ended_of, performed_of}
 use Rattle.bac_plant.specs.Cuts.{CutPlant, CutPlantRun, CutStep, KeepStores, steps_of}
 use Rattle.bac_plant.specs.Plants.{HasNoReuse, Plant, nodes_of, settings_of, world_of}
 use Rattle.bac_plant.specs.Steps.{AreEntered, PlantRun, PlantStep, Step}
-use Rattle.bac_plant.specs.Steps.Step.{Begins, BeginsAway, Changes, FailsToReceive, Holds, Passes, Restarts, SendsHeld, Takes}
+use Rattle.bac_plant.specs.Steps.Step.{Begins, BeginsAway, Changes, FailsToReceive, Holds, Passes, Restarts, SendsHeld, Starts, StartsAgain, Takes}
 use Rattle.bac_plant.proofs.Runs.{apart, once, once_ever}
 
 pub cut_steps : (overtake : ℕ) (steps : List CutStep) (old new : CutPlant) → CutPlantRun overtake steps old new
@@ -72,6 +72,8 @@ step_alone overtake (Begins i server limits r) old new s k h = log_is new _ s.is
 step_alone overtake (BeginsAway i peer limits r) old new s k h = log_is new _ s.is h
 step_alone overtake (Changes i change) old new s k h = absurd k
 step_alone overtake (Restarts i exact store) old new s k h = log_is new _ s.is (k.0, h)
+step_alone overtake (Starts i exact) old new s k h = log_is new _ s.is h
+step_alone overtake (StartsAgain i exact first_id store) old new s k h = log_is new _ s.is (k.0, h)
 step_alone overtake (Holds i source turn) old new s k h =
     log_is new _ s.happens.is (enters_alone s.reuse old i s.holds.takes.middle turn s.happens.log s.happens.entered h)
 step_alone overtake (SendsHeld i turns) old new s k h = log_is new _ s.is h
@@ -84,6 +86,8 @@ keeps_both (Begins i server limits r) before k = (tt, k)
 keeps_both (BeginsAway i peer limits r) before k = (tt, k)
 keeps_both (Changes i change) before k = absurd k
 keeps_both (Restarts i exact store) before k = ((k.0, tt), k.1)
+keeps_both (Starts i exact) before k = (tt, k)
+keeps_both (StartsAgain i exact first_id store) before k = ((k.0, tt), k.1)
 keeps_both (Holds i source turn) before k = (tt, k)
 keeps_both (SendsHeld i turns) before k = (tt, k)
 

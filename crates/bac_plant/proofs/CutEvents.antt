@@ -43,7 +43,7 @@ starts_again overtake old i exact new r =
     record {
       store = s.before.store;
       found = ap (option_map (λ (n : Node). n.store)) s.at;
-      starts = record { before = s.before; at = s.at; nodes = s.nodes; time = s.time; copies = s.copies; notes = s.notes; log = s.log };
+      starts = record { before = s.before; at = s.at; nodes = s.nodes; time = s.time; lives = s.lives; copies = s.copies; notes = s.notes; log = s.log };
     }
 
 cut_by : (overtake : ℕ) (u : Reuses) (steps : List CutStep) (old new : CutPlant) → ((i : ℕ) → settings_of old.plant i ≡ u i)

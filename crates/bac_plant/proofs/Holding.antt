@@ -12,7 +12,7 @@ use Rattle.bac_plant.specs.Network.{Source}
 use Rattle.bac_plant.specs.Plants.{Plant, shows}
 use Rattle.bac_plant.specs.Rounds.{HeldChain, HoldsTurnOnce, RoundInChain}
 use Rattle.bac_plant.specs.Steps.{AreSent, HoldsTurnAt, PlantStep, Step}
-use Rattle.bac_plant.specs.Steps.Step.{Begins, BeginsAway, Changes, FailsToReceive, Holds, Passes, Restarts, SendsHeld, Takes}
+use Rattle.bac_plant.specs.Steps.Step.{Begins, BeginsAway, Changes, FailsToReceive, Holds, Passes, Restarts, SendsHeld, Starts, StartsAgain, Takes}
 use Rattle.bac_plant.proofs.Chained.{other_stays, self_is}
 use Rattle.bac_plant.proofs.Rounded.{run_after}
 use Rattle.bac_plant.proofs.Turned.{one_there}
@@ -51,6 +51,9 @@ module _ (overtake i : ℕ) where
   others_stay (Changes j change) old new s ne = other_stays old i j _ new.stations (ap (λ (p : Plant). p.stations) s.is) (λ e. ne (ap Some e))
   others_stay (Restarts j exact store) old new s ne =
       other_stays old i j s.after new.stations (ap (λ (p : Plant). p.stations) s.is) (λ e. ne (ap Some e))
+  others_stay (Starts j exact) old new s ne = other_stays old i j s.after new.stations (ap (λ (p : Plant). p.stations) s.is) (λ e. ne (ap Some e))
+  others_stay (StartsAgain j exact first_id store) old new s ne =
+      other_stays old i j s.after new.stations (ap (λ (p : Plant). p.stations) s.is) (λ e. ne (ap Some e))
   others_stay (Holds j source turn) old new s ne =
       other_stays old i j s.after new.stations (ap (λ (p : Plant). p.stations) s.happens.is) (λ e. ne (ap Some e))
   others_stay (SendsHeld j turns) old new s ne =
@@ -87,6 +90,8 @@ module _ (overtake i : ℕ) where
   step_held (BeginsAway j peer limits r) old new s may b at = stays (BeginsAway j peer limits r) old new s may b at
   step_held (Changes j change) old new s may b at = stays (Changes j change) old new s may b at
   step_held (Restarts j exact store) old new s may b at = stays (Restarts j exact store) old new s may b at
+  step_held (Starts j exact) old new s may b at = stays (Starts j exact) old new s may b at
+  step_held (StartsAgain j exact first_id store) old new s may b at = stays (StartsAgain j exact first_id store) old new s may b at
   step_held (Holds j source turn) old new s may b at = held j source turn old new s b at (nat_eq i j) refl
   step_held (SendsHeld j turns) old new s may b at = stays (SendsHeld j turns) old new s may b at
 
@@ -100,6 +105,8 @@ module _ (overtake i : ℕ) where
   unheld losing held is (BeginsAway j peer limits r) free = refl
   unheld losing held is (Changes j change) free = refl
   unheld losing held is (Restarts j exact store) free = refl
+  unheld losing held is (Starts j exact) free = refl
+  unheld losing held is (StartsAgain j exact first_id store) free = refl
   unheld losing held is (SendsHeld j turns) free = refl
   unheld losing held is (Holds j source turn) free = go (nat_eq i j) refl
     where

@@ -15,7 +15,7 @@ use Rattle.bac_world.specs.ReusingLogs.{Reuses}
 use Rattle.bac_world.specs.ReusingNodes.{NodeHears}
 use Rattle.bac_world.specs.ReusingWorlds.{AreLoggedSo, WorldRunSo}
 use Rattle.bac_world.specs.World.{AreCopied, AreEnded, AreLogged, Copy, Event, IsCopied, IsOfNone, IsOutside, Note, World}
-use Rattle.bac_world.specs.World.{ending_fact, is_away, link_at, peer_at, told, with_clock}
+use Rattle.bac_world.specs.World.{ending_fact, is_away, link_at, peer_at, told, with_act, with_ask, with_clock, with_restart}
 use Rattle.bac_journal.specs.Entering.{AreOfPeer, AreOfPeerSo, CanBeCopied, CanEnterSo, CanGoOnSo, CanLeave, Every, IsNoted, IsOfClient, IsOfStranger}
 use Rattle.bac_journal.proofs.GoingOn.{runs_can_go_on_so}
 use Rattle.bac_journal.proofs.Lists.{get_set}
@@ -27,9 +27,9 @@ use Rattle.bac_driver.specs.Turns as turns
 use Rattle.bac_driver.specs.Turns.{Turn, ended_of, performed_of, sends_of}
 use Rattle.bac_plant.specs.Network.{HandsOver, IsOfStation, Source}
 use Rattle.bac_plant.specs.Network.Source.{Noise, Nowhere, Station, Stranger}
-use Rattle.bac_plant.specs.NextSteps.{AsksGoOn, ChangesGoOn, FailuresGoOn, HeldSendsGoOn, HeldTurnsGoOn, IsReached, LeadsTo, RestartsGoOn, StrangersAskedGoOn, TurnsGoOn}
+use Rattle.bac_plant.specs.NextSteps.{AsksGoOn, ChangesGoOn, FailuresGoOn, HeldSendsGoOn, HeldTurnsGoOn, IsReached, LeadsTo, RestartsGoOn, StartsAgainGoOn, StartsGoOn, StrangersAskedGoOn, TurnsGoOn}
 use Rattle.bac_plant.specs.Plants.{IsSetTo, Plant, RemembersInFull, nodes_of, settings_of, shows, world_of}
-use Rattle.bac_plant.specs.Steps.{HappensAt, HoldsSomeTurn, IsSomeTurn, away_note, note_of, question, with_station}
+use Rattle.bac_plant.specs.Steps.{HappensAt, HoldsSomeTurn, IsSomeTurn, away_note, heard_lives, note_of, turn_lives, question, with_station}
 use Rattle.bac_plant.specs.Steps.Step.{Begins, Holds, Takes}
 use Rattle.bac_plant.specs.Events.{events_of, heard_events}
 use Rattle.bac_plant.proofs.Runs.{run_by}
@@ -195,7 +195,7 @@ module _ (W overtake : ℕ) (p : Plant) (r : IsReached W overtake p) (i : ℕ) (
     performs = may_perform (u i) (world_of p) i middle turn.heard ends.0 first
 
     abbrev Middle : World
-    Middle = after_call (world_of p) i middle sends.0 performs.0
+    Middle = after_call (world_of p) i middle (heard_lives i source turn.heard p.lives) sends.0 performs.0
 
     went : WorldRunSo overtake u (world_of p) (heard_events i source turn.heard) Middle
     went = heard_run overtake u p i before.node middle first_at sends.0 ends.0 performs.0 source turn.received after.buffer turn.heard hears from
@@ -220,7 +220,7 @@ module _ (W overtake : ℕ) (p : Plant) (r : IsReached W overtake p) (i : ℕ) (
 
     may_happen : (new : Plant) × HappensAt (u i) overtake p i source turn middle after new × (slice_get new.stations i ≡ Some after)
     may_happen = (
-      record (with_station p i after) { copies = p.copies ++ (sends.0 ++ later_sends.0); log = later_ends.0 },
+      record (with_station p i after) { lives = turn_lives i source turn p.lives; copies = p.copies ++ (sends.0 ++ later_sends.0); log = later_ends.0 },
       record {
         comes = from;
         sent = sends.0 ++ later_sends.0;
@@ -263,6 +263,7 @@ module _ (W overtake : ℕ) (p : Plant) (r : IsReached W overtake p) (i : ℕ) (
       let sent = each_copy_of (nodes_of p.stations) (note_of i server b.accepted.invoke_id b.accepted.ticket ∷ p.notes) p.time.now i b.sends can.0 in
       record {
         new = record (with_station p i after) {
+          lives = with_ask p.time p.lives i;
           copies = p.copies ++ sent.0;
           log = Asked (length p.notes) i server request ∷ p.log;
           notes = note_of i server b.accepted.invoke_id ticket ∷ p.notes;
@@ -302,6 +303,7 @@ asks_go_on W overtake p r i server before at link there limits request ticket af
 pub strangers_asked_go_on : (overtake : ℕ) (p : Plant) → StrangersAskedGoOn overtake p
 strangers_asked_go_on overtake p i before at peer stranger limits request ticket after b = record {
   new = record (with_station p i after) {
+    lives = with_act p.lives i;
     log = AskedAway (length p.notes) i peer request ∷ p.log;
     notes = away_note i peer b.accepted.invoke_id ticket ∷ p.notes;
   };
@@ -336,7 +338,21 @@ changes_go_on overtake p i before at c may =
 
 pub restarts_go_on : (overtake : ℕ) (p : Plant) → RestartsGoOn overtake p
 restarts_go_on overtake p i before at exact store after is reuse = record {
-  new = record (with_station p i after) { time = with_clock p.time i exact; log = Restarted i store ∷ p.log };
+  new = record (with_station p i after) { time = with_clock p.time i exact; lives = with_restart p.time p.lives i; log = Restarted i store ∷ p.log };
   goes = record { before = before; at = at; after = after; node = is; reuse = reuse; is = refl };
+  there = get_set p.stations i after (slice_get_within p.stations i before at);
+}
+
+pub starts_go_on : (overtake : ℕ) (p : Plant) → StartsGoOn overtake p
+starts_go_on overtake p i before at first exact after is reuse = record {
+  new = record (with_station p i after) { time = with_clock p.time i exact };
+  goes = record { before = before; at = at; first = first; after = after; node = is; reuse = reuse; is = refl };
+  there = get_set p.stations i after (slice_get_within p.stations i before at);
+}
+
+pub starts_again_go_on : (overtake : ℕ) (p : Plant) → StartsAgainGoOn overtake p
+starts_again_go_on overtake p i before at quiet exact first_id store after is reuse = record {
+  new = record (with_station p i after) { time = with_clock p.time i exact; lives = with_act p.lives i; log = Restarted i store ∷ p.log };
+  goes = record { before = before; at = at; quiet = quiet; after = after; node = is; reuse = reuse; is = refl };
   there = get_set p.stations i after (slice_get_within p.stations i before at);
 }

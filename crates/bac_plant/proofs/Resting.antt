@@ -12,7 +12,7 @@ use Rattle.bac_transaction.specs.Sends.{IsSent, Pairwise}
 use Rattle.bac_protocol.specs.Context.{Settings}
 use Rattle.bac_world.specs.Node.{Node, NodeOn, NodeTick, Outcome}
 use Rattle.bac_world.specs.ReusingWorlds.{AreLoggedSo}
-use Rattle.bac_world.specs.World.{Hears, World}
+use Rattle.bac_world.specs.World.{Hears, World, with_act}
 use Rattle.bac_world.proofs.Pairs.{append_none, pairwise_none}
 use Rattle.bac_node.specs.Remembering.{NodeHearsBy}
 use Rattle.bac_node.specs.declared.reuse.Reuse.{Reuse}
@@ -184,7 +184,7 @@ takes_none now b due is calm = record {
 -- The steps.
 
 abbrev pub next_plant : Plant → ℕ → BoundNode → World → Plant
-next_plant p i b w = record (with_station p i b) { copies = w.copies; log = w.log }
+next_plant p i b w = record (with_station p i b) { lives = with_act (with_act p.lives i) i; copies = w.copies; log = w.log }
 
 -- what a node hears in the world is a turn of its station
 module _ (overtake : ℕ) (old : Plant) (i : ℕ) (b : BoundNode) (at : slice_get old.stations i ≡ Some b) (off : IsSetTo false b) (due : Option ℕ)
@@ -212,7 +212,7 @@ module _ (overtake : ℕ) (old : Plant) (i : ℕ) (b : BoundNode) (at : slice_ge
         performs = subst (λ x. AreLoggedSo false (nodes_of old.stations) old.notes i x h.outcome.performed h.acts.between w.log) same h.acts.logged;
         gives_up = refl;
       };
-      is = ap (λ l. record (with_station old i after) { copies = l; log = w.log })
+      is = ap (λ l. record (with_station old i after) { lives = with_act (with_act old.lives i) i; copies = l; log = w.log })
           (h.acts.copies ∙ ap (λ l. old.copies ++ l) (sym (append_none h.acts.sent)));
     }
 
@@ -249,7 +249,7 @@ module _ (overtake : ℕ) (old : Plant) (i : ℕ) (b : BoundNode) (at : slice_ge
     }
 
   pub idle_step : IsCalm (shows old i) b.node
-      → TakesTurnAt overtake old i Nowhere (turn_by_none (shows old i)) (with_station old i (after_none (shows old i) b))
+      → TakesTurnAt overtake old i Nowhere (turn_by_none (shows old i)) (record (with_station old i (after_none (shows old i) b)) { lives = with_act old.lives i })
   unfolding takes_none
   idle_step calm = record {
     before = b;
@@ -270,6 +270,6 @@ module _ (overtake : ℕ) (old : Plant) (i : ℕ) (b : BoundNode) (at : slice_ge
         performs = refl;
         gives_up = refl;
       };
-      is = ap (λ l. record (with_station old i (after_none (shows old i) b)) { copies = l }) (sym (append_none old.copies));
+      is = ap (λ l. record (with_station old i (after_none (shows old i) b)) { lives = with_act old.lives i; copies = l }) (sym (append_none old.copies));
     };
   }

@@ -5,13 +5,13 @@ use Rattle.bac_world.specs.Claims.{AreServedApart}
 use Rattle.bac_world.specs.Once.{IsOnce}
 use Rattle.bac_world.specs.ReusingLogs.{IsOnceSo, Reuses}
 use Rattle.bac_world.specs.ReusingWorlds.{WorldRunSo}
-use Rattle.bac_world.specs.World.{Event, IsBounded, IsFresh, IsWithNode, WorldRun, WorldStep, stores_of}
+use Rattle.bac_world.specs.World.{Event, IsBounded, IsFresh, IsWithNode, WorldRun, WorldStep, stores_of, with_clock}
 use Rattle.bac_world.proofs.Headline.{apart_in_run, headline, headline_so}
 use Rattle.bac_driver.specs.BoundNodes.{BoundNode}
 use Rattle.bac_driver.specs.Turns.{Turn}
 use Rattle.bac_plant.specs.Plants.{HasNoReuse, Plant, nodes_of, settings_of, world_of}
-use Rattle.bac_plant.specs.Steps.{AsksAt, AsksAwayAt, ChangesAt, FailsAt, PlantRun, PlantStep, RestartsAt, SendsHeldAt, Step, away_note, note_of, with_station}
-use Rattle.bac_plant.specs.Steps.Step.{Begins, BeginsAway, Changes, FailsToReceive, Holds, Passes, Restarts, SendsHeld, Takes}
+use Rattle.bac_plant.specs.Steps.{AsksAt, AsksAwayAt, ChangesAt, FailsAt, PlantRun, PlantStep, RestartsAt, SendsHeldAt, StartsAgainAt, StartsAt, Step, away_note, note_of, with_station}
+use Rattle.bac_plant.specs.Steps.Step.{Begins, BeginsAway, Changes, FailsToReceive, Holds, Passes, Restarts, SendsHeld, Starts, StartsAgain, Takes}
 use Rattle.bac_plant.specs.Events.{events_in, events_of}
 use Rattle.bac_plant.proofs.AsEver.{NONE, run_ever}
 use Rattle.bac_plant.proofs.Settings.{run_settings}
@@ -49,6 +49,7 @@ begins_event overtake old i server limits r new b = subst (λ p. WorldStep overt
       asks = b.begun.asks;
       nodes = set_nodes old.stations i b.before b.after b.at;
       time = refl;
+      lives = refl;
       sent = b.sent;
       copies = refl;
       copied = b.copied;
@@ -69,6 +70,7 @@ begins_away_event overtake old i peer limits r new b = subst (λ p. WorldStep ov
       asks = b.begun.asks;
       nodes = set_nodes old.stations i b.before b.after b.at;
       time = refl;
+      lives = refl;
       copies = refl;
       notes = ap (λ t. away_note i peer b.begun.accepted.invoke_id t ∷ old.notes) b.begun.ticket_is;
       log = refl;
@@ -83,6 +85,7 @@ changes_event overtake old i c new k = subst (λ p. WorldStep overtake (world_of
       may = k.may;
       nodes = set_nodes old.stations i k.before _ k.at;
       time = refl;
+      lives = refl;
       copies = refl;
       notes = refl;
       log = refl;
@@ -97,6 +100,35 @@ restarts_event overtake old i exact store new r = subst (λ p. WorldStep overtak
       nodes = subst (λ n. IsWithNode (nodes_of old.stations) i n (nodes_of (slice_set old.stations i r.after))) r.node
           (set_nodes old.stations i r.before r.after r.at);
       time = refl;
+      lives = refl;
+      copies = refl;
+      notes = refl;
+      log = refl;
+    })
+
+-- a first start, and the start of another program
+starts_event : (overtake : ℕ) (old : Plant) (i exact : ℕ) (new : Plant) → StartsAt old i exact new
+    → WorldStep overtake (world_of old) (Event.Begin i exact) (world_of new)
+starts_event overtake old i exact new s = record {
+  node = s.before.node;
+  at = node_at old.stations i s.before s.at;
+  first = s.first;
+  is = ap world_of s.is
+      ∙ ap (λ l. record (world_of old) { nodes = l; time = with_clock old.time i exact }) (nodes_set old.stations i s.after
+      ∙ ap (slice_set (nodes_of old.stations) i) s.node ∙ set_same (nodes_of old.stations) i s.before.node (node_at old.stations i s.before s.at));
+}
+
+starts_again_event : (overtake : ℕ) (old : Plant) (i exact first_id : ℕ) (store : _) (new : Plant) → StartsAgainAt old i exact first_id store new
+    → WorldStep overtake (world_of old) (Event.BeginAgain i exact first_id store) (world_of new)
+starts_again_event overtake old i exact first_id store new r =
+    subst (λ p. WorldStep overtake (world_of old) (Event.BeginAgain i exact first_id store) (world_of p)) (sym r.is) (record {
+      before = r.before.node;
+      at = node_at old.stations i r.before r.at;
+      quiet = r.quiet;
+      nodes = subst (λ n. IsWithNode (nodes_of old.stations) i n (nodes_of (slice_set old.stations i r.after))) r.node
+          (set_nodes old.stations i r.before r.after r.at);
+      time = refl;
+      lives = refl;
       copies = refl;
       notes = refl;
       log = refl;
@@ -111,6 +143,8 @@ step_events overtake u old (Begins i server limits r) new settings s = (world_of
 step_events overtake u old (BeginsAway i peer limits r) new settings s = (world_of new, begins_away_event overtake old i peer limits r new s, refl)
 step_events overtake u old (Changes i c) new settings s = (world_of new, changes_event overtake old i c new s, refl)
 step_events overtake u old (Restarts i exact store) new settings s = (world_of new, restarts_event overtake old i exact store new s, refl)
+step_events overtake u old (Starts i exact) new settings s = (world_of new, starts_event overtake old i exact new s, refl)
+step_events overtake u old (StartsAgain i exact first_id store) new settings s = (world_of new, starts_again_event overtake old i exact first_id store new s, refl)
 step_events overtake u old (Holds i source turn) new settings s = held_run overtake u old settings i source turn new s
 step_events overtake u old (SendsHeld i turns) new settings s = sends_same old i turns new s
 

@@ -9,7 +9,7 @@ use Rattle.bac_node.specs.declared.reuse.Reuse.{Reuse}
 use Rattle.bac_driver.specs.BoundNodes.{BoundNode}
 use Rattle.bac_plant.specs.Plants.{Plant, reuse_of, settings_of}
 use Rattle.bac_plant.specs.Steps.{PlantRun, PlantStep, Step}
-use Rattle.bac_plant.specs.Steps.Step.{Begins, BeginsAway, Changes, FailsToReceive, Holds, Passes, Restarts, SendsHeld, Takes}
+use Rattle.bac_plant.specs.Steps.Step.{Begins, BeginsAway, Changes, FailsToReceive, Holds, Passes, Restarts, SendsHeld, Starts, StartsAgain, Takes}
 
 abbrev set : BoundNode → Reuse
 set b = b.reuse
@@ -46,6 +46,9 @@ step_sets overtake old (BeginsAway i peer limits r) new s =
     one_stays old new i s.before s.after s.at s.begun.reuse (ap (λ (p : Plant). p.stations) s.is)
 step_sets overtake old (Changes i c) new s = one_stays old new i s.before _ s.at refl (ap (λ (p : Plant). p.stations) s.is)
 step_sets overtake old (Restarts i exact store) new s = one_stays old new i s.before s.after s.at s.reuse (ap (λ (p : Plant). p.stations) s.is)
+step_sets overtake old (Starts i exact) new s = one_stays old new i s.before s.after s.at s.reuse (ap (λ (p : Plant). p.stations) s.is)
+step_sets overtake old (StartsAgain i exact first_id store) new s =
+    one_stays old new i s.before s.after s.at s.reuse (ap (λ (p : Plant). p.stations) s.is)
 step_sets overtake old (Holds i source turn) new s =
     one_stays old new i s.before s.after s.at (s.holds.takes.reuse ∙ s.holds.receives.reuse) (ap (λ (p : Plant). p.stations) s.happens.is)
 step_sets overtake old (SendsHeld i turns) new s = one_stays old new i s.before s.after s.at s.sends.reuse (ap (λ (p : Plant). p.stations) s.is)

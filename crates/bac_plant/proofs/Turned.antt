@@ -16,7 +16,7 @@ use Rattle.bac_node.specs.declared.reuse.Reuse.TheVariants as setting
 use Rattle.bac_node.proofs.Remembering.{as_heard}
 use Rattle.bac_world.specs.ReusingWorlds.{ActsSo, AreLoggedSo, DeliversIfSo, DeliversSo, HearsSo, WorldRunSo}
 use Rattle.bac_world.specs.Once.{Fact}
-use Rattle.bac_world.specs.World.{AreCopied, AreEnded, Copy, Event, IsCopied, IsWithNode, Note, World}
+use Rattle.bac_world.specs.World.{AreCopied, AreEnded, Copy, Event, IsCopied, IsWithNode, Life, Note, World, with_act}
 use Rattle.bac_world.specs.World.{is_deliverable, later, link_at, told}
 use Rattle.bac_world.proofs.Bridge.{AreParted, copied_split}
 use Rattle.bac_world.proofs.Pairs.{append_none}
@@ -29,7 +29,7 @@ use Rattle.bac_driver.specs.Turns.{ended_of, performed_of, sends_of}
 use Rattle.bac_plant.specs.Plants.{IsSetTo, Plant, node_of, nodes_of, reuse_of, settings_of, shows, world_of}
 use Rattle.bac_plant.specs.Network.{HandsOver, IsOfStation, Source}
 use Rattle.bac_plant.specs.Network.Source.{Noise, Nowhere, Station, Stranger}
-use Rattle.bac_plant.specs.Steps.{HappensAt, HoldsSomeTurn, HoldsTurnAt, IsSomeTurn, TakesTurnAt}
+use Rattle.bac_plant.specs.Steps.{HappensAt, HoldsSomeTurn, HoldsTurnAt, IsSomeTurn, TakesTurnAt, heard_lives, ticked_lives, turn_lives}
 use Rattle.bac_plant.specs.Events.{heard_events, ticked_events, turn_events}
 
 -- what is there is one thing
@@ -130,8 +130,8 @@ copied_join nodes now i ds es xs ys h k =
 
 -- Worlds after a call of one node.
 
-abbrev pub after_call : World → ℕ → Node → List Copy → List Fact → World
-after_call w i b cs log = record w { nodes = slice_set w.nodes i b; copies = w.copies ++ cs; log = log }
+abbrev pub after_call : World → ℕ → Node → (ℕ → Life) → List Copy → List Fact → World
+after_call w i b lives cs log = record w { nodes = slice_set w.nodes i b; lives = lives; copies = w.copies ++ cs; log = log }
 
 -- where nothing was performed, the log is as it was
 none_logged : (reuse : Bool) (nodes : List Node) (notes : List Note) (i : ℕ) (b : Node) (old new : List Fact) → AreLoggedSo reuse nodes notes i b None old new
@@ -141,7 +141,7 @@ none_logged false nodes notes i b old new is = is
 
 -- nothing came of it
 pub nothing_called : (w : World) (i : ℕ) (a b : Node) → slice_get w.nodes i ≡ Some a → b ≡ a → (cs : List Copy) → cs ≡ [] → (log : List Fact) → log ≡ w.log
-    → after_call w i b cs log ≡ w
+    → after_call w i b w.lives cs log ≡ w
 nothing_called w i a b at same cs none log is =
     ap (λ n. record w { nodes = n; copies = w.copies ++ cs; log = log }) (ap (slice_set w.nodes i) same ∙ set_same w.nodes i a at)
     ∙ ap (λ l. record w { copies = l; log = log }) (ap (λ l. w.copies ++ l) none ∙ append_none w.copies) ∙ ap (λ l. record w { log = l }) is
@@ -149,10 +149,11 @@ nothing_called w i a b at same cs none log is =
 pub acted : (reuse : Bool) (w : World) (i : ℕ) (a b : Node) (o : Outcome) → slice_get w.nodes i ≡ Some a → (cs : List Copy)
     → AreCopied w.nodes w.time.now i o.sends cs
     → (between log : List Fact) → AreEnded w.notes i o.ended w.log between → AreLoggedSo reuse w.nodes w.notes i b o.performed between log
-    → ActsSo reuse w i b o (after_call w i b cs log)
+    → ActsSo reuse w i b o (after_call w i b (with_act w.lives i) cs log)
 acted reuse w i a b o at cs copied between log ended logged = record {
   nodes = with_node w.nodes i a b at;
   time = refl;
+  lives = refl;
   notes = refl;
   sent = cs;
   copies = refl;
@@ -178,18 +179,22 @@ delivers_if false u w c w' e d = absurd cc
 -- What a node hears.
 module _ (overtake : ℕ) (u : Reuses) (p : Plant) (i : ℕ) (a b : Node) (at : slice_get (nodes_of p.stations) i ≡ Some a) (cs : List Copy)
     (between log : List Fact) where
-  abbrev pub After : World
-  After = after_call (world_of p) i b cs log
+  abbrev pub After : (ℕ → Life) → World
+  After lives = after_call (world_of p) i b lives cs log
+
+  -- after it heard something
+  abbrev Acted : World
+  Acted = After (with_act p.lives i)
 
   same_log : AreLoggedSo (u i) (nodes_of p.stations) p.notes i b None between log → log ≡ between
   same_log = none_logged (u i) (nodes_of p.stations) p.notes i b between log
 
-  none_heard : b ≡ a → cs ≡ [] → between ≡ p.log → log ≡ between → After ≡ world_of p
+  none_heard : b ≡ a → cs ≡ [] → between ≡ p.log → log ≡ between → After p.lives ≡ world_of p
   none_heard same none e f = nothing_called (world_of p) i a b at same cs none log (f ∙ e)
 
   world_hears : (from octets : Octets) (o : Outcome) → NodeHearsBy (as_ever (u i)) (shows p i) from octets a b o
       → AreCopied (nodes_of p.stations) p.time.now i o.sends cs → AreEnded p.notes i o.ended p.log between
-      → AreLoggedSo (u i) (nodes_of p.stations) p.notes i b o.performed between log → HearsSo (u i) (world_of p) i from octets After
+      → AreLoggedSo (u i) (nodes_of p.stations) p.notes i b o.performed between log → HearsSo (u i) (world_of p) i from octets Acted
   world_hears from octets o on copied ended logged = record {
     before = a;
     at = at;
@@ -199,35 +204,35 @@ module _ (overtake : ℕ) (u : Reuses) (p : Plant) (i : ℕ) (a b : Node) (at : 
     acts = acted (u i) (world_of p) i a b o at cs copied between log ended logged;
   }
 
-  arrives : (number : ℕ) (from octets : Octets) → IsOfStation overtake p i number from octets → HearsSo (u i) (world_of p) i from octets After
-      → WorldRunSo overtake u (world_of p) (Event.Deliver number ∷ []) After
+  arrives : (number : ℕ) (from octets : Octets) → IsOfStation overtake p i number from octets → HearsSo (u i) (world_of p) i from octets Acted
+      → WorldRunSo overtake u (world_of p) (Event.Deliver number ∷ []) Acted
   arrives number from octets c h = (
-    After,
+    Acted,
     record {
       copy = c.copy;
       there = c.there;
-      goes = delivers_if (is_deliverable overtake p.time.pace.life p.time.now number p.copies c.copy) u (world_of p) c.copy After
+      goes = delivers_if (is_deliverable overtake p.time.pace.life p.time.now number p.copies c.copy) u (world_of p) c.copy Acted
           (may_arrive overtake p.time.pace.life p.time.now number p.copies c.copy c.young c.few)
           (record {
             link = from;
             sender = c.sender;
-            hears = subst (λ k. HearsSo (u k) (world_of p) k from c.copy.octets After) (sym c.to)
-                (subst (λ os. HearsSo (u i) (world_of p) i from os After) (sym c.whole) h);
+            hears = subst (λ k. HearsSo (u k) (world_of p) k from c.copy.octets Acted) (sym c.to)
+                (subst (λ os. HearsSo (u i) (world_of p) i from os Acted) (sym c.whole) h);
           });
     },
     refl,
   )
 
   -- it hears what was sent
-  heard_as : (sender sent from octets : Octets) → from ≡ sender → octets ≡ sent → HearsSo (u i) (world_of p) i from octets After
-      → HearsSo (u i) (world_of p) i sender sent After
+  heard_as : (sender sent from octets : Octets) → from ≡ sender → octets ≡ sent → HearsSo (u i) (world_of p) i from octets Acted
+      → HearsSo (u i) (world_of p) i sender sent Acted
   heard_as sender sent from octets link_is whole h =
-      subst (λ l. HearsSo (u i) (world_of p) i l sent After) link_is (subst (λ os. HearsSo (u i) (world_of p) i from os After) whole h)
+      subst (λ l. HearsSo (u i) (world_of p) i l sent Acted) link_is (subst (λ os. HearsSo (u i) (world_of p) i from os Acted) whole h)
 
   came_run : (source : Source) (d : Octets × ℕ) (buffer : Octets) (heard : Option Outcome) → turns.HearsOne (as_ever (u i)) (shows p i) d.0 (take d.1 buffer) a b heard
       → HandsOver overtake p i source (Some d) buffer → AreCopied (nodes_of p.stations) p.time.now i (sends_of heard) cs
       → AreEnded p.notes i (ended_of heard) p.log between → AreLoggedSo (u i) (nodes_of p.stations) p.notes i b (performed_of heard) between log
-      → WorldRunSo overtake u (world_of p) (heard_events i source heard) After
+      → WorldRunSo overtake u (world_of p) (heard_events i source heard) (After (heard_lives i source heard p.lives))
   came_run Nowhere d buffer heard h from copied ended logged = absurd from
   came_run (Station number) d buffer None h from copied ended logged = none_heard h.same copied ended (same_log logged)
   came_run (Stranger sender octets) d buffer None h from copied ended logged = none_heard h.same copied ended (same_log logged)
@@ -235,7 +240,7 @@ module _ (overtake : ℕ) (u : Reuses) (p : Plant) (i : ℕ) (a b : Node) (at : 
   came_run (Station number) d buffer (Some o) h from copied ended logged =
       arrives number d.0 (take d.1 buffer) from (world_hears d.0 (take d.1 buffer) o h copied ended logged)
   came_run (Stranger sender octets) d buffer (Some o) h from copied ended logged = (
-    After,
+    Acted,
     inl (record {
       fit = from.stranger;
       hears = heard_as sender octets d.0 (take d.1 buffer) from.link_is from.whole (world_hears d.0 (take d.1 buffer) o h copied ended logged);
@@ -243,7 +248,7 @@ module _ (overtake : ℕ) (u : Reuses) (p : Plant) (i : ℕ) (a b : Node) (at : 
     refl,
   )
   came_run (Noise sender octets) d buffer (Some o) h from copied ended logged = (
-    After,
+    Acted,
     inl (record {
       fit = from.meaningless;
       hears = heard_as sender octets d.0 (take d.1 buffer) from.link_is from.whole (world_hears d.0 (take d.1 buffer) o h copied ended logged);
@@ -255,10 +260,10 @@ module _ (overtake : ℕ) (u : Reuses) (p : Plant) (i : ℕ) (a b : Node) (at : 
       → turns.Hears (as_ever (u i)) (shows p i) buffer came a b heard → HandsOver overtake p i source came buffer
       → AreCopied (nodes_of p.stations) p.time.now i (sends_of heard) cs
       → AreEnded p.notes i (ended_of heard) p.log between → AreLoggedSo (u i) (nodes_of p.stations) p.notes i b (performed_of heard) between log
-      → WorldRunSo overtake u (world_of p) (heard_events i source heard) After
+      → WorldRunSo overtake u (world_of p) (heard_events i source heard) (After (heard_lives i source heard p.lives))
   heard_run source (Some d) buffer heard h from copied ended logged = came_run source d buffer heard h from copied ended logged
   heard_run source None buffer None h from copied ended logged =
-      subst (λ s. WorldRunSo overtake u (world_of p) (heard_events i s None) After) (sym from)
+      subst (λ s. WorldRunSo overtake u (world_of p) (heard_events i s None) (After (heard_lives i s None p.lives))) (sym from)
       (none_heard h.1 copied ended (same_log logged))
   heard_run source None buffer (Some o) h from copied ended logged = absurd (let e = h.0 in cc)
 
@@ -266,17 +271,17 @@ module _ (overtake : ℕ) (u : Reuses) (p : Plant) (i : ℕ) (a b : Node) (at : 
 pub tick_run : (overtake : ℕ) (u : Reuses) (w : World) (i : ℕ) (a b : Node) → slice_get w.nodes i ≡ Some a → (ticked : Option Outcome)
     → turns.Ticks (told w i) a b ticked
     → (cs : List Copy) → AreCopied w.nodes w.time.now i (sends_of ticked) cs → (log : List Fact) → AreEnded w.notes i (ended_of ticked) w.log log
-    → WorldRunSo overtake u w (ticked_events i ticked) (after_call w i b cs log)
+    → WorldRunSo overtake u w (ticked_events i ticked) (after_call w i b (ticked_lives i ticked w.lives) cs log)
 tick_run overtake u w i a b at None t cs copied log ended = nothing_called w i a b at t.same cs copied log ended
 tick_run overtake u w i a b at (Some o) t cs copied log ended = (
-  after_call w i b cs log,
+  after_call w i b (with_act w.lives i) cs log,
   record {
     before = a;
     at = at;
     after = b;
     outcome = o;
     tick = t;
-    acts = acts_quiet false w (after_call w i b cs log) i b o t.performed
+    acts = acts_quiet false w (after_call w i b (with_act w.lives i) cs log) i b o t.performed
         (acted false w i a b o at cs copied log log ended (subst (λ f. AreLoggedSo false w.nodes w.notes i b f log log) (sym t.performed) refl));
   },
   refl,
@@ -328,7 +333,7 @@ module _ (overtake : ℕ) (u : Reuses) (old : Plant) (i : ℕ) (before : BoundNo
   split = copied_split (nodes_of old.stations) old.time.now i (sends_of turn.heard) (sends_of turn.ticked) t.sent t.copied
 
   abbrev Middle : World
-  Middle = after_call (world_of old) i middle split.front t.entered.performed
+  Middle = after_call (world_of old) i middle (heard_lives i source turn.heard old.lives) split.front t.entered.performed
 
   second_at : slice_get Middle.nodes i ≡ Some middle
   second_at = get_set (nodes_of old.stations) i middle (slice_get_within (nodes_of old.stations) i before.node first_at)
@@ -337,11 +342,11 @@ module _ (overtake : ℕ) (u : Reuses) (old : Plant) (i : ℕ) (before : BoundNo
   linked = set_links (nodes_of old.stations) i before.node middle first_at
       (hears_link (as_ever (u i)) (shows old i) after.buffer turn.received before.node middle turn.heard hears)
 
-  last : after_call Middle i after.node split.rest t.log ≡ world_of new
+  last : after_call Middle i after.node (turn_lives i source turn old.lives) split.rest t.log ≡ world_of new
   last =
-      ap (λ n. record Middle { nodes = n; copies = Middle.copies ++ split.rest; log = t.log })
+      ap (λ n. record Middle { nodes = n; lives = turn_lives i source turn old.lives; copies = Middle.copies ++ split.rest; log = t.log })
       (set_twice (nodes_of old.stations) i middle after.node ∙ sym (nodes_set old.stations i after))
-      ∙ ap (λ l. record Middle { nodes = nodes_of (slice_set old.stations i after); copies = l; log = t.log })
+      ∙ ap (λ l. record Middle { nodes = nodes_of (slice_set old.stations i after); lives = turn_lives i source turn old.lives; copies = l; log = t.log })
       (append_assoc old.copies split.front split.rest ∙ ap (λ l. old.copies ++ l) (sym split.is)) ∙ sym (ap world_of t.is)
 
   happens_run : WorldRunSo overtake u (world_of old) (turn_events i source turn) (world_of new)

@@ -8,7 +8,7 @@ use Rattle.bac_driver.specs.Runs.{Run, Timed, TurnFails}
 use Rattle.bac_driver.specs.Serving.{performed_in}
 use Rattle.bac_driver.specs.declared.fault.TurnFault.{TurnFault}
 use Rattle.bac_plant.specs.Steps.{IsSomeTurn, Step}
-use Rattle.bac_plant.specs.Steps.Step.{Begins, BeginsAway, Changes, FailsToReceive, Holds, Restarts, SendsHeld, Takes}
+use Rattle.bac_plant.specs.Steps.Step.{Begins, BeginsAway, Changes, FailsToReceive, Holds, Restarts, SendsHeld, Starts, StartsAgain, Takes}
 
 -- a turn at some moment
 pub record TakesSomeTurn (before : BoundNode) (turn : Turn) (after : BoundNode) : Type 0 where
@@ -68,6 +68,8 @@ TakesTurnsAlone i (Begins j server limits r ∷ before) = (j ≢ i) × TakesTurn
 TakesTurnsAlone i (BeginsAway j peer limits r ∷ before) = (j ≢ i) × TakesTurnsAlone i before
 TakesTurnsAlone i (Changes j change ∷ before) = (j ≢ i) × TakesTurnsAlone i before
 TakesTurnsAlone i (Restarts j exact store ∷ before) = (j ≢ i) × TakesTurnsAlone i before
+TakesTurnsAlone i (Starts j exact ∷ before) = (j ≢ i) × TakesTurnsAlone i before
+TakesTurnsAlone i (StartsAgain j exact first_id store ∷ before) = (j ≢ i) × TakesTurnsAlone i before
 TakesTurnsAlone i (Holds j source turn ∷ before) = (j ≢ i) × TakesTurnsAlone i before
 TakesTurnsAlone i (SendsHeld j turns ∷ before) = (j ≢ i) × TakesTurnsAlone i before
 TakesTurnsAlone i (step ∷ before) = TakesTurnsAlone i before

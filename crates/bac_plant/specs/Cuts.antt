@@ -8,7 +8,7 @@ use Rattle.bac_plant.specs.Events.{events_in}
 use Rattle.bac_plant.specs.Network.{HandsOver, Source}
 use Rattle.bac_plant.specs.Plants.{Plant, shows}
 use Rattle.bac_plant.specs.Steps.{HoldsSomeTurn, PlantStep, RestartsAt, Step}
-use Rattle.bac_plant.specs.Steps.Step.{Begins, BeginsAway, Changes, FailsToReceive, Holds, Passes, Restarts, SendsHeld, Takes}
+use Rattle.bac_plant.specs.Steps.Step.{Begins, BeginsAway, Changes, FailsToReceive, Holds, Passes, Restarts, SendsHeld, Starts, StartsAgain, Takes}
 
 -- A round is lost where the power is cut before it has sent anything, and the next start finds the store before the round. While a station takes the turns of
 -- such a round, it stands in the plant as it was before, and beside it what it has become: no one can learn of that. Any other round is one of the plant, and
@@ -43,6 +43,8 @@ station_of (Begins i server limits r) = Some i
 station_of (BeginsAway i peer limits r) = Some i
 station_of (Changes i change) = Some i
 station_of (Restarts i exact store) = Some i
+station_of (Starts i exact) = Some i
+station_of (StartsAgain i exact first_id store) = Some i
 station_of (Holds i source turn) = Some i
 station_of (SendsHeld i turns) = Some i
 
@@ -89,11 +91,12 @@ cut_events_of (CutStep.Goes step ∷ before) = cut_events_of before ++ map CutEv
 cut_events_of (CutStep.Loses i source turn ∷ before) = cut_events_of before
 cut_events_of (CutStep.Cuts i exact ∷ before) = cut_events_of before ++ CutEvent.Cut i exact ∷ []
 
--- in these steps no station changes its own store, or restarts with another one than it has
+-- in these steps no station changes its own store, or starts again with another one than it has
 abbrev pub KeepStores : List Step → Type 0
 KeepStores [] = Unit {0}
 KeepStores (Changes i change ∷ before) = ⊥
 KeepStores (Restarts i exact store ∷ before) = (store ≡ None) × KeepStores before
+KeepStores (StartsAgain i exact first_id store ∷ before) = (store ≡ None) × KeepStores before
 KeepStores (step ∷ before) = KeepStores before
 
 -- ---- the turns that one station holds, whatever others do between them

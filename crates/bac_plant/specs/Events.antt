@@ -6,7 +6,7 @@ use Rattle.bac_plant.specs.Network.{Source}
 use Rattle.bac_plant.specs.Network.Source.{Noise, Nowhere, Station, Stranger}
 use Rattle.bac_driver.specs.Turns.{Turn}
 use Rattle.bac_plant.specs.Steps.{Step}
-use Rattle.bac_plant.specs.Steps.Step.{Begins, BeginsAway, Changes, FailsToReceive, Holds, Passes, Restarts, SendsHeld, Takes}
+use Rattle.bac_plant.specs.Steps.Step.{Begins, BeginsAway, Changes, FailsToReceive, Holds, Passes, Restarts, SendsHeld, Starts, StartsAgain, Takes}
 
 -- a node heard what came; if that failed to allocate, the datagram is lost
 abbrev pub heard_events : (station : ℕ) → Source → (heard : Option Outcome) → List Event
@@ -34,6 +34,8 @@ events_in (Begins i server limits r) = Event.Ask i server limits r ∷ []
 events_in (BeginsAway i peer limits r) = Event.AskAway i peer limits r ∷ []
 events_in (Changes i change) = Event.Change i change ∷ []
 events_in (Restarts i exact store) = Event.Restart i exact store ∷ []
+events_in (Starts i exact) = Event.Begin i exact ∷ []
+events_in (StartsAgain i exact first_id store) = Event.BeginAgain i exact first_id store ∷ []
 events_in (Holds i source turn) = turn_events i source turn
 events_in (SendsHeld i turns) = []
 

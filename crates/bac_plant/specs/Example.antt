@@ -7,7 +7,7 @@ use Rattle.bac_driver.specs.Turns.{Turn}
 use Rattle.bac_world.specs.AnsweredRun.{LIMITS, LOG, TIME, node}
 use Rattle.bac_world.specs.Examples.{ASKED, REPLY, REQUEST}
 use Rattle.bac_world.specs.Once.Fact.{Performed, Restarted}
-use Rattle.bac_world.specs.World.{IsBounded, IsFresh}
+use Rattle.bac_world.specs.World.{IsBounded, IsFresh, untouched}
 use Rattle.bac_plant.specs.Cuts.{CutPlant, CutPlantRun, CutStep}
 use Rattle.bac_plant.specs.Cuts.CutStep.{Cuts, Goes, Loses}
 use Rattle.bac_plant.specs.Network.Source.{Nowhere, Station}
@@ -20,7 +20,7 @@ abbrev pub station : ℕ → BoundNode
 station n = record { node = node n; failures = 0; calls = Some []; buffer = []; reuse = setting.Never }
 
 abbrev pub OPENING : Plant
-OPENING = record { stations = station 0 ∷ station 1 ∷ []; time = TIME; copies = []; log = []; notes = [] }
+OPENING = record { stations = station 0 ∷ station 1 ∷ []; time = TIME; lives = λ i. untouched; copies = []; log = []; notes = [] }
 
 -- station 0 asks station 1, and takes a turn in which nothing comes; station 1 takes one by the request, and station 0 one by the answer
 abbrev pub steps : (idle served answered : Turn) → List Step

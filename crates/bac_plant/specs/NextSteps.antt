@@ -1,5 +1,5 @@
 -- After each run of a plant, whatever a call promises can be its next step.
-use Rattle.std.specs.Prelude.{◌≡◌, ℕ, List, Option, Some, None, slice_get}
+use Rattle.std.specs.Prelude.{◌≡◌, ℕ, true, false, List, Option, Some, None, slice_get}
 use Rattle.bac_apdu.specs.Apdu.{Limits}
 use Rattle.bac_npdu.specs.Peers.{PeerView}
 use Rattle.bac_service.specs.Values.{Request}
@@ -7,8 +7,8 @@ use Rattle.bac_store.specs.AtNode.{Change, change_fault}
 use Rattle.bac_store.specs.Stores.{Store}
 use Rattle.bac_protocol.specs.Pace.{IsTimely, clock_at}
 use Rattle.bac_protocol.specs.Service.{Octets}
-use Rattle.bac_world.specs.Node.{restarted, store_after_restart, with_change}
-use Rattle.bac_world.specs.World.{IsBounded, IsFresh, IsOfNone, link_at, peer_at}
+use Rattle.bac_world.specs.Node.{begun_again, restarted, store_after_restart, with_change}
+use Rattle.bac_world.specs.World.{IsBounded, IsFresh, IsOfNone, is_quiet, link_at, peer_at}
 use Rattle.bac_driver.specs.Asking.{IsBegun}
 use Rattle.bac_driver.specs.BoundNodes.{BoundNode}
 use Rattle.bac_driver.specs.Runs.{CannotReceive, Timed}
@@ -16,7 +16,7 @@ use Rattle.bac_driver.specs.Turns.{Turn}
 use Rattle.bac_plant.specs.Network.{HandsOver, Source}
 use Rattle.bac_plant.specs.Plants.{Plant, RemembersInFull, nodes_of, shows, world_of}
 use Rattle.bac_plant.specs.Steps.{AreSent, HoldsSomeTurn, IsSomeTurn, PlantRun, PlantStep, Step, question}
-use Rattle.bac_plant.specs.Steps.Step.{Begins, BeginsAway, Changes, FailsToReceive, Holds, Restarts, SendsHeld, Takes}
+use Rattle.bac_plant.specs.Steps.Step.{Begins, BeginsAway, Changes, FailsToReceive, Holds, Restarts, SendsHeld, Starts, StartsAgain, Takes}
 
 -- a run from a fresh plant led there, whichever stations let clients use an invoke ID again
 pub record IsReached (W overtake : ℕ) (p : Plant) : Type 0 where
@@ -85,3 +85,17 @@ RestartsGoOn overtake p =
     (i : ℕ) (before : BoundNode) → slice_get p.stations i ≡ Some before → (exact : ℕ) (store : Option Store) (after : BoundNode)
     → after.node ≡ restarted (clock_at p.time.pace exact).shows (store_after_restart before.node.store store) before.node → after.reuse ≡ before.reuse
     → LeadsTo overtake p (Restarts i exact store) i after
+
+-- each first start at a station at which nothing happened, whatever its link and buffer are
+abbrev pub StartsGoOn : (overtake : ℕ) → Plant → Type 0
+StartsGoOn overtake p =
+    (i : ℕ) (before : BoundNode) → slice_get p.stations i ≡ Some before → (p.lives i).active ≡ false → (exact : ℕ) (after : BoundNode)
+    → after.node ≡ before.node → after.reuse ≡ before.reuse → LeadsTo overtake p (Starts i exact) i after
+
+-- each start of another program once all is over that the client before it sent, whatever its link and buffer are
+abbrev pub StartsAgainGoOn : (overtake : ℕ) → Plant → Type 0
+StartsAgainGoOn overtake p =
+    (i : ℕ) (before : BoundNode) → slice_get p.stations i ≡ Some before → is_quiet (world_of p) i ≡ true → (exact first_id : ℕ) (store : Option Store)
+    (after : BoundNode)
+    → after.node ≡ begun_again (clock_at p.time.pace exact).shows first_id (store_after_restart before.node.store store) before.node
+    → after.reuse ≡ before.reuse → LeadsTo overtake p (StartsAgain i exact first_id store) i after

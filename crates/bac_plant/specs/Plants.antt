@@ -3,7 +3,7 @@ use Rattle.std.specs.Prelude.{◌≡◌, ℕ, Bool, false, List, map, Option, So
 use Rattle.bac_world.specs.Node.{Node}
 use Rattle.bac_world.specs.Once.{Fact}
 use Rattle.bac_world.specs.ReusingLogs.{Reuses}
-use Rattle.bac_world.specs.World.{Copy, Note, Time, World}
+use Rattle.bac_world.specs.World.{Copy, Life, Note, Time, World}
 use Rattle.bac_node.specs.Remembering.{as_ever, is_reusing}
 use Rattle.bac_driver.specs.BoundNodes.{BoundNode}
 
@@ -11,6 +11,7 @@ use Rattle.bac_driver.specs.BoundNodes.{BoundNode}
 pub record Plant : Type 0 where
   pub stations : List BoundNode  -- numbered from 0
   pub time : Time  -- real time, and the clock of each station
+  pub lives : ℕ → Life  -- what each station did so far
   pub copies : List Copy  -- what stations gave their links to send to stations, or hold until a round is kept, oldest first, numbered from 0
   pub log : List Fact  -- what they asked, performed, ended and changed, newest first
   pub notes : List Note  -- the transaction of each ask, newest first
@@ -23,7 +24,7 @@ nodes_of stations = map node_of stations
 
 -- what a world knows of a plant: all but links, buffers and settings
 abbrev pub world_of : Plant → World
-world_of p = record { nodes = nodes_of p.stations; time = p.time; copies = p.copies; log = p.log; notes = p.notes }
+world_of p = record { nodes = nodes_of p.stations; time = p.time; lives = p.lives; copies = p.copies; log = p.log; notes = p.notes }
 
 -- what the clock of a station shows
 abbrev pub shows : Plant → (station : ℕ) → ℕ

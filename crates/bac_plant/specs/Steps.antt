@@ -1,5 +1,5 @@
 -- What happens in a plant: time passes, and a station does what a call of bac_driver promises, at the moment that its clock shows.
-use Rattle.std.specs.Prelude.{◌≡◌, ℕ, Bool, List, ◌∷◌, ◌++◌, length, Option, Some, None, slice_get, slice_set}
+use Rattle.std.specs.Prelude.{◌≡◌, ℕ, Bool, true, false, List, ◌∷◌, ◌++◌, length, Option, Some, None, slice_get, slice_set}
 use Rattle.bac_apdu.specs.Apdu.{Limits}
 use Rattle.bac_npdu.specs.Peers.{PeerView}
 use Rattle.bac_service.specs.Values.{Request}
@@ -9,11 +9,12 @@ use Rattle.bac_store.specs.Stores.{Store}
 use Rattle.bac_protocol.specs.Pace.{clock_at}
 use Rattle.bac_protocol.specs.Service.{Octets}
 use Rattle.bac_transaction.specs.Sends.{Datagram, Pairwise}
-use Rattle.bac_world.specs.Node.{Node, restarted, store_after_restart, with_change}
+use Rattle.bac_world.specs.Node.{Node, Outcome, begun_again, restarted, store_after_restart, with_change}
 use Rattle.bac_world.specs.Once.{Fact}
 use Rattle.bac_world.specs.Once.Fact.{Asked, AskedAway, Changed, Restarted}
 use Rattle.bac_world.specs.ReusingWorlds.{AreLoggedSo}
-use Rattle.bac_world.specs.World.{AreCopied, AreEnded, Copy, IsCopied, IsOfNone, Note, link_at, passes, peer_at, with_clock}
+use Rattle.bac_world.specs.World.{AreCopied, AreEnded, Copy, IsCopied, IsOfNone, Life, Note, is_quiet, link_at, passes, peer_at, with_act, with_ask}
+use Rattle.bac_world.specs.World.{with_clock, with_restart}
 use Rattle.bac_driver.specs.BoundNodes.{BoundNode}
 use Rattle.bac_driver.specs.Calls.{one_more, with_call}
 use Rattle.bac_driver.specs.Calls.Call.{FailedReceive}
@@ -22,11 +23,12 @@ use Rattle.bac_driver.specs.Rounds.{IsTaken, sends_in, sends_of_all}
 use Rattle.bac_driver.specs.Runs.{Run}
 use Rattle.bac_driver.specs.Asking.{IsBegun, Question}
 use Rattle.bac_driver.specs.declared.wait_limit.WaitLimit.{WaitLimit}
-use Rattle.bac_plant.specs.Plants.{IsSetTo, Plant, nodes_of, shows}
+use Rattle.bac_plant.specs.Plants.{IsSetTo, Plant, nodes_of, shows, world_of}
 use Rattle.bac_plant.specs.Network.{HandsOver, Source}
+use Rattle.bac_plant.specs.Network.Source.{Nowhere}
 
 -- time passes, and each clock goes on; a station takes a turn, by a datagram from that source; its link fails to receive; it begins an ask of another
--- station or of a stranger, changes its own store, or restarts. In a round it takes turns whose sends it holds, and then sends what these turns hold.
+-- station or of a stranger, changes its own store, or restarts; a program starts there, as the first one, or after another. In a round it takes turns whose sends it holds, and then sends what these turns hold.
 pub data Step : Type 0 where
   Passes : (by : ℕ) (own : ℕ → ℕ) → Step
   Takes : (station : ℕ) (source : Source) (turn : Turn) → Step
@@ -35,6 +37,8 @@ pub data Step : Type 0 where
   BeginsAway : (station : ℕ) (peer : PeerView) (limits : Limits) (request : Request) → Step
   Changes : (station : ℕ) (change : at_node.Change) → Step
   Restarts : (station exact : ℕ) (store : Option Store) → Step
+  Starts : (station exact : ℕ) → Step
+  StartsAgain : (station exact first_id : ℕ) (store : Option Store) → Step
   Holds : (station : ℕ) (source : Source) (turn : Turn) → Step
   SendsHeld : (station : ℕ) (turns : List Turn) → Step
 
@@ -64,6 +68,19 @@ pub record AreEntered (reuse : Bool) (p : Plant) (i : ℕ) (middle : Node) (turn
   pub performs : AreLoggedSo reuse (nodes_of p.stations) p.notes i middle (performed_of turn.heard) ended performed
   pub gives_up : AreEnded p.notes i (ended_of turn.ticked) performed log
 
+-- something happens at a station where it hears what came, and where it ticks
+abbrev pub heard_lives : (station : ℕ) → Source → (heard : Option Outcome) → (ℕ → Life) → ℕ → Life
+heard_lives i Nowhere heard lives = lives
+heard_lives i source None lives = lives
+heard_lives i source (Some o) lives = with_act lives i
+
+abbrev pub ticked_lives : (station : ℕ) → (ticked : Option Outcome) → (ℕ → Life) → ℕ → Life
+ticked_lives i None lives = lives
+ticked_lives i (Some o) lives = with_act lives i
+
+abbrev pub turn_lives : (station : ℕ) → Source → Turn → (ℕ → Life) → ℕ → Life
+turn_lives i source turn lives = ticked_lives i turn.ticked (heard_lives i source turn.heard lives)
+
 -- what a station received in a turn comes from there, what the turn sends becomes copies, and what it ended and performed enters the log
 pub record HappensAt (reuse : Bool) (overtake : ℕ) (old : Plant) (i : ℕ) (source : Source) (turn : Turn) (middle : Node) (after : BoundNode) (new : Plant)
     : Type 0 where
@@ -72,7 +89,7 @@ pub record HappensAt (reuse : Bool) (overtake : ℕ) (old : Plant) (i : ℕ) (so
   pub copied : BecomeCopies old i (sends_in turn) sent
   pub log : List Fact
   pub entered : AreEntered reuse old i middle turn log
-  pub is : new ≡ record (with_station old i after) { copies = old.copies ++ sent; log = log }
+  pub is : new ≡ record (with_station old i after) { lives = turn_lives i source turn old.lives; copies = old.copies ++ sent; log = log }
 
 -- a station takes a turn
 pub record TakesTurnAt (overtake : ℕ) (old : Plant) (i : ℕ) (source : Source) (turn : Turn) (new : Plant) : Type 0 where
@@ -153,6 +170,7 @@ pub record AsksAt (old : Plant) (i server : ℕ) (limits : Limits) (r : Request)
   pub sent : List Copy
   pub copied : Pairwise (IsCopied (nodes_of old.stations) old.time.now i) begun.sends sent
   pub is : new ≡ record (with_station old i after) {
+    lives = with_ask old.time old.lives i;
     copies = old.copies ++ sent;
     log = Asked (length old.notes) i server r ∷ old.log;
     notes = note_of i server begun.accepted.invoke_id ticket ∷ old.notes;
@@ -171,6 +189,7 @@ pub record AsksAwayAt (old : Plant) (i : ℕ) (peer : PeerView) (limits : Limits
   pub ticket : ℕ
   pub begun : IsBegun (shows old i) (question peer limits r) before ticket after
   pub is : new ≡ record (with_station old i after) {
+    lives = with_act old.lives i;
     log = AskedAway (length old.notes) i peer r ∷ old.log;
     notes = away_note i peer begun.accepted.invoke_id ticket ∷ old.notes;
   }
@@ -191,7 +210,36 @@ pub record RestartsAt (old : Plant) (i exact : ℕ) (store : Option Store) (new 
   pub after : BoundNode
   pub node : after.node ≡ restarted (clock_at old.time.pace exact).shows (store_after_restart before.node.store store) before.node
   pub reuse : after.reuse ≡ before.reuse
-  pub is : new ≡ record (with_station old i after) { time = with_clock old.time i exact; log = Restarted i store ∷ old.log }
+  pub is : new ≡ record (with_station old i after) {
+    time = with_clock old.time i exact;
+    lives = with_restart old.time old.lives i;
+    log = Restarted i store ∷ old.log;
+  }
+
+-- a program starts at a station at which nothing happened, with a new clock, and with any link and buffer; nothing is logged
+pub record StartsAt (old : Plant) (i exact : ℕ) (new : Plant) : Type 0 where
+  pub before : BoundNode
+  pub at : slice_get old.stations i ≡ Some before
+  pub first : (old.lives i).active ≡ false
+  pub after : BoundNode
+  pub node : after.node ≡ before.node
+  pub reuse : after.reuse ≡ before.reuse
+  pub is : new ≡ record (with_station old i after) { time = with_clock old.time i exact }
+
+-- another program starts at a station, with a new clock, and with any link and buffer, once all is over that the client before it sent: its client may ask at
+-- once, and its server waits as after a restart
+pub record StartsAgainAt (old : Plant) (i exact first_id : ℕ) (store : Option Store) (new : Plant) : Type 0 where
+  pub before : BoundNode
+  pub at : slice_get old.stations i ≡ Some before
+  pub quiet : is_quiet (world_of old) i ≡ true
+  pub after : BoundNode
+  pub node : after.node ≡ begun_again (clock_at old.time.pace exact).shows first_id (store_after_restart before.node.store store) before.node
+  pub reuse : after.reuse ≡ before.reuse
+  pub is : new ≡ record (with_station old i after) {
+    time = with_clock old.time i exact;
+    lives = with_act old.lives i;
+    log = Restarted i store ∷ old.log;
+  }
 
 -- ---- steps, one after the other
 
@@ -203,6 +251,8 @@ PlantStep overtake old (Begins station server limits request) new = AsksAt old s
 PlantStep overtake old (BeginsAway station peer limits request) new = AsksAwayAt old station peer limits request new
 PlantStep overtake old (Changes station change) new = ChangesAt old station change new
 PlantStep overtake old (Restarts station exact store) new = RestartsAt old station exact store new
+PlantStep overtake old (Starts station exact) new = StartsAt old station exact new
+PlantStep overtake old (StartsAgain station exact first_id store) new = StartsAgainAt old station exact first_id store new
 PlantStep overtake old (Holds station source turn) new = HoldsTurnAt overtake old station source turn new
 PlantStep overtake old (SendsHeld station turns) new = SendsHeldAt old station turns new
 

@@ -30,7 +30,7 @@ ghost use Rattle.bac_plant.specs.Chains.{AsksAndStops, AsksInChain, Chain, Serve
 ghost use Rattle.bac_plant.specs.Cuts.{CutPlant, CutPlantRun, CutStep, GoesOn, HoldsAlone, KeepStores, LosesAlone, cut_events_of, held_of, real, steps_of};
 ghost use Rattle.bac_plant.specs.Events.{events_of};
 ghost use Rattle.bac_plant.specs.NextCuts.{FoundStoresGoOn, KeptStoresGoOn, LostTurnsGoOn, StepsGoOn};
-ghost use Rattle.bac_plant.specs.NextSteps.{AsksGoOn, ChangesGoOn, FailuresGoOn, HeldSendsGoOn, HeldTurnsGoOn, IsReached, RestartsGoOn, StrangersAskedGoOn};
+ghost use Rattle.bac_plant.specs.NextSteps.{AsksGoOn, ChangesGoOn, FailuresGoOn, HeldSendsGoOn, HeldTurnsGoOn, IsReached, RestartsGoOn, StartsAgainGoOn, StartsGoOn, StrangersAskedGoOn};
 ghost use Rattle.bac_plant.specs.NextSteps.{TurnsGoOn};
 ghost use Rattle.bac_plant.specs.Plants.{HasNoReuse, Plant, nodes_of, settings_of, world_of};
 ghost use Rattle.bac_plant.specs.Rounds.{HeldChain, IsAsHeldInChain, RoundInChain, ServesRoundsInChain, StopsInRound, StopsRoundsInChain};
@@ -70,7 +70,7 @@ pub fn turns_are_events()
 /// datagram that the network may hand over, is a step of the plant: there are the asks, transactions and strangers of all that it returned. A turn, also one
 /// whose sends are held, is a step where its station lets no client use an invoke ID again, or remembers each request for 65,000 ms. So no turn of such a
 /// station is left out of the law above.
-#[tactic(auto, using(crate::proofs::Next::changes_go_on, crate::proofs::Next::restarts_go_on))]
+#[tactic(auto, using(crate::proofs::Next::changes_go_on, crate::proofs::Next::restarts_go_on, crate::proofs::Next::starts_go_on, crate::proofs::Next::starts_again_go_on))]
 pub fn calls_go_on()
     ensures turns { (W overtake : ℕ) (p : Plant) → IsReached W overtake p → TurnsGoOn overtake p }
     ensures held_turns { (W overtake : ℕ) (p : Plant) → IsReached W overtake p → HeldTurnsGoOn overtake p }
@@ -80,6 +80,8 @@ pub fn calls_go_on()
     ensures failures { (overtake : ℕ) (p : Plant) → FailuresGoOn overtake p }
     ensures changes { (overtake : ℕ) (p : Plant) → ChangesGoOn overtake p }
     ensures restarts { (overtake : ℕ) (p : Plant) → RestartsGoOn overtake p }
+    ensures starts { (overtake : ℕ) (p : Plant) → StartsGoOn overtake p }
+    ensures starts_again { (overtake : ℕ) (p : Plant) → StartsAgainGoOn overtake p }
 {}
 
 /// What `serve`, `ask` and `pair` promise is a chain of turns of each station, for `ask` after its ask; for `serve` and `ask` also where a fault stops them.

@@ -41,6 +41,8 @@ same_event t (event.Tick node) = refl
 same_event t (event.Advance by) = refl
 same_event t (event.Change node change) = refl
 same_event t (event.Restart node store) = refl
+same_event t (event.Begin node) = refl
+same_event t (event.BeginAgain node first_id store) = refl
 same_event t (event.Stranger node from octets) = refl
 same_event t (event.AskStranger node peer limits request) = refl
 
@@ -52,6 +54,8 @@ same_after t (event.Tick node) = refl
 same_after t (event.Advance by) = refl
 same_after t (event.Change node change) = refl
 same_after t (event.Restart node store) = refl
+same_after t (event.Begin node) = refl
+same_after t (event.BeginAgain node first_id store) = refl
 same_after t (event.Stranger node from octets) = refl
 same_after t (event.AskStranger node peer limits request) = refl
 
@@ -120,6 +124,7 @@ bad_change : (f : WorldFault) (why : ChangeFault) → change_fault_in f ≡ Some
 bad_change fault.NoSuchNode why e = absurd cc
 bad_change fault.NoSuchDatagram why e = absurd cc
 bad_change fault.NodeLink why e = absurd cc
+bad_change fault.TooSoon why e = absurd cc
 bad_change fault.ClockEnd why e = absurd cc
 bad_change (fault.BadChange other) why e = ap (λ (w : ChangeFault). the_err (fault.BadChange w)) (let same : Some other ≡ Some why = e in cc)
 bad_change fault.NoMemory why e = absurd cc

@@ -18,6 +18,8 @@ pub data Happening : Type 0 where
   Advance : (by : ℕ) → Happening
   Change : (node : ℕ) (change : at_node.Change) → Happening
   Restart : (node : ℕ) (store : Option Store) → Happening
+  Begin : (node : ℕ) → Happening
+  BeginAgain : (node first_id : ℕ) (store : Option Store) → Happening
   -- octets of a stranger, from a link of no node, and an ask of one
   Stranger : (node : ℕ) (from octets : List ℕ) → Happening
   AskStranger : (client : ℕ) (peer : PeerView) (limits : Limits) (request : Request) → Happening
@@ -31,6 +33,8 @@ event_at t (Happening.Tick node) = world.Event.Tick node
 event_at t (Happening.Advance by) = world.Event.Advance (parts_of t.own * by) (steps_of t.own by)
 event_at t (Happening.Change node change) = world.Event.Change node change
 event_at t (Happening.Restart node store) = world.Event.Restart node (restart_at t.moment t.own) store
+event_at t (Happening.Begin node) = world.Event.Begin node (restart_at t.moment t.own)
+event_at t (Happening.BeginAgain node first_id store) = world.Event.BeginAgain node (restart_at t.moment t.own) first_id store
 event_at t (Happening.Stranger node from octets) = world.Event.Stray node from octets
 event_at t (Happening.AskStranger client peer limits request) = world.Event.AskAway client peer limits request
 
@@ -38,4 +42,6 @@ event_at t (Happening.AskStranger client peer limits request) = world.Event.AskA
 abbrev pub time_after : Happening → Instant → Instant
 time_after (Happening.Advance by) t = record { moment = t.moment + parts_of t.own * by; own = later_by by t.own }
 time_after (Happening.Restart node store) t = record t { own = restarted_own node t.own }
+time_after (Happening.Begin node) t = record t { own = restarted_own node t.own }
+time_after (Happening.BeginAgain node first_id store) t = record t { own = restarted_own node t.own }
 time_after e t = t

@@ -88,6 +88,7 @@ abbrev pub change_fault_in : WorldFault → Option ChangeFault
 change_fault_in world_fault.NoSuchNode = None
 change_fault_in world_fault.NoSuchDatagram = None
 change_fault_in world_fault.NodeLink = None
+change_fault_in world_fault.TooSoon = None
 change_fault_in world_fault.ClockEnd = None
 change_fault_in (world_fault.BadChange why) = Some why
 change_fault_in world_fault.NoMemory = None

@@ -20,7 +20,7 @@ use Rattle.bac_world.specs.Once.{Fact}
 use Rattle.bac_world.specs.Once.Fact.{Asked, Performed, Ended, Changed, Restarted, Served, AskedAway, EndedAway}
 use Rattle.bac_world.specs.World.{Copy, Note, is_deliverable}
 use Rattle.bac_simulate.specs.Happenings.{Happening}
-use Rattle.bac_simulate.specs.Happenings.Happening.{Ask, Deliver, Noise, Tick, Advance, Change, Restart, Stranger, AskStranger}
+use Rattle.bac_simulate.specs.Happenings.Happening.{Ask, Deliver, Noise, Tick, Advance, Change, Restart, Begin, BeginAgain, Stranger, AskStranger}
 use Rattle.bac_simulate.specs.Moments.{ms_now, parts_in}
 use Rattle.bac_simulate.specs.Printed.{pace_text}
 use Rattle.bac_text.specs.Peers.{link_text, peer_text}
@@ -66,6 +66,8 @@ coming_in w (Tick node) = None
 coming_in w (Advance by) = None
 coming_in w (Change node change) = None
 coming_in w (Restart node store) = None
+coming_in w (Begin node) = None
+coming_in w (BeginAgain node first_id store) = None
 coming_in w (Stranger node from octets) = Some (marks.Note (ms_now w) node (stranger_words from octets))
 coming_in w (AskStranger client peer limits request) = None
 
@@ -128,6 +130,8 @@ place_of (Tick node) = node
 place_of (Advance by) = 0
 place_of (Change node change) = node
 place_of (Restart node store) = node
+place_of (Begin node) = node
+place_of (BeginAgain node first_id store) = node
 place_of (Stranger node from octets) = node
 place_of (AskStranger client peer limits request) = client
 

@@ -23,6 +23,8 @@ happening_view (event.Tick node) = Happening.Tick node
 happening_view (event.Advance by) = Happening.Advance by
 happening_view (event.Change node change) = Happening.Change node (change_view change)
 happening_view (event.Restart node store) = Happening.Restart node store
+happening_view (event.Begin node) = Happening.Begin node
+happening_view (event.BeginAgain node first_id store) = Happening.BeginAgain node first_id store
 happening_view (event.Stranger node from octets) = Happening.Stranger node from octets.items
 happening_view (event.AskStranger node peer limits request) =
     Happening.AskStranger node (peer_view peer) (limits_view limits) (owned_request_view request)

@@ -19,7 +19,7 @@ use Rattle.bac_world.specs.Once.{Fact}
 use Rattle.bac_world.specs.Once.Fact.{Asked, Performed, Ended, Changed, Restarted, Served, AskedAway, EndedAway}
 use Rattle.bac_world.specs.World.{Copy, later}
 use Rattle.bac_simulate.specs.Happenings.{Happening}
-use Rattle.bac_simulate.specs.Happenings.Happening.{Ask, Deliver, Noise, Tick, Advance, Change, Restart, Stranger, AskStranger}
+use Rattle.bac_simulate.specs.Happenings.Happening.{Ask, Deliver, Noise, Tick, Advance, Change, Restart, Begin, BeginAgain, Stranger, AskStranger}
 use Rattle.bac_simulate.specs.Printed.{pace_text}
 use Rattle.bac_simulate.specs.Traces.{life_in}
 use Rattle.bac_simulate.specs.declared.nothing.Why.{Why}
@@ -51,6 +51,8 @@ AreEventWords (Tick node) words = words ≡ codes "tick " ++ decimal node
 AreEventWords (Advance by) words = words ≡ codes "advance " ++ decimal by
 AreEventWords (Change node change) words = words ≡ change_words node change
 AreEventWords (Restart node store) words = words ≡ codes "restart " ++ decimal node
+AreEventWords (Begin node) words = words ≡ codes "begin " ++ decimal node
+AreEventWords (BeginAgain node first_id store) words = words ≡ codes "begin again " ++ decimal node
 AreEventWords (Stranger node from octets) words = words ≡ stranger_words node from octets
 AreEventWords (AskStranger client peer limits request) words = AreAskWords client (peer_text peer) request words
 
@@ -125,6 +127,8 @@ why_nothing w (Tick node) = why.Idle
 why_nothing w (Advance by) = why.Passed
 why_nothing w (Change node change) = why.Heard
 why_nothing w (Restart node store) = why.Heard
+why_nothing w (Begin node) = why.Heard
+why_nothing w (BeginAgain node first_id store) = why.Heard
 why_nothing w (Stranger node from octets) = why.HeardStranger
 why_nothing w (AskStranger client peer limits request) = why.Heard
 

@@ -283,7 +283,9 @@ fn place_of(event: &Event) -> usize
         | Event::AskStranger { node, .. }
         | Event::Tick { node }
         | Event::Change { node, .. }
-        | Event::Restart { node, .. } => *node,
+        | Event::Restart { node, .. }
+        | Event::Begin { node }
+        | Event::BeginAgain { node, .. } => *node,
         Event::Deliver { .. } | Event::Advance { .. } => 0,
     }
 }

@@ -74,7 +74,9 @@ pub(crate) fn why_nothing(world: &World, event: &Event) -> Why
         Event::Ask { .. }
         | Event::AskStranger { .. }
         | Event::Change { .. }
-        | Event::Restart { .. } => Why::Heard,
+        | Event::Restart { .. }
+        | Event::Begin { .. }
+        | Event::BeginAgain { .. } => Why::Heard,
     }
 }
 

@@ -31,6 +31,7 @@ pub(crate) fn change_fault_in(fault: WorldFault) -> Option<ChangeFault>
         WorldFault::NoSuchNode
         | WorldFault::NoSuchDatagram
         | WorldFault::NodeLink
+        | WorldFault::TooSoon
         | WorldFault::ClockEnd
         | WorldFault::NoMemory => None,
     }

@@ -129,6 +129,8 @@ fn event_words(alloc: Global, event: &Event) -> io::Result<Vec<u8>>
         Event::Tick { node } => format!(in alloc; "tick {node}")?,
         Event::Advance { by } => format!(in alloc; "advance {by}")?,
         Event::Restart { node, .. } => format!(in alloc; "restart {node}")?,
+        Event::Begin { node } => format!(in alloc; "begin {node}")?,
+        Event::BeginAgain { node, .. } => format!(in alloc; "begin again {node}")?,
     };
     Ok(words.into_bytes())
 }

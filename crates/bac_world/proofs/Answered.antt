@@ -26,7 +26,7 @@ use Rattle.bac_service.specs.Services.{reads_reply}
 use Rattle.bac_world.specs.Services.{Performed}
 use Rattle.bac_world.specs.Node.{Node, Outcome, IsServerTurn, NodeAsks}
 use Rattle.bac_world.specs.Once.{Fact}
-use Rattle.bac_world.specs.World.{World, Copy, Note, Hears, IsAsked, IsDelivered, IsFreshNode, IsCopied, link_at, peer_at}
+use Rattle.bac_world.specs.World.{World, Copy, Note, Hears, IsAsked, IsDelivered, IsFreshNode, IsCopied, link_at, peer_at, with_act, with_ask}
 use Rattle.bac_world.specs.Examples.{REQUEST, REPLY, STORE, ASKED}
 use Rattle.bac_world.specs.AnsweredRun.{TIME, LIMITS, SETTINGS, link, node, OPENING, LOG, AnsweredRun, StrangerRun}
 
@@ -98,7 +98,15 @@ abbrev pub NOTES : List Note
 NOTES = record { key = record { client = 0; server = 1; invoke_id = 0 }; ticket = 0; away = None } ∷ []
 
 abbrev pub SECOND : World
-SECOND = record { nodes = ASKED_NODE ∷ node 1 ∷ []; time = TIME; copies = copy 0 1 ASK ∷ []; log = ASKED; notes = NOTES }
+SECOND =
+    record {
+      nodes = ASKED_NODE ∷ node 1 ∷ [];
+      time = TIME;
+      lives = with_ask TIME OPENING.lives 0;
+      copies = copy 0 1 ASK ∷ [];
+      log = ASKED;
+      notes = NOTES;
+    }
 
 pub ask_copied : IsCopied OPENING.nodes 0 0 (datagram (link 1) ASK) (copy 0 1 ASK)
 ask_copied = record {
@@ -147,6 +155,7 @@ asked = record {
   asks = asks;
   nodes = record { here = refl; others = others_first ASKED_NODE (node 0) (node 1) };
   time = refl;
+  lives = refl;
   sent = copy 0 1 ASK ∷ [];
   copies = refl;
   copied = (ask_copied, tt);
@@ -194,6 +203,7 @@ THIRD =
     record {
       nodes = ASKED_NODE ∷ SERVED_NODE ∷ [];
       time = TIME;
+      lives = with_act SECOND.lives 1;
       copies = copy 0 1 ASK ∷ copy 1 0 ANSWER ∷ [];
       log = Fact.Performed 0 REQUEST REPLY ∷ ASKED;
       notes = NOTES;
@@ -231,6 +241,7 @@ served = record {
   acts = record {
     nodes = record { here = refl; others = others_second SERVED_NODE (node 1) ASKED_NODE };
     time = refl;
+    lives = refl;
     notes = refl;
     sent = copy 1 0 ANSWER ∷ [];
     copies = refl;
@@ -253,7 +264,15 @@ abbrev ENDED : Outcome
 ENDED = record { sends = []; performed = None; ended = record { ticket = 0; how = Answered REPLY } ∷ []; dropped = None }
 
 abbrev pub LAST : World
-LAST = record { nodes = ENDED_NODE ∷ SERVED_NODE ∷ []; time = TIME; copies = THIRD.copies; log = LOG; notes = NOTES }
+LAST =
+    record {
+      nodes = ENDED_NODE ∷ SERVED_NODE ∷ [];
+      time = TIME;
+      lives = with_act THIRD.lives 0;
+      copies = THIRD.copies;
+      log = LOG;
+      notes = NOTES;
+    }
 
 heard : Hears THIRD 0 (link 1) (copy 1 0 ANSWER).octets LAST
 heard = record {
@@ -271,6 +290,7 @@ heard = record {
   acts = record {
     nodes = record { here = refl; others = others_first ENDED_NODE ASKED_NODE SERVED_NODE };
     time = refl;
+    lives = refl;
     notes = refl;
     sent = [];
     copies = refl;
@@ -309,6 +329,7 @@ answered_run = record {
   fresh = record {
     nodes = each_node IsFreshNode (fresh_node 0) (fresh_node 1);
     apart = links_apart;
+    lives = λ i. refl;
     now = refl;
     clocks = λ i. refl;
     copies = refl;
@@ -358,7 +379,15 @@ stranger_turn = record {
 }
 
 abbrev STRANGER_WORLD : World
-STRANGER_WORLD = record { nodes = node 0 ∷ STRANGER_NODE ∷ []; time = TIME; copies = []; log = Fact.Served (peer_at (link 2)) 1 0 0 REQUEST REPLY ∷ []; notes = [] }
+STRANGER_WORLD =
+    record {
+      nodes = node 0 ∷ STRANGER_NODE ∷ [];
+      time = TIME;
+      lives = with_act OPENING.lives 1;
+      copies = [];
+      log = Fact.Served (peer_at (link 2)) 1 0 0 REQUEST REPLY ∷ [];
+      notes = [];
+    }
 
 stranger_served : Hears OPENING 1 (link 2) (datagram (link 1) ASK).octets STRANGER_WORLD
 stranger_served = record {
@@ -376,6 +405,7 @@ stranger_served = record {
   acts = record {
     nodes = record { here = refl; others = others_second STRANGER_NODE (node 1) (node 0) };
     time = refl;
+    lives = refl;
     notes = refl;
     sent = [];
     copies = refl;

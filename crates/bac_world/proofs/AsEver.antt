@@ -8,7 +8,7 @@ use Rattle.bac_world.specs.Once.Fact.{Asked, Performed, Ended, Changed, Restarte
 use Rattle.bac_world.specs.ReusingLogs.{IsOnceSo, MayEnterSo, NoneReuses, Reuses}
 use Rattle.bac_world.specs.ReusingWorlds.{DeliversIfSo, HearsSo, WorldRunSo, WorldStepSo}
 use Rattle.bac_world.specs.World.{Copy, DeliversIf, Event, Hears, World, WorldRun, WorldStep, is_deliverable}
-use Rattle.bac_world.specs.World.Event.{Ask, AskAway, Deliver, Noise, Stray, Tick, Advance, Change, Restart}
+use Rattle.bac_world.specs.World.Event.{Ask, AskAway, Deliver, Noise, Stray, Tick, Advance, Change, Restart, Begin, BeginAgain}
 use Rattle.bac_world.proofs.Settings.{reuses_in}
 use Rattle.bac_world.proofs.Steps.{acts_as}
 
@@ -36,6 +36,8 @@ step_as overtake w (Tick node) w' s = s
 step_as overtake w (Advance by own) w' s = s
 step_as overtake w (Change node change) w' s = s
 step_as overtake w (Restart node exact store) w' s = s
+step_as overtake w (Begin node exact) w' s = s
+step_as overtake w (BeginAgain node exact first_id store) w' s = s
 
 pub run_as : (overtake : ℕ) (w : World) (events : List Event) (w' : World) → WorldRun overtake w events w' → WorldRunSo overtake (reuses_in None) w events w'
 run_as overtake w [] w' run = run

@@ -32,18 +32,19 @@ use Rattle.bac_transaction.proofs.Holding.{held_is}
 use Rattle.bac_world.specs.Node.{Node}
 use Rattle.bac_world.specs.Once.{Fact, Stores}
 use Rattle.bac_world.specs.ReusingLogs.{IsOnceSo}
-use Rattle.bac_world.specs.World.{World, Time, Note, Copy, stores_of, newest, ask_of, peer_at, IsCopied, IsAsked}
+use Rattle.bac_world.specs.World.{World, Life, Time, Note, Copy, stores_of, newest, ask_of, peer_at, IsCopied, IsAsked}
 use Rattle.bac_transaction.proofs.KeyedSlots.{slot, passing, passing_value, passing_distinct, put_same, put_other, put_distinct}
 use Rattle.bac_transaction.proofs.KeyedSlots.{each_at, each_so, each_passing, each_put}
 use Rattle.bac_protocol.specs.World.{client_now, is_lost, is_key_held}
 use Rattle.bac_world.specs.World.{told}
 use Rattle.bac_world.proofs.Bridge.{here_at, there_at}
-use Rattle.bac_protocol.specs.Pace.{Clock}
+use Rattle.bac_protocol.specs.Pace.{Clock, Pace, most}
+use Rattle.bac_protocol.specs.declared.times.TheConstants.{DEADLINE}
 use Rattle.bac_world.proofs.Machines.{Sound, counted, asked, away_below}
 use Rattle.bac_world.proofs.Pairs.{pairwise_join, append_none}
 use Rattle.bac_world.proofs.Logs.{FactMeans, asks_counted}
-use Rattle.bac_world.proofs.Bridge.{NodeFits, ClientsFit, IsKnown, IsCopyOf, IsGone, TicketFits, key_of, slot_key, copies_of, IsStranger, AwayNoted, out_key, away_more}
-use Rattle.bac_world.proofs.Steps.{Over, Fits, Goes, linked_with, stores_same, decide_number}
+use Rattle.bac_world.proofs.Bridge.{HasNothing, LifeFits, NodeFits, ClientsFit, IsKnown, IsCopyOf, IsGone, TicketFits, key_of, slot_key, copies_of, IsStranger, AwayNoted, out_key, away_more}
+use Rattle.bac_world.proofs.Steps.{Over, Fits, Goes, idle_with, linked_with, set_elsewhere, stores_same, decide_number}
 use Rattle.bac_world.proofs.Settings.{Setting, reuses_in}
 
 -- What an accepted ask is.
@@ -394,12 +395,35 @@ module _ (links : ℕ → Option Octets) (apart : (i j : ℕ) (l : Octets) → l
     asks_is = ap (λ (k : ℕ). k + 1) h.asks ∙ (let e : length w.notes + 1 ≡ length (note' ∷ w.notes) = omega arith in e)
         ∙ sym (ap (λ (l : List Note). length l) notes_is)
 
+    asker_lives : (j : ℕ) (b : Bool) → nat_eq j i ≡ b
+        → LifeFits after j (if b then record { active = true; sends_until = w.time.now + most w.time.pace DEADLINE + 1 } else w.lives j)
+    asker_lives j true e = record {
+      active = λ off. absurd cc;
+      none = λ off. absurd cc;
+      sends = ap (λ (b : Bool). if b then n.now + most n.pace DEADLINE + 1 else n.sends_until j) e
+          ∙ ap (λ (t : ℕ). t + most n.pace DEADLINE + 1) h.now ∙ ap (λ (p : Pace). w.time.now + most p DEADLINE + 1) h.pace;
+    }
+    asker_lives j false e = record {
+      active = λ off. ap (λ (b : Bool). (b || n.asked j) || n.served j) e ∙ (h.lives j).active off;
+      none = λ off. let old : HasNothing n j = (h.lives j).none off in record {
+        tickets = λ k is. set_elsewhere (λ (y : Key). y.client) n.tickets key (Some (asked_ticket context ask)) k (ap (λ (c : ℕ). nat_eq c i) is ∙ e)
+            ∙ old.tickets k is;
+        far_tickets = old.far_tickets;
+        entries = old.entries;
+        far_entries = old.far_entries;
+      };
+      sends = ap (λ (b : Bool). if b then n.now + most n.pace DEADLINE + 1 else n.sends_until j) e ∙ (h.lives j).sends;
+    }
+
     over : Over links apart W x set w' after
     over = record {
       now = h.now ∙ sym (ap (λ (t : Time). t.now) step.time);
       pace = h.pace ∙ sym (ap (λ (t : Time). t.pace) step.time);
       here = λ j. h.here j ∙ sym (ap (λ (t : Time). t.clocks j) step.time);
       there = λ j. h.there j ∙ sym (ap (λ (t : Time). t.clocks j) step.time);
+      lives = λ j. subst (λ (lives : ℕ → Life). LifeFits after j (lives j)) (sym step.lives) (asker_lives j (nat_eq j i) refl);
+      idle = idle_with w.nodes w'.nodes w.lives w'.lives i step.after (record { active = true; sends_until = w.time.now + most w.time.pace DEADLINE + 1 })
+          step.nodes step.lives refl h.idle;
       asks = asks_is;
       linked = linked_with links w.nodes w'.nodes i a step.after step.nodes step.at (ap (λ (d : Node). d.link) node_is) h.linked;
       nodes = λ j b at. subst (λ (l : List Note). NodeFits links apart x (here_at n j) (there_at n j) l after j b) (sym notes_is) (nodes j b at (decide_number j i));

@@ -18,14 +18,15 @@ use Rattle.bac_protocol.specs.Client.{ClientTransaction, is_idle}
 use Rattle.bac_protocol.specs.Server.{ServerTransaction, live_entry}
 use Rattle.bac_protocol.specs.Transaction.{Key, Rules}
 use Rattle.bac_protocol.specs.Straight.{is_ended}
-use Rattle.bac_protocol.specs.World.{Net, Post, post_of, is_key_held, is_lost}
+use Rattle.bac_protocol.specs.World.{Net, Post, Strangers, post_of, is_active, is_key_held, is_lost}
 use Rattle.bac_protocol.specs.World as machine
 use Rattle.bac_slots.specs.Slots.{value_at, IsDistinct}
 use Rattle.bac_transaction.specs.Keys.{PeerKey, same_key}
 use Rattle.bac_transaction.specs.Sends.{Datagram, Pairwise, IsSent, to_peer, to_all}
 use Rattle.bac_transaction.specs.Ends.{Client, ClientEnd, ServerEnd, kept}
-use Rattle.bac_world.specs.Node.{Node}
-use Rattle.bac_world.specs.World.{World, Copy, Note, link_at, newest, ask_of, peer_at, transaction_of, IsCopied, count_of, later}
+use Rattle.bac_store.specs.AtNode.{Change}
+use Rattle.bac_world.specs.Node.{Node, with_change}
+use Rattle.bac_world.specs.World.{World, Copy, IsFreshNode, Life, Note, link_at, newest, ask_of, peer_at, transaction_of, IsCopied, count_of, later}
 use Rattle.bac_transaction.proofs.KeyedSlots.{EachSlot}
 use Rattle.bac_world.proofs.Numbers.{number}
 use Rattle.bac_world.specs.World.{AreCopied}
@@ -68,6 +69,48 @@ abbrev pub TicketFits : (gone : Bool) (now : ℕ) → List Note → (client numb
 TicketFits gone now notes client number None o = IsGone gone now o
 TicketFits gone now notes client number (Some s) None = ⊥
 TicketFits gone now notes client number (Some s) (Some t) = SlotFits notes client number s t
+
+-- a node that did nothing has no ticket and no entry
+pub record HasNothing (n : Net) (i : ℕ) : Type 0 where
+  pub tickets : (key : Key) → key.client ≡ i → n.tickets key ≡ None
+  pub far_tickets : (key : Key) → key.client ≡ i → n.far.tickets key ≡ None
+  pub entries : (key : Key) → key.server ≡ i → n.entries key ≡ None
+  pub far_entries : (key : Key) → key.server ≡ i → n.far.entries key ≡ None
+
+-- a node at which nothing happened did nothing
+pub record LifeFits (n : Net) (i : ℕ) (l : Life) : Type 0 where
+  pub active : l.active ≡ false → is_active n i ≡ false
+  pub sends : n.sends_until i ≡ l.sends_until
+  pub none : l.active ≡ false → HasNothing n i
+
+-- a node at which nothing happened is as it was at its beginning
+abbrev pub AreIdle : List Node → (ℕ → Life) → Type 0
+AreIdle nodes lives = (j : ℕ) (a : Node) → slice_get nodes j ≡ Some a → (lives j).active ≡ false → IsFreshNode a
+
+-- its store is its own matter
+pub changed_fresh : (c : Change) (a : Node) → IsFreshNode a → IsFreshNode (with_change c a)
+changed_fresh c a f = record {
+  latest = f.latest;
+  slots = f.slots;
+  asked = f.asked;
+  asks_from = f.asks_from;
+  entries = f.entries;
+  serves_from = f.serves_from;
+}
+
+-- in another net with the same tables nodes did the same
+pub lives_as : (n m : Net) (i : ℕ) (l : Life) → is_active m i ≡ is_active n i → m.sends_until ≡ n.sends_until → m.tickets ≡ n.tickets → m.entries ≡ n.entries
+    → m.far ≡ n.far → LifeFits n i l → LifeFits m i l
+lives_as n m i l active sends tickets entries far h = record {
+  active = λ off. active ∙ h.active off;
+  sends = ap (λ (f : ℕ → ℕ). f i) sends ∙ h.sends;
+  none = λ off. let old : HasNothing n i = h.none off in record {
+    tickets = λ k is. ap (λ (f : Key → Option ClientTransaction). f k) tickets ∙ old.tickets k is;
+    far_tickets = λ k is. ap (λ (f : Strangers). f.tickets k) far ∙ old.far_tickets k is;
+    entries = λ k is. ap (λ (f : Key → Option ServerTransaction). f k) entries ∙ old.entries k is;
+    far_entries = λ k is. ap (λ (f : Strangers). f.entries k) far ∙ old.far_entries k is;
+  };
+}
 
 -- entries are alike while they are live
 abbrev pub EntryFits : (now : ℕ) → (a b : Option ServerTransaction) → Type 0
@@ -170,6 +213,8 @@ module _ (links : ℕ → Option Octets) (apart : (i j : ℕ) (l : Octets) → l
     pub short : IsShort p.copy.apdu
 
   pub record Bridge (W : ℕ) (x : Rules) (set : Setting) (w : World) (n : Net) : Type 0 where
+    pub lives : (i : ℕ) → LifeFits n i (w.lives i)
+    pub idle : AreIdle w.nodes w.lives
     pub now : n.now ≡ w.time.now
     pub pace : n.pace ≡ w.time.pace
     pub here : (i : ℕ) → n.client_clocks i ≡ w.time.clocks i

@@ -29,9 +29,9 @@ use Rattle.bac_world.specs.Node.{Node, Outcome, IsDropped, with_change}
 use Rattle.bac_world.specs.ReusingLogs.{IsOnceSo, Reuses}
 use Rattle.bac_world.specs.ReusingWorlds.{ActsSo, DeliversIfSo, DeliversSo, HearsSo, WorldRunSo, WorldStepSo}
 use Rattle.bac_world.specs.Once.{Fact, Stores, IsOnce, MayChange, with_changed}
-use Rattle.bac_world.specs.World.{World, Time, passes, Event, Copy, Note, link_at, stores_of, newest, later, peer_at, IsOfNone, IsChanged, WorldRun, IsFresh, IsBounded}
+use Rattle.bac_world.specs.World.{World, IsFreshNode, Life, Time, passes, Event, Copy, Note, link_at, stores_of, newest, later, peer_at, IsOfNone, IsChanged, WorldRun, IsFresh, IsBounded}
 use Rattle.bac_world.specs.Laws.{IsMeaningless}
-use Rattle.bac_world.specs.World.Event.{Ask, AskAway, Deliver, Noise, Stray, Tick, Advance, Change, Restart}
+use Rattle.bac_world.specs.World.Event.{Ask, AskAway, Deliver, Noise, Stray, Tick, Advance, Change, Restart, Begin, BeginAgain}
 use Rattle.bac_transaction.proofs.KeyedSlots.{EachSlot}
 use Rattle.bac_protocol.specs.World.{is_lost}
 use Rattle.bac_world.specs.World.{told}
@@ -42,7 +42,7 @@ use Rattle.bac_world.proofs.Machines.{passed, changes, starts, client_later, ser
 use Rattle.bac_world.proofs.Pairs.{IsPaired, pairwise_get}
 use Rattle.bac_world.proofs.Logs.{FactMeans}
 use Rattle.bac_world.proofs.Bridge.{IsKnown, IsStranger, NodeFits, IsCopyOf, IsBetween, IsGone, TicketFits, EntryFits, AwayNoted, key_of, slot_key, stranger_key, out_key}
-use Rattle.bac_world.proofs.Bridge.{framed_means, later_alike}
+use Rattle.bac_world.proofs.Bridge.{AreIdle, LifeFits, changed_fresh, lives_as, framed_means, later_alike}
 use Rattle.bac_world.proofs.Steps.{Over, Next, acts_quiet, each_with, linked_with}
 use Rattle.bac_world.proofs.AsEver.{once_as, once_ever, run_as}
 use Rattle.bac_world.proofs.Heard.{IsHeardIn, IsHeardInBy, heard_in}
@@ -56,7 +56,8 @@ use Rattle.bac_world.proofs.StrangersApart.{spaced, served_as}
 use Rattle.bac_world.proofs.Numbers.{number}
 use Rattle.bac_world.proofs.StrangersAsked.{asks_away_over}
 use Rattle.bac_world.proofs.Ticking.{tick_over}
-use Rattle.bac_world.proofs.Restarting.{restarted_next}
+use Rattle.bac_world.proofs.Restarting.{restarted_next, begun_again_next}
+use Rattle.bac_world.proofs.Beginning.{begun_next}
 
 module _ (links : ℕ → Option Octets) (apart : (i j : ℕ) (l : Octets) → links i ≡ Some l → links j ≡ Some l → i ≡ j) (W : ℕ) (x : Rules)
     (set : Setting) (bound : claims.IsBounded W x) (readable : x.readable ≡ reads_reply) where
@@ -171,6 +172,8 @@ module _ (links : ℕ → Option Octets) (apart : (i j : ℕ) (l : Octets) → l
     pace = h.pace;
     here = λ i. λ k. goes_on (h.pace k) by (own i) (h.here i k);
     there = λ i. λ k. goes_on (h.pace k) by (own i) (h.there i k);
+    lives = λ i. lives_as n (machine.passes n by own own) i (w.lives i) refl refl refl refl refl (h.lives i);
+    idle = h.idle;
     asks = h.asks;
     linked = h.linked;
     nodes = λ i a at. let f = h.nodes i a at in record {
@@ -230,6 +233,11 @@ module _ (links : ℕ → Option Octets) (apart : (i j : ℕ) (l : Octets) → l
       pace = h.pace ∙ sym (ap (λ (t : Time). t.pace) s.time);
       here = λ j. h.here j ∙ sym (ap (λ (t : Time). t.clocks j) s.time);
       there = λ j. h.there j ∙ sym (ap (λ (t : Time). t.clocks j) s.time);
+      lives = λ j. subst (λ (lives : ℕ → Life). LifeFits (notes_change n i []) j (lives j)) (sym s.lives)
+          (lives_as n (notes_change n i []) j (w.lives j) refl refl refl refl refl (h.lives j));
+      idle = subst (λ (lives : ℕ → Life). AreIdle w'.nodes lives) (sym s.lives)
+          (each_with (λ j b. (w.lives j).active ≡ false → IsFreshNode b) w.nodes w'.nodes i (with_change c s.before) s.nodes
+          (λ off. changed_fresh c s.before (h.idle i s.before s.at off)) h.idle);
       asks = h.asks ∙ sym (ap (λ (l : List Note). length l) s.notes);
       linked = linked_with links w.nodes w'.nodes i s.before (with_change c s.before) s.nodes s.at refl h.linked;
       nodes = λ j a at. subst (λ (l : List Note). NodeFits links apart x (here_at n j) (there_at n j) l (notes_change n i []) j a) (sym s.notes)
@@ -292,6 +300,8 @@ module _ (links : ℕ → Option Octets) (apart : (i j : ℕ) (l : Octets) → l
   step_over w w' n h (Advance by own) s = subst (λ (u : World). Next links apart W x set w u) (sym s) (advanced w n h by own)
   step_over w w' n h (Change node change) s = changed_next w w' n h node change s
   step_over w w' n h (Restart node exact store) s = restarted_next links apart W x set bound w w' n h node exact store s
+  step_over w w' n h (Begin node exact) s = begun_next links apart W x set bound w w' n h node exact s
+  step_over w w' n h (BeginAgain node exact first_id store) s = begun_again_next links apart W x set bound w w' n h node exact first_id store s
 
   pub run_over_so : (opening : Stores) (events : List Event) (w w' : World) (n : Net) → Over links apart W x set w n
       → IsOnceSo (reuses_in set) opening w.log (stores_of w.nodes) → WorldRunSo x.overtake (reuses_in set) w events w'
@@ -335,6 +345,12 @@ fresh_over set W overtake w h timely b = record {
   pace = refl;
   here = λ i. sym (h.clocks i);
   there = λ i. sym (h.clocks i);
+  lives = λ i. subst (λ (l : Life). LifeFits (net_start w.time.pace (λ j. (w.time.clocks j).exact)) i l) (sym (h.lives i)) (record {
+    active = λ off. refl;
+    sends = refl;
+    none = λ off. record { tickets = λ k is. refl; far_tickets = λ k is. refl; entries = λ k is. refl; far_entries = λ k is. refl };
+  });
+  idle = λ i a at off. h.nodes i a at;
   asks = sym (ap (λ (l : List Note). length l) h.notes);
   linked = λ i. refl;
   nodes = λ i a at. let f = h.nodes i a at in record {

@@ -26,7 +26,7 @@ use Rattle.bac_world.specs.World.{World, Note, Copy, link_at, AreEnded, ask_of, 
 use Rattle.bac_protocol.specs.World.{client_now, is_lost}
 use Rattle.bac_world.proofs.Bridge.{here_at, there_at}
 use Rattle.bac_protocol.specs.Pace.{Clock}
-use Rattle.bac_world.proofs.Steps.{IsAlike}
+use Rattle.bac_world.proofs.Steps.{IsAlike, set_elsewhere}
 use Rattle.bac_world.proofs.Leads.{Leads}
 use Rattle.bac_world.proofs.Leads.Leads.{Here}
 use Rattle.bac_world.proofs.Machines.{Sound, orderly, asked_of}
@@ -85,7 +85,7 @@ closed_idle gone now notes i number k first u h = go (is_idle u.phase) refl h.he
 module _ (links : ℕ → Option Octets) (apart : (i j : ℕ) (l : Octets) → links i ≡ Some l → links j ≡ Some l → i ≡ j) (W : ℕ) (x : Rules)
     (set : Setting) where
   pub record Reached (w : World) (i : ℕ) (n : Net) (look : PeerKey → Option Client) (all : List Copy) (facts : List Fact) (m : Net) : Type 0 where
-    pub alike : IsAlike m n
+    pub alike : IsAlike i m n
     pub asks : m.asks ≡ n.asks
     pub entries : m.entries ≡ n.entries
     pub far_entries : m.far.entries ≡ n.far.entries
@@ -107,7 +107,7 @@ module _ (links : ℕ → Option Octets) (apart : (i j : ℕ) (l : Octets) → l
   pub reached_none : (w : World) (n : Net) → Over links apart W x set w n → (i : ℕ) (a : Node) → NodeFits links apart x (here_at n i) (there_at n i) w.notes n i a
       → Reached w i n (λ p. value_at same_key p a.clients.slots) w.copies w.log n
   reached_none w n h i a fits = record {
-    alike = record { now = refl; pace = refl; here = refl; there = refl };
+    alike = record { now = refl; pace = refl; here = refl; there = refl; asked = refl; served = λ j ne. refl; sends = refl; tickets = λ k ne. refl; far_tickets = λ k ne. refl; entries = λ k ne. refl; far_entries = λ k ne. refl };
     asks = refl;
     entries = refl;
     far_entries = refl;
@@ -262,7 +262,19 @@ module _ (links : ℕ → Option Octets) (apart : (i j : ℕ) (l : Octets) → l
     reacts ds cs sent copied fs log' finished logged =
         let end = ends (client.ending_of r) fs log' finished logged (orderly W x set bound (client_acts m key t r) sound) in
         record {
-          alike = record { now = h.alike.now; pace = h.alike.pace; here = h.alike.here; there = h.alike.there };
+          alike = record {
+            now = h.alike.now;
+            pace = h.alike.pace;
+            here = h.alike.here;
+            there = h.alike.there;
+            asked = h.alike.asked;
+            served = h.alike.served;
+            sends = h.alike.sends;
+            tickets = λ k ne. set_elsewhere (λ (y : Key). y.client) m.tickets key (Some (client.after (client_now m key) t r)) k ne ∙ h.alike.tickets k ne;
+            far_tickets = h.alike.far_tickets;
+            entries = h.alike.entries;
+            far_entries = h.alike.far_entries;
+          };
           asks = h.asks;
           entries = h.entries;
           far_entries = h.far_entries;
@@ -387,7 +399,19 @@ module _ (links : ℕ → Option Octets) (apart : (i j : ℕ) (l : Octets) → l
     reacts_stranger fs log' finished logged =
         let end = far_ends (client.ending_of r) fs log' finished logged (orderly W x set bound (client_acts_away m fkey t r) far_sound) in
         record {
-          alike = record { now = h.alike.now; pace = h.alike.pace; here = h.alike.here; there = h.alike.there };
+          alike = record {
+            now = h.alike.now;
+            pace = h.alike.pace;
+            here = h.alike.here;
+            there = h.alike.there;
+            asked = h.alike.asked;
+            served = h.alike.served;
+            sends = h.alike.sends;
+            tickets = h.alike.tickets;
+            far_tickets = λ k ne. set_elsewhere (λ (y : Key). y.client) m.far.tickets fkey fmade k ne ∙ h.alike.far_tickets k ne;
+            entries = h.alike.entries;
+            far_entries = h.alike.far_entries;
+          };
           asks = h.asks;
           entries = h.entries;
           far_entries = h.far_entries;

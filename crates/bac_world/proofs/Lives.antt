@@ -1,5 +1,5 @@
 -- A node that does not restart asks and serves from the same moments on; where none restarts, the log has no restart, and none ever waits.
-use Rattle.std.proofs.Common.{◌≡◌, ℕ, ◌⊎◌, Bool, true, false, List, [], ◌∷◌, Option, Some, None, slice_get, refl, sym, ap, subst, inl, inr, ◌∙◌}
+use Rattle.std.proofs.Common.{◌≡◌, ℕ, ◌+◌, min, ◌⊎◌, Bool, true, false, List, [], ◌∷◌, Option, Some, None, slice_get, refl, sym, ap, subst, inl, inr, ◌∙◌}
 use Rattle.bac_apdu.specs.Apdu.{Apdu, Limits}
 use Rattle.bac_npdu.specs.Peers.{PeerView}
 use Rattle.bac_service.specs.Values.{Request, choice_of}
@@ -16,9 +16,14 @@ use Rattle.bac_world.specs.Node.{Node, Outcome, IsHeardBy, NodeOn, NodeTick, Nod
 use Rattle.bac_world.specs.Once.{HasNoRestart}
 use Rattle.bac_world.specs.World.{World, Event, Copy, IsWithNode, Hears, DeliversIf, is_deliverable, peer_at}
 use Rattle.bac_world.specs.World.{WorldStep, WorldRun, RunsOn, MakeNoRestart, MakeRequestsAlone, NeverRestarted, IsFresh}
-use Rattle.bac_world.specs.World.Event.{Ask, AskAway, Deliver, Noise, Stray, Tick, Advance, Change, Restart}
+use Rattle.bac_world.specs.World.Event.{Ask, AskAway, Deliver, Noise, Stray, Tick, Advance, Change, Restart, Begin, BeginAgain}
 use Rattle.bac_world.specs.World.{told}
-use Rattle.bac_world.proofs.Steps.{decide_number}
+use Rattle.bac_protocol.specs.Pace.{most}
+use Rattle.bac_protocol.specs.declared.times.TheConstants.{DEADLINE}
+use Rattle.bac_world.specs.Node.{with_change}
+use Rattle.bac_world.specs.World.{IsFreshNode, Life, with_act}
+use Rattle.bac_world.proofs.Bridge.{AreIdle, changed_fresh}
+use Rattle.bac_world.proofs.Steps.{decide_number, each_with, idle_with}
 use Rattle.bac_world.proofs.Asking.{accepted_is}
 use Rattle.bac_world.proofs.Quiet.{after_step}
 
@@ -124,6 +129,8 @@ step_lived overtake w w' (Advance by own) s i on = subst (λ (u : World). LiveOn
 step_lived overtake w w' (Change node c) s i on =
     with_lived w.nodes w'.nodes node s.before _ s.at s.nodes (record { asks = refl; serves = refl }) i
 step_lived overtake w w' (Restart node exact store) s i on = other_lived w.nodes w'.nodes node _ s.nodes i (λ is. on.0 (sym is))
+step_lived overtake w w' (Begin node exact) s i on = subst (λ (u : World). LiveOn w.nodes u.nodes i) (sym s.is) (same_lived w.nodes i)
+step_lived overtake w w' (BeginAgain node exact first_id store) s i on = other_lived w.nodes w'.nodes node _ s.nodes i (λ is. on.0 (sym is))
 
 -- Runs.
 
@@ -137,6 +144,8 @@ first_on i (Tick node) es h = (tt, h)
 first_on i (Advance by own) es h = (tt, h)
 first_on i (Change node c) es h = (tt, h)
 first_on i (Restart node exact store) es h = ((h.0, tt), h.1)
+first_on i (Begin node exact) es h = (tt, h)
+first_on i (BeginAgain node exact first_id store) es h = ((h.0, tt), h.1)
 
 -- where a node does not restart in a run
 pub run_lived : (overtake : ℕ) (events : List Event) (w w' : World) → WorldRun overtake w events w' → (i : ℕ) → RunsOn i events
@@ -160,6 +169,8 @@ each_on i (Tick node ∷ es) h = each_on i es h
 each_on i (Advance by own ∷ es) h = each_on i es h
 each_on i (Change node c ∷ es) h = each_on i es h
 each_on i (Restart node exact store ∷ es) h = absurd h
+each_on i (Begin node exact ∷ es) h = each_on i es h
+each_on i (BeginAgain node exact first_id store ∷ es) h = absurd h
 
 -- The log of a run without restarts.
 
@@ -192,6 +203,9 @@ quiet_run overtake (Advance by own ∷ es) w w' run calm none = quiet_run overta
     (quiet_step overtake w run.0 (Advance by own) tt run.1 none)
 quiet_run overtake (Change node c ∷ es) w w' run calm none = quiet_run overtake es run.0 w' run.2 calm (subst HasNoRestart (sym run.1.log) none)
 quiet_run overtake (Restart node exact store ∷ es) w w' run calm none = absurd calm
+quiet_run overtake (Begin node exact ∷ es) w w' run calm none = quiet_run overtake es run.0 w' run.2 calm
+    (quiet_step overtake w run.0 (Begin node exact) tt run.1 none)
+quiet_run overtake (BeginAgain node exact first_id store ∷ es) w w' run calm none = absurd calm
 
 pub no_restart_in_run : (overtake : ℕ) (w w' : World) → IsFresh w → (events : List Event) → MakeNoRestart events → WorldRun overtake w events w'
     → HasNoRestart w'.log × NeverRestarted w'.nodes
@@ -202,3 +216,39 @@ no_restart_in_run overtake w w' fresh events calm run = (
       let first = fresh.nodes i lived.before lived.at in
       (lived.asks ∙ first.asks_from, lived.serves ∙ first.serves_from),
 )
+
+-- Nodes at which nothing happened.
+
+acts_idle : (w w' : World) (i : ℕ) (b : Node) → IsWithNode w.nodes i b w'.nodes → w'.lives ≡ with_act w.lives i → AreIdle w.nodes w.lives
+    → AreIdle w'.nodes w'.lives
+acts_idle w w' i b nodes lives h =
+    idle_with w.nodes w'.nodes w.lives w'.lives i b (record { active = true; sends_until = (w.lives i).sends_until }) nodes lives refl h
+
+same_idle : (w w' : World) → w' ≡ w → AreIdle w.nodes w.lives → AreIdle w'.nodes w'.lives
+same_idle w w' same h = subst (λ (u : World). AreIdle u.nodes u.lives) (sym same) h
+
+delivers_idle : (b : Bool) (w : World) (c : Copy) (w' : World) → DeliversIf b w c w' → AreIdle w.nodes w.lives → AreIdle w'.nodes w'.lives
+delivers_idle true w c w' d h = acts_idle w w' c.to d.hears.after d.hears.acts.nodes d.hears.acts.lives h
+delivers_idle false w c w' same h = same_idle w w' same h
+
+pub step_idle : (overtake : ℕ) (w w' : World) (e : Event) → WorldStep overtake w e w' → AreIdle w.nodes w.lives → AreIdle w'.nodes w'.lives
+step_idle overtake w w' (Ask client server limits r) (inl s) h = idle_with w.nodes w'.nodes w.lives w'.lives client s.after
+    (record { active = true; sends_until = w.time.now + most w.time.pace DEADLINE + 1 }) s.nodes s.lives refl h
+step_idle overtake w w' (Ask client server limits r) (inr s) h = same_idle w w' s.same h
+step_idle overtake w w' (AskAway client peer limits r) (inl s) h = acts_idle w w' client s.after s.nodes s.lives h
+step_idle overtake w w' (AskAway client peer limits r) (inr s) h = same_idle w w' s.same h
+step_idle overtake w w' (Deliver number) s h =
+    delivers_idle (is_deliverable overtake w.time.pace.life w.time.now number w.copies s.copy) w s.copy w' s.goes h
+step_idle overtake w w' (Noise node from octets) (inl s) h = acts_idle w w' node s.hears.after s.hears.acts.nodes s.hears.acts.lives h
+step_idle overtake w w' (Noise node from octets) (inr s) h = same_idle w w' s.same h
+step_idle overtake w w' (Stray node from octets) (inl s) h = acts_idle w w' node s.hears.after s.hears.acts.nodes s.hears.acts.lives h
+step_idle overtake w w' (Stray node from octets) (inr s) h = same_idle w w' s.same h
+step_idle overtake w w' (Tick node) s h = acts_idle w w' node s.after s.acts.nodes s.acts.lives h
+step_idle overtake w w' (Advance by own) s h = subst (λ (u : World). AreIdle u.nodes u.lives) (sym s) h
+step_idle overtake w w' (Change node c) s h = subst (λ (lives : ℕ → Life). AreIdle w'.nodes lives) (sym s.lives)
+    (each_with (λ j b. (w.lives j).active ≡ false → IsFreshNode b) w.nodes w'.nodes node (with_change c s.before) s.nodes
+    (λ off. changed_fresh c s.before (h node s.before s.at off)) h)
+step_idle overtake w w' (Restart node exact store) s h = idle_with w.nodes w'.nodes w.lives w'.lives node _
+    (record { active = true; sends_until = min (w.lives node).sends_until (w.time.now + 1) }) s.nodes s.lives refl h
+step_idle overtake w w' (Begin node exact) s h = subst (λ (u : World). AreIdle u.nodes u.lives) (sym s.is) h
+step_idle overtake w w' (BeginAgain node exact first_id store) s h = acts_idle w w' node _ s.nodes s.lives h

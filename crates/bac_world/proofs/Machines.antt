@@ -1,6 +1,6 @@
 -- Nets of machines that moves lead to, in either setting: what is known of them, and each move by itself.
 use Rattle.std.proofs.Common.{◌≡◌, ℕ, ◌-◌, ◌≤◌, ◌<◌, Bool, true, false, ◌&&◌, List, [], ◌∷◌, Option, Some, None, slice_get, nat_le}
-use Rattle.std.proofs.Common.{refl, ap, subst, inl, ◌∙◌, arith, if◌then◌else◌}
+use Rattle.std.proofs.Common.{refl, sym, ap, subst, inl, ◌∙◌, arith, if◌then◌else◌}
 use Rattle.std.proofs.lemmas.Bool.Decides.{nat_tests}
 use Rattle.bac_protocol.specs.Pace.{Pace, IsTimely, goes_on}
 use Rattle.bac_protocol.specs.World.{client_now, server_now, passes}
@@ -17,7 +17,7 @@ use Rattle.bac_protocol.specs.Service.{Outcome}
 use Rattle.bac_protocol.specs.Log.Fact.{Asked, Performed, Ended, Changed, Restarted, Served, AskedAway, EndedAway}
 use Rattle.bac_protocol.specs.Transaction.{Key, Rules, client_context, server_context}
 use Rattle.bac_protocol.specs.World.{Net, Post, later, client_acts, server_acts, asked_at, notes_change, is_id_held, is_room, is_deliverable, net_start}
-use Rattle.bac_protocol.specs.World.{client_restarted, server_restarted, server_acts_away, client_acts_away, asked_away_at, is_id_held_away}
+use Rattle.bac_protocol.specs.World.{is_active, is_quiet, begun, begun_again, client_restarted, server_restarted, server_acts_away, client_acts_away, asked_away_at, is_id_held_away}
 use Rattle.bac_apdu.specs.Apdu.{Apdu}
 use Rattle.bac_protocol.specs.Claims.{IsBounded, AreServedApart, AreSpaced}
 use Rattle.bac_protocol.specs.Own.{IsOwnEntry}
@@ -27,7 +27,9 @@ use Rattle.bac_protocol.specs.Moves.Move.{Asks, Arrives, TicksTicket, TicksEntry
 use Rattle.bac_protocol.specs.Moves.Move.{TicksTicketAway, TicksEntryAway}
 use Rattle.bac_protocol.specs.Moves.{IsReached as ever}
 use Rattle.bac_protocol.proofs.Nets.{sound_at}
-use Rattle.bac_protocol.proofs.SingleMoves.{in_order, reached_net, reached_calm}
+use Rattle.bac_protocol.proofs.SingleMoves.{in_order, reached_net, reached_calm, reached_stands}
+use Rattle.bac_protocol.proofs.Standing.{Stands}
+use Rattle.bac_reuse.proofs.Followed.{reached_follows}
 use Rattle.bac_transaction.specs.Reuse.{is_read}
 use Rattle.bac_reuse.specs.Moves.{IsInOrderSo, IsOrderlySo, IsReachedSo, AreSpacedSo, arrived_so, moved_so, taken_by_server_so}
 use Rattle.bac_reuse.specs.Moves.{IsReachedSo as again}
@@ -303,6 +305,30 @@ module _ (W : ℕ) (x : Rules) (set : Setting) (bound : IsBounded W x) where
   pub restarts : (n : Net) (node exact : ℕ) → Sound x set n → Sound x set (server_restarted (client_restarted n node exact) node exact None)
   restarts n node exact s =
       unheard x set (client_restarted n node exact) (unheard x set n s (RestartsClient node exact) tt) (RestartsServer node exact None) tt
+
+  -- a node that did nothing begins
+  pub begins : (n : Net) (node exact : ℕ) → is_active n node ≡ false → Sound x set n → Sound x set (begun n node exact)
+  begins n node exact off s = subst (λ (m : Net). Sound x set m) (ap (λ b. if b then n else begun n node exact) off) (unheard x set n s (Begins node exact) tt)
+
+  -- another client begins where one was, and its server restarts
+  pub begins_again : (n : Net) (node exact : ℕ) → is_quiet n node ≡ true → Sound x set n → Sound x set (server_restarted (begun_again n node exact) node exact None)
+  begins_again n node exact quiet s = unheard x set (begun_again n node exact)
+      (subst (λ (m : Net). Sound x set m) (ap (λ b. if b then begun_again n node exact else n) quiet) (unheard x set n s (BeginsAgain node exact) tt))
+      (RestartsServer node exact None) tt
+
+  -- a client sends for each of its asks later than it was made
+  pub sent_before : (n : Net) → Sound x set n → (key : Key) (t : ClientTransaction) → n.tickets key ≡ Some t → n.made key < n.sends_until key.client
+  sent_before n s key t is = sent_in set n s key t is
+    where
+      sent_by : (m : Net) → Stands W m → (key : Key) (t : ClientTransaction) → m.tickets key ≡ Some t → m.made key < m.sends_until key.client
+      sent_by m stands key t is = let by = stands.sends.each key t is in let first = by.made_until in let soon = by.soon in omega arith
+
+      sent_in : (y : Setting) (m : Net) → Sound x y m → (key : Key) (t : ClientTransaction) → m.tickets key ≡ Some t → m.made key < m.sends_until key.client
+      sent_in None m s key t is = sent_by m (reached_stands W x bound s.0 s.2 s.1 m s.3) key t is
+      sent_in (Some u) m s key t is =
+          let f = reached_follows W x bound (reusing_in (Some u)) s.0 s.2 s.1 m s.3 in
+          subst (λ (y : Net). y.made key < y.sends_until key.client) (sym f.4)
+          (sent_by f.0 f.2 key t (subst (λ (y : Net). y.tickets key ≡ Some t) f.4 is))
 
 pub starts : (x : Rules) (set : Setting) (pace : Pace) → IsTimely pace → (clocks : ℕ → ℕ) → Sound x set (net_start pace clocks)
 starts x None pace timely clocks = (pace, clocks, timely, ever.Still)

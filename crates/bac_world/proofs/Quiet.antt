@@ -9,7 +9,7 @@ use Rattle.bac_world.specs.Once.{Fact, HasRequestsAlone}
 use Rattle.bac_world.specs.Once.Fact.{Asked, Performed, Ended, Served, AskedAway, EndedAway}
 use Rattle.bac_world.specs.Services as service
 use Rattle.bac_world.specs.World.{World, Event, Copy, Note, Acts, AreEnded, ending_fact, is_away, AreLogged, DeliversIf, WorldStep, WorldRun, MakeRequestsAlone, is_deliverable}
-use Rattle.bac_world.specs.World.Event.{Ask, AskAway, Deliver, Noise, Stray, Tick, Advance, Change, Restart}
+use Rattle.bac_world.specs.World.Event.{Ask, AskAway, Deliver, Noise, Stray, Tick, Advance, Change, Restart, Begin, BeginAgain}
 
 -- what stays true so
 pub record IsKept (P : List Fact → Type 0) : Type 0 where
@@ -60,6 +60,8 @@ module _ (P : List Fact → Type 0) (kept : IsKept P) where
   after_step overtake w w' (Advance by own) alone s p = subst (λ (u : World). P u.log) (sym s) p
   after_step overtake w w' (Change node c) alone s p = absurd alone
   after_step overtake w w' (Restart node exact store) alone s p = absurd alone
+  after_step overtake w w' (Begin node exact) alone s p = subst (λ (u : World). P u.log) (sym s.is) p
+  after_step overtake w w' (BeginAgain node exact first_id store) alone s p = absurd alone
 
 -- The log of a run without changes and restarts.
 
@@ -84,6 +86,8 @@ first_alone (Tick node) es alone = (tt, alone)
 first_alone (Advance by own) es alone = (tt, alone)
 first_alone (Change node c) es alone = absurd alone
 first_alone (Restart node exact store) es alone = absurd alone
+first_alone (Begin node exact) es alone = (tt, alone)
+first_alone (BeginAgain node exact first_id store) es alone = absurd alone
 
 pub alone_after_run : (overtake : ℕ) (events : List Event) (w w' : World) → MakeRequestsAlone events → WorldRun overtake w events w'
     → HasRequestsAlone w.log → HasRequestsAlone w'.log

@@ -24,7 +24,7 @@ use Rattle.bac_transaction.proofs.KeyedSlots.{EachSlot, slot}
 use Rattle.bac_protocol.specs.World.{server_now}
 use Rattle.bac_world.proofs.Bridge.{here_at, there_at}
 use Rattle.bac_protocol.specs.Pace.{Clock}
-use Rattle.bac_world.proofs.Steps.{IsAlike}
+use Rattle.bac_world.proofs.Steps.{IsAlike, served_elsewhere, set_elsewhere}
 use Rattle.bac_world.proofs.Changes.{look, Change, look_first, look_next, look_here, look_same, change_rest}
 use Rattle.bac_world.proofs.Leads.{Leads}
 use Rattle.bac_world.proofs.Leads.Leads.{TicksEntry, TicksEntryAway}
@@ -50,7 +50,7 @@ module _ (links : ℕ → Option Octets) (apart : (i j : ℕ) (l : Octets) → l
     (bound : IsBounded W x) (w : World) (n k : Net) (linked : (j : ℕ) → link_at w.nodes j ≡ links j) (i : ℕ) (li : Octets) (from : links i ≡ Some li) where
   -- what the entries of a node and the net have in common, while some have gone on since the net was k
   pub record Served (found : PeerKey → Option ServerTransaction) (every : List Copy) (m : Net) : Type 0 where
-    pub alike : IsAlike m n
+    pub alike : IsAlike i m n
     pub made : m.made ≡ k.made
     pub restarted : m.restarted ≡ k.restarted
     pub asks : m.asks ≡ k.asks
@@ -140,7 +140,19 @@ module _ (links : ℕ → Option Octets) (apart : (i j : ℕ) (l : Octets) → l
         goes_on : (ds : List Datagram) (cs : List Copy) → Pairwise IsSent (to_all (peer_at l) did.sends) ds → Pairwise (IsCopied w.nodes n.now i) ds cs
             → Served (look ServerTransaction tick all os) (copies ++ cs) (server_acts m key does)
         goes_on ds cs sent copied = record {
-          alike = record { now = r.alike.now; pace = r.alike.pace; here = r.alike.here; there = r.alike.there };
+          alike = record {
+            now = r.alike.now;
+            pace = r.alike.pace;
+            here = r.alike.here;
+            there = r.alike.there;
+            asked = r.alike.asked;
+            served = λ j ne. served_elsewhere i m.served j ne ∙ r.alike.served j ne;
+            sends = r.alike.sends;
+            tickets = r.alike.tickets;
+            far_tickets = r.alike.far_tickets;
+            entries = λ k ne. set_elsewhere (λ (y : Key). y.server) m.entries key does.entry k ne ∙ r.alike.entries k ne;
+            far_entries = r.alike.far_entries;
+          };
           made = r.made;
           restarted = r.restarted;
           asks = r.asks;
@@ -191,7 +203,19 @@ module _ (links : ℕ → Option Octets) (apart : (i j : ℕ) (l : Octets) → l
 
           alike : Served (look ServerTransaction tick all os) copies m
           alike = record {
-            alike = record { now = r.alike.now; pace = r.alike.pace; here = r.alike.here; there = r.alike.there };
+            alike = record {
+              now = r.alike.now;
+              pace = r.alike.pace;
+              here = r.alike.here;
+              there = r.alike.there;
+              asked = r.alike.asked;
+              served = r.alike.served;
+              sends = r.alike.sends;
+              tickets = r.alike.tickets;
+              far_tickets = r.alike.far_tickets;
+              entries = r.alike.entries;
+              far_entries = r.alike.far_entries;
+            };
             made = r.made;
             restarted = r.restarted;
             asks = r.asks;
@@ -263,7 +287,19 @@ module _ (links : ℕ → Option Octets) (apart : (i j : ℕ) (l : Octets) → l
 
         stranger_goes_on : Served (look ServerTransaction tick all os) copies (server_acts_away m far_key stranger_does)
         stranger_goes_on = record {
-          alike = record { now = r.alike.now; pace = r.alike.pace; here = r.alike.here; there = r.alike.there };
+          alike = record {
+            now = r.alike.now;
+            pace = r.alike.pace;
+            here = r.alike.here;
+            there = r.alike.there;
+            asked = r.alike.asked;
+            served = λ j ne. served_elsewhere i m.served j ne ∙ r.alike.served j ne;
+            sends = r.alike.sends;
+            tickets = r.alike.tickets;
+            far_tickets = r.alike.far_tickets;
+            entries = r.alike.entries;
+            far_entries = λ k ne. set_elsewhere (λ (y : Key). y.server) m.far.entries far_key stranger_does.entry k ne ∙ r.alike.far_entries k ne;
+          };
           made = r.made;
           restarted = r.restarted;
           asks = r.asks;
@@ -307,7 +343,19 @@ module _ (links : ℕ → Option Octets) (apart : (i j : ℕ) (l : Octets) → l
 
           alike : Served (look ServerTransaction tick all os) copies m
           alike = record {
-            alike = record { now = r.alike.now; pace = r.alike.pace; here = r.alike.here; there = r.alike.there };
+            alike = record {
+              now = r.alike.now;
+              pace = r.alike.pace;
+              here = r.alike.here;
+              there = r.alike.there;
+              asked = r.alike.asked;
+              served = r.alike.served;
+              sends = r.alike.sends;
+              tickets = r.alike.tickets;
+              far_tickets = r.alike.far_tickets;
+              entries = r.alike.entries;
+              far_entries = r.alike.far_entries;
+            };
             made = r.made;
             restarted = r.restarted;
             asks = r.asks;

@@ -46,7 +46,7 @@ use Rattle.bac_world.proofs.Settings.{Setting, reuses_in, reusing_in, end_heard,
 use Rattle.bac_world.proofs.Pairs.{pairwise_join}
 use Rattle.bac_world.proofs.Logs.{FactMeans, WasAskedAs, asked_as, unperformed}
 use Rattle.bac_world.proofs.Bridge.{NodeFits, ServersFit, IsKnown, IsStranger, IsCopyOf, IsWay, EntryFits, key_of, slot_key, stranger_key, copies_of, copied_to}
-use Rattle.bac_world.proofs.Steps.{Over, Fits, Goes, acts_over, once_same, stores_same}
+use Rattle.bac_world.proofs.Steps.{Over, Fits, Goes, served_elsewhere, set_elsewhere, acts_over, once_same, stores_same}
 use Rattle.bac_transaction.proofs.Entries.{entry_here, entry_there, entry_distinct, entry_each}
 use Rattle.bac_world.proofs.Reused.{AreLeft, heard_left, heard_none, hears_own, hears_same}
 
@@ -385,7 +385,19 @@ module _ (links : ℕ → Option Octets) (apart : (i j : ℕ) (l : Octets) → l
             (orderly W x set bound m sound)
 
         over : Over links apart W x set w' m
-        over = acts_over links apart W x set reuse w w' n m h key.server a b o node' acts' (record { now = refl; pace = refl; here = refl; there = refl }) refl h.noted h.away (ap (λ (d : Node). d.link) turn'.node)
+        over = acts_over links apart W x set reuse w w' n m h key.server a b o node' acts' (record {
+          now = refl;
+          pace = refl;
+          here = refl;
+          there = refl;
+          asked = refl;
+          served = served_elsewhere key.server n.served;
+          sends = refl;
+          tickets = λ k ne. refl;
+          far_tickets = λ k ne. refl;
+          entries = set_elsewhere (λ (k : Key). k.server) n.entries key u.entry;
+          far_entries = λ k ne. refl;
+        }) refl h.noted h.away (ap (λ (d : Node). d.link) turn'.node)
             (subst (λ (d : Node). Fits links apart W x set w n m key.server d) (sym turn'.node) made_fits)
             (λ j d ne f. others_fit (here_at n j) (there_at n j) w.notes n key u j d ne f)
             (pairwise_join (IsCopyOf links apart) n.posts (map (post_of key n.now) u.sends) w.copies acts'.sent h.posts copies)

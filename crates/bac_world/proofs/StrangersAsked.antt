@@ -24,12 +24,13 @@ use Rattle.bac_transaction.proofs.KeyedSlots.{each_at, each_so, each_passing, ea
 use Rattle.bac_world.specs.Node.{Node}
 use Rattle.bac_world.specs.Once.{Fact, Stores}
 use Rattle.bac_world.specs.ReusingLogs.{IsOnceSo}
+use Rattle.std.proofs.lemmas.Bool.Decides.{nat_tests}
 use Rattle.bac_protocol.specs.Pace.{Clock}
-use Rattle.bac_world.specs.World.{World, Time, told, Note, Copy, stores_of, newest, ask_of, is_away, IsAskedAway}
+use Rattle.bac_world.specs.World.{World, Life, Time, told, Note, Copy, stores_of, newest, ask_of, is_away, IsAskedAway}
 use Rattle.bac_world.proofs.Machines.{Sound, counted, asked_away, away_below}
 use Rattle.bac_world.proofs.Logs.{FactMeans, asks_counted}
-use Rattle.bac_world.proofs.Bridge.{here_at, there_at, NodeFits, ClientsFit, IsKnown, IsStranger, IsCopyOf, TicketFits, AwayNoted, key_of, slot_key, out_key, away_more}
-use Rattle.bac_world.proofs.Steps.{Over, Fits, Goes, linked_with, stores_same, decide_number}
+use Rattle.bac_world.proofs.Bridge.{here_at, there_at, HasNothing, LifeFits, NodeFits, ClientsFit, IsKnown, IsStranger, IsCopyOf, TicketFits, AwayNoted, key_of, slot_key, out_key, away_more}
+use Rattle.bac_world.proofs.Steps.{Over, Fits, Goes, idle_with, linked_with, set_elsewhere, stores_same, decide_number}
 use Rattle.bac_protocol.proofs.Aside.{IsAside, asked_aside}
 use Rattle.bac_world.proofs.Hearing.{out_one}
 use Rattle.bac_world.proofs.Asking.{IsAccepted, accepted_is, holds, free_ticket, free_kept, fits_kept, fits_noted, differ, and_false, equal_self}
@@ -234,12 +235,34 @@ module _ (links : ℕ → Option Octets) (apart : (i j : ℕ) (l : Octets) → l
     asks_is = ap (λ (k : ℕ). k + 1) h.asks ∙ (let e : length w.notes + 1 ≡ length (note' ∷ w.notes) = omega arith in e)
         ∙ sym (ap (λ (l : List Note). length l) notes_is)
 
+    asker_lives : (j : ℕ) (b : Bool) → nat_eq j i ≡ b
+        → LifeFits after j (if b then record { active = true; sends_until = (w.lives i).sends_until } else w.lives j)
+    asker_lives j true e = record {
+      active = λ off. absurd cc;
+      none = λ off. absurd cc;
+      sends = (h.lives j).sends ∙ ap (λ (k : ℕ). (w.lives k).sends_until) (let same : j ≡ i = grind (arith, nat_tests) in same);
+    }
+    asker_lives j false e = record {
+      active = λ off. ap (λ (b : Bool). (b || n.asked j) || n.served j) e ∙ (h.lives j).active off;
+      none = λ off. let old : HasNothing n j = (h.lives j).none off in record {
+        tickets = old.tickets;
+        far_tickets = λ k is. set_elsewhere (λ (y : Key). y.client) n.far.tickets key (Some (asked_ticket (client_context x key (here_at n i)) ask)) k
+            (ap (λ (c : ℕ). nat_eq c i) is ∙ e) ∙ old.far_tickets k is;
+        entries = old.entries;
+        far_entries = old.far_entries;
+      };
+      sends = (h.lives j).sends;
+    }
+
     over : Over links apart W x set w' after
     over = record {
       now = h.now ∙ sym (ap (λ (t : Time). t.now) step.time);
       pace = h.pace ∙ sym (ap (λ (t : Time). t.pace) step.time);
       here = λ j. h.here j ∙ sym (ap (λ (t : Time). t.clocks j) step.time);
       there = λ j. h.there j ∙ sym (ap (λ (t : Time). t.clocks j) step.time);
+      lives = λ j. subst (λ (lives : ℕ → Life). LifeFits after j (lives j)) (sym step.lives) (asker_lives j (nat_eq j i) refl);
+      idle = idle_with w.nodes w'.nodes w.lives w'.lives i step.after (record { active = true; sends_until = (w.lives i).sends_until })
+          step.nodes step.lives refl h.idle;
       asks = asks_is;
       linked = linked_with links w.nodes w'.nodes i a step.after step.nodes step.at (ap (λ (d : Node). d.link) node_is) h.linked;
       nodes = λ j b at. subst (λ (l : List Note). NodeFits links apart x (here_at n j) (there_at n j) l after j b) (sym notes_is) (nodes j b at (decide_number j i));

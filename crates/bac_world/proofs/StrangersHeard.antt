@@ -51,7 +51,7 @@ use Rattle.std.proofs.Common.{◌-◌, nat_le}
 use Rattle.bac_world.proofs.Pairs.{pairwise_none, append_none}
 use Rattle.bac_world.proofs.Logs.{FactMeans, begun_if}
 use Rattle.bac_world.proofs.Bridge.{here_at, there_at, NodeFits, ServersFit, IsKnown, IsStranger, IsCopyOf, EntryFits, key_of, slot_key, stranger_key, out_key, copied_none}
-use Rattle.bac_world.proofs.Steps.{Over, Fits, Goes, acts_over, acts_quiet, once_same, stores_same}
+use Rattle.bac_world.proofs.Steps.{Over, Fits, Goes, served_elsewhere, set_elsewhere, acts_over, acts_quiet, once_same, stores_same}
 use Rattle.bac_world.proofs.Settings.{Setting, reuses_in, end_heard, hears_at}
 use Rattle.bac_world.proofs.Serving.{Logged, room_is}
 use Rattle.bac_world.proofs.Heard.{IsHeardIn, IsHeardInBy}
@@ -323,7 +323,19 @@ module _ (links : ℕ → Option Octets) (apart : (i j : ℕ) (l : Octets) → l
             (subst (λ (lg : List Fact). AreLoggedSo reuse w.nodes w.notes i b o.performed lg w'.log) between_is acts.logged)
 
         over : Over links apart W x set w' m
-        over = acts_over links apart W x set reuse w w' n m h i a b o node acts (record { now = refl; pace = refl; here = refl; there = refl }) refl h.noted h.away
+        over = acts_over links apart W x set reuse w w' n m h i a b o node acts (record {
+          now = refl;
+          pace = refl;
+          here = refl;
+          there = refl;
+          asked = refl;
+          served = served_elsewhere i n.served;
+          sends = refl;
+          tickets = λ k ne. refl;
+          far_tickets = λ k ne. refl;
+          entries = λ k ne. refl;
+          far_entries = set_elsewhere (λ (k : Key). k.server) n.far.entries key (u reuse).entry;
+        }) refl h.noted h.away
             (ap (λ (d : Node). d.link) turn'.node)
             (subst (λ (d : Node). Fits links apart W x set w n m i d) (sym turn'.node) made_fits)
             (λ j d ne f. others_fit_away (here_at n j) (there_at n j) w.notes n key (u reuse) j d ne f) posts logged.log_means sound

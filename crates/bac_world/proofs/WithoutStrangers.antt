@@ -14,7 +14,7 @@ use Rattle.bac_world.specs.Node.{Node, Outcome, NodeOn, IsHeardBy}
 use Rattle.bac_world.specs.Once.{Fact, HasNoStranger}
 use Rattle.bac_world.specs.World.{World, Event, Copy, Note, Acts, AreEnded, AreLogged, IsOfNone, IsFresh, DeliversIf, WorldStep, WorldRun, MakeNoStray}
 use Rattle.bac_world.specs.World.{ending_fact, is_away, is_deliverable, told}
-use Rattle.bac_world.specs.World.Event.{Ask, AskAway, Deliver, Noise, Stray, Tick, Advance, Change, Restart}
+use Rattle.bac_world.specs.World.Event.{Ask, AskAway, Deliver, Noise, Stray, Tick, Advance, Change, Restart, Begin, BeginAgain}
 
 -- no ask of a stranger is noted
 abbrev AreNear : List Note → Type 0
@@ -101,6 +101,9 @@ after_step overtake w w' (Change node c) calm s alone =
     record { log = subst HasNoStranger (sym s.log) alone.log; notes = subst AreNear (sym s.notes) alone.notes }
 after_step overtake w w' (Restart node exact store) calm s alone =
     record { log = subst HasNoStranger (sym s.log) alone.log; notes = subst AreNear (sym s.notes) alone.notes }
+after_step overtake w w' (Begin node exact) calm s alone = subst IsAlone (sym s.is) (record { log = alone.log; notes = alone.notes })
+after_step overtake w w' (BeginAgain node exact first_id store) calm s alone =
+    record { log = subst HasNoStranger (sym s.log) alone.log; notes = subst AreNear (sym s.notes) alone.notes }
 
 first_calm : (e : Event) (es : List Event) → MakeNoStray (e ∷ es) → MakeNoStray (e ∷ []) × MakeNoStray es
 first_calm (Ask client server limits r) es calm = (tt, calm)
@@ -112,6 +115,8 @@ first_calm (Tick node) es calm = (tt, calm)
 first_calm (Advance by own) es calm = (tt, calm)
 first_calm (Change node c) es calm = (tt, calm)
 first_calm (Restart node exact store) es calm = (tt, calm)
+first_calm (Begin node exact) es calm = (tt, calm)
+first_calm (BeginAgain node exact first_id store) es calm = (tt, calm)
 
 after_run : (overtake : ℕ) (events : List Event) (w w' : World) → MakeNoStray events → WorldRun overtake w events w' → IsAlone w → IsAlone w'
 after_run overtake [] w w' calm run alone = subst IsAlone (sym run) alone

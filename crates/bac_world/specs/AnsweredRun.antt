@@ -8,7 +8,7 @@ use Rattle.bac_protocol.specs.Pace.{one_clock, clock_at}
 use Rattle.bac_world.specs.Node.{Node}
 use Rattle.bac_world.specs.Once.{Fact}
 use Rattle.bac_world.specs.Once.Fact.{Performed, Ended, Served}
-use Rattle.bac_world.specs.World.{World, Time, Event, WorldRun, IsFresh, IsBounded, peer_at}
+use Rattle.bac_world.specs.World.{World, Time, Event, WorldRun, IsFresh, IsBounded, peer_at, untouched}
 use Rattle.bac_world.specs.World.Event.{Ask, Deliver, Stray}
 use Rattle.bac_world.specs.Examples.{REQUEST, REPLY, STORE, ASKED}
 
@@ -37,7 +37,7 @@ abbrev pub TIME : Time
 TIME = record { pace = one_clock; now = 0; clocks = λ i. clock_at one_clock 0 }
 
 abbrev pub OPENING : World
-OPENING = record { nodes = node 0 ∷ node 1 ∷ []; time = TIME; copies = []; log = []; notes = [] }
+OPENING = record { nodes = node 0 ∷ node 1 ∷ []; time = TIME; lives = λ i. untouched; copies = []; log = []; notes = [] }
 
 -- node 0 asks node 1; the request is delivered, and then the answer
 abbrev pub EVENTS : List Event

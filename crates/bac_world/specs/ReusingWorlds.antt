@@ -8,7 +8,7 @@ use Rattle.bac_world.specs.Once.Fact.{Served}
 use Rattle.bac_world.specs.ReusingLogs.{Reuses}
 use Rattle.bac_world.specs.ReusingNodes.{NodeHears}
 use Rattle.bac_world.specs.Services as service
-use Rattle.bac_world.specs.World.{AreCopied, AreEnded, AreLogged, Copy, Event, IsLogged, IsOfNone, IsWithNode, LosesOctets, Note, World, WorldStep}
+use Rattle.bac_world.specs.World.{AreCopied, AreEnded, AreLogged, Copy, Event, IsLogged, IsOfNone, IsWithNode, LosesOctets, Note, World, WorldStep, with_act}
 use Rattle.bac_world.specs.World.{is_deliverable, link_at, told}
 use Rattle.bac_world.specs.World.Event.{Deliver, Noise, Stray}
 
@@ -27,6 +27,7 @@ AreLoggedSo true nodes notes node after (Some p) old new = IsLogged nodes notes 
 pub record ActsSo (reuse : Bool) (old : World) (i : ℕ) (node : Node) (o : Outcome) (new : World) : Type 0 where
   pub nodes : IsWithNode old.nodes i node new.nodes
   pub time : new.time ≡ old.time
+  pub lives : new.lives ≡ with_act old.lives i
   pub notes : new.notes ≡ old.notes
   pub sent : List Copy
   pub copies : new.copies ≡ old.copies ++ sent

@@ -1,6 +1,6 @@
 -- Nodes, with one list of the copies of their datagrams and one log.
 use Rattle.std.specs.Prelude.{◌≡◌, ◌≢◌, ◌⊎◌, ℕ, zero, suc, ◌+◌, ◌-◌, ◌*◌, ◌≤◌, Bool, true, false, ◌&&◌, List, [], ◌∷◌, ◌++◌, length, Option, Some, None}
-use Rattle.std.specs.Prelude.{slice_get, if◌then◌else◌, nat_eq, nat_le, not, is_some}
+use Rattle.std.specs.Prelude.{slice_get, if◌then◌else◌, nat_eq, nat_le, not, is_some, min}
 use Rattle.std.specs.Option.{option_map}
 use Rattle.bac_apdu.specs.Apdu.{Apdu, Limits}
 use Rattle.bac_apdu.specs.Spelling.{SpellsApdu}
@@ -10,7 +10,8 @@ use Rattle.bac_service.specs.Values.{Request}
 use Rattle.bac_store.specs.AtNode as at_node
 use Rattle.bac_store.specs.AtNode.{change_fault}
 use Rattle.bac_store.specs.Stores.{Store}
-use Rattle.bac_protocol.specs.Pace.{Pace, Clock, clock_at, goes_on}
+use Rattle.bac_protocol.specs.declared.times.TheConstants.{DEADLINE, KEEP}
+use Rattle.bac_protocol.specs.Pace.{Pace, Clock, clock_at, goes_on, most}
 use Rattle.bac_protocol.specs.Service.{Octets}
 use Rattle.bac_protocol.specs.Wire.{is_from_client}
 use Rattle.bac_protocol.specs.Own.{invoke_id_of}
@@ -23,7 +24,7 @@ use Rattle.bac_transaction.specs.Sends.{Datagram, Pairwise}
 use Rattle.bac_transaction.specs.Meanings.{EndedView, Ending}
 use Rattle.bac_transaction.specs.Ends.{Accepted}
 use Rattle.bac_world.specs.Services as service
-use Rattle.bac_world.specs.Node.{Node, Outcome, Refusal, NodeOn, NodeTick, NodeAsks, NodeRefuses, with_change, restarted, store_after_restart}
+use Rattle.bac_world.specs.Node.{Node, Outcome, Refusal, NodeOn, NodeTick, NodeAsks, NodeRefuses, with_change, restarted, begun_again, store_after_restart}
 use Rattle.bac_world.specs.Laws.{IsMeaningless}
 use Rattle.bac_world.specs.Once.{Fact, Stores}
 use Rattle.bac_world.specs.Once.Fact.{Asked, Performed, Ended, Changed, Restarted, Served, AskedAway, EndedAway}
@@ -56,9 +57,36 @@ passes t by own = record t { now = t.now + by; clocks = λ i. goes_on t.pace by 
 abbrev pub with_clock : Time → ℕ → (exact : ℕ) → Time
 with_clock t i exact = record t { clocks = λ j. if nat_eq j i then clock_at t.pace exact else t.clocks j }
 
+-- what a node did so far: whether anything happened at it, and from which real moment on its client sends nothing for the asks that it made of nodes; 0 where
+-- it made none
+pub record Life : Type 0 where
+  pub active : Bool
+  pub sends_until : ℕ
+
+-- a node at which nothing happened
+abbrev pub untouched : Life
+untouched = record { active = false; sends_until = 0 }
+
+-- that node's life is another one now
+abbrev pub with_life : (ℕ → Life) → ℕ → Life → ℕ → Life
+with_life lives i life j = if nat_eq j i then life else lives j
+
+-- something happens at a node
+abbrev pub with_act : (ℕ → Life) → ℕ → ℕ → Life
+with_act lives i = with_life lives i (record { active = true; sends_until = (lives i).sends_until })
+
+-- a node asks another one, for which it sends no longer than its deadline lasts
+abbrev pub with_ask : Time → (ℕ → Life) → ℕ → ℕ → Life
+with_ask t lives i = with_life lives i (record { active = true; sends_until = t.now + most t.pace DEADLINE + 1 })
+
+-- a node restarts: what it asked before is over
+abbrev pub with_restart : Time → (ℕ → Life) → ℕ → ℕ → Life
+with_restart t lives i = with_life lives i (record { active = true; sends_until = min (lives i).sends_until (t.now + 1) })
+
 pub record World : Type 0 where
   pub nodes : List Node  -- numbered from 0
   pub time : Time
+  pub lives : ℕ → Life
   pub copies : List Copy  -- oldest first, numbered from 0
   pub log : List Fact  -- newest first
   pub notes : List Note  -- newest first
@@ -195,6 +223,7 @@ AreLogged nodes notes node after (Some p) old new = IsLogged nodes notes node p 
 pub record Acts (old : World) (i : ℕ) (node : Node) (o : Outcome) (new : World) : Type 0 where
   pub nodes : IsWithNode old.nodes i node new.nodes
   pub time : new.time ≡ old.time
+  pub lives : new.lives ≡ with_act old.lives i
   pub notes : new.notes ≡ old.notes
   pub sent : List Copy
   pub copies : new.copies ≡ old.copies ++ sent
@@ -224,6 +253,8 @@ pub data Event : Type 0 where
   Advance : (by : ℕ) (own : ℕ → ℕ) → Event
   Change : (node : ℕ) (change : at_node.Change) → Event
   Restart : (node exact : ℕ) (store : Option Store) → Event
+  Begin : (node exact : ℕ) → Event
+  BeginAgain : (node exact first_id : ℕ) (store : Option Store) → Event
 
 -- an accepted ask: it is noted, and enters the log with the next number
 pub record IsAsked (old : World) (client server : ℕ) (limits : Limits) (r : Request) (new : World) : Type 0 where
@@ -237,6 +268,7 @@ pub record IsAsked (old : World) (client server : ℕ) (limits : Limits) (r : Re
   pub asks : NodeAsks (told old client) (peer_at link) limits r before after accepted sends
   pub nodes : IsWithNode old.nodes client after new.nodes
   pub time : new.time ≡ old.time
+  pub lives : new.lives ≡ with_ask old.time old.lives client
   pub sent : List Copy
   pub copies : new.copies ≡ old.copies ++ sent
   pub copied : Pairwise (IsCopied old.nodes old.time.now client) sends sent
@@ -265,6 +297,7 @@ pub record IsAskedAway (old : World) (client : ℕ) (peer : PeerView) (limits : 
   pub asks : NodeAsks (told old client) peer limits r before after accepted sends
   pub nodes : IsWithNode old.nodes client after new.nodes
   pub time : new.time ≡ old.time
+  pub lives : new.lives ≡ with_act old.lives client
   pub copies : new.copies ≡ old.copies
   pub notes : new.notes
       ≡ record { key = record { client = client; server = 0; invoke_id = accepted.invoke_id }; ticket = accepted.ticket; away = Some peer } ∷ old.notes
@@ -328,6 +361,7 @@ pub record IsChanged (old : World) (i : ℕ) (c : at_node.Change) (new : World) 
   pub may : change_fault before.store c ≡ None
   pub nodes : IsWithNode old.nodes i (with_change c before) new.nodes
   pub time : new.time ≡ old.time
+  pub lives : new.lives ≡ old.lives
   pub copies : new.copies ≡ old.copies
   pub notes : new.notes ≡ old.notes
   pub log : new.log ≡ Changed i c ∷ old.log
@@ -339,6 +373,32 @@ pub record IsRestarted (old : World) (i exact : ℕ) (store : Option Store) (new
   pub at : slice_get old.nodes i ≡ Some before
   pub nodes : IsWithNode old.nodes i (restarted (clock_at old.time.pace exact).shows (store_after_restart before.store store) before) new.nodes
   pub time : new.time ≡ with_clock old.time i exact
+  pub lives : new.lives ≡ with_restart old.time old.lives i
+  pub copies : new.copies ≡ old.copies
+  pub notes : new.notes ≡ old.notes
+  pub log : new.log ≡ Restarted i store ∷ old.log
+
+-- Late starts (own rule of this profile): a node may begin at any moment, and one client after another may begin at one node.
+
+-- a node at which nothing happened begins, with a new clock; nothing else changes
+pub record IsBegun (old : World) (i exact : ℕ) (new : World) : Type 0 where
+  pub node : Node
+  pub at : slice_get old.nodes i ≡ Some node
+  pub first : (old.lives i).active ≡ false
+  pub is : new ≡ record old { time = with_clock old.time i exact }
+
+-- all is over that a node's client sent: no copy of it can arrive, nor any for which a server's entry lives that it began
+abbrev pub is_quiet : World → (node : ℕ) → Bool
+is_quiet w i = nat_le ((w.lives i).sends_until + w.time.pace.life + most w.time.pace KEEP + w.time.pace.life) w.time.now
+
+-- then another program begins at its link: its client may ask at once, its server waits as after a restart, and the restart enters the log
+pub record IsBegunAgain (old : World) (i exact first_id : ℕ) (store : Option Store) (new : World) : Type 0 where
+  pub before : Node
+  pub at : slice_get old.nodes i ≡ Some before
+  pub quiet : is_quiet old i ≡ true
+  pub nodes : IsWithNode old.nodes i (begun_again (clock_at old.time.pace exact).shows first_id (store_after_restart before.store store) before) new.nodes
+  pub time : new.time ≡ with_clock old.time i exact
+  pub lives : new.lives ≡ with_act old.lives i
   pub copies : new.copies ≡ old.copies
   pub notes : new.notes ≡ old.notes
   pub log : new.log ≡ Restarted i store ∷ old.log
@@ -353,28 +413,34 @@ WorldStep overtake old (Tick node) new = Ticks old node new
 WorldStep overtake old (Advance by own) new = new ≡ record old { time = passes old.time by own }
 WorldStep overtake old (Change node change) new = IsChanged old node change new
 WorldStep overtake old (Restart node exact store) new = IsRestarted old node exact store new
+WorldStep overtake old (Begin node exact) new = IsBegun old node exact new
+WorldStep overtake old (BeginAgain node exact first_id store) new = IsBegunAgain old node exact first_id store new
 
 abbrev pub WorldRun : (overtake : ℕ) → World → List Event → World → Type 0
 WorldRun overtake old [] new = new ≡ old
 WorldRun overtake old (e ∷ es) new = (u : World) × WorldStep overtake old e u × WorldRun overtake u es new
 
--- in these events that node does not restart
+-- in these events that node does not restart, nor does another program begin there
 abbrev pub RunsOn : (node : ℕ) → List Event → Type 0
 RunsOn node [] = Unit {0}
 RunsOn node (Restart i exact store ∷ es) = (i ≢ node) × RunsOn node es
+RunsOn node (BeginAgain i exact first_id store ∷ es) = (i ≢ node) × RunsOn node es
 RunsOn node (e ∷ es) = RunsOn node es
 
--- in these events no node restarts
+-- in these events no node restarts, and no program begins where another one was
 abbrev pub MakeNoRestart : List Event → Type 0
 MakeNoRestart [] = Unit {0}
 MakeNoRestart (Restart i exact store ∷ es) = ⊥
+MakeNoRestart (BeginAgain i exact first_id store ∷ es) = ⊥
 MakeNoRestart (e ∷ es) = MakeNoRestart es
 
--- these events are asks, deliveries, noise, ticks and steps of the clock: no node changes its own store, and none restarts; strangers may do what they like
+-- these events are asks, deliveries, noise, ticks, steps of the clock and nodes that begin: no node changes its own store, and none restarts; strangers may do
+-- what they like
 abbrev pub MakeRequestsAlone : List Event → Type 0
 MakeRequestsAlone [] = Unit {0}
 MakeRequestsAlone (Change i change ∷ es) = ⊥
 MakeRequestsAlone (Restart i exact store ∷ es) = ⊥
+MakeRequestsAlone (BeginAgain i exact first_id store ∷ es) = ⊥
 MakeRequestsAlone (e ∷ es) = MakeRequestsAlone es
 
 -- in these events there are no strangers: none is asked, and none sends anything
@@ -402,6 +468,7 @@ pub record IsFreshNode (n : Node) : Type 0 where
 pub record IsFresh (w : World) : Type 0 where
   pub nodes : (i : ℕ) (n : Node) → slice_get w.nodes i ≡ Some n → IsFreshNode n
   pub apart : (i j : ℕ) (l : Octets) → link_at w.nodes i ≡ Some l → link_at w.nodes j ≡ Some l → i ≡ j
+  pub lives : (i : ℕ) → w.lives i ≡ untouched
   pub now : w.time.now ≡ 0
   pub clocks : (i : ℕ) → w.time.clocks i ≡ clock_at w.time.pace (w.time.clocks i).exact
   pub copies : w.copies ≡ []

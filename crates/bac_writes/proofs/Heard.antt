@@ -26,7 +26,7 @@ use Rattle.bac_world.specs.Once.{Fact as fact}
 use Rattle.bac_world.specs.ReusingExamples.{WRITE}
 use Rattle.bac_world.specs.ReusingWorlds.{HearsSo}
 use Rattle.bac_world.specs.Services.{Performed}
-use Rattle.bac_world.specs.World.{World, link_at, peer_at}
+use Rattle.bac_world.specs.World.{World, link_at, peer_at, with_act}
 use Rattle.bac_world.proofs.Answered.{answered_run, datagram, means, sent}
 use Rattle.bac_writes.specs.Examples.{SERVICE_DATA, STRANGER, WriteOfStranger}
 
@@ -108,7 +108,15 @@ turn = record {
 }
 
 abbrev LAST : World
-LAST = record { nodes = node 0 ∷ AFTER ∷ []; time = TIME; copies = []; log = fact.Served (peer_at (link 2)) 1 0 0 WRITE UNKNOWN_OBJECT ∷ []; notes = [] }
+LAST =
+    record {
+      nodes = node 0 ∷ AFTER ∷ [];
+      time = TIME;
+      lives = with_act OPENING.lives 1;
+      copies = [];
+      log = fact.Served (peer_at (link 2)) 1 0 0 WRITE UNKNOWN_OBJECT ∷ [];
+      notes = [];
+    }
 
 abbrev hears : HearsSo true OPENING 1 (link 2) (datagram (link 1) ASK).octets LAST
 hears = record {
@@ -126,6 +134,7 @@ hears = record {
   acts = record {
     nodes = record { here = refl; others = others AFTER (node 1) };
     time = refl;
+    lives = refl;
     notes = refl;
     sent = [];
     copies = refl;

@@ -1,5 +1,6 @@
 -- Runs of a world after a write was performed.
-use Rattle.std.proofs.Common.{◌≡◌, ℕ, ◌+◌, ◌≤◌, Bool, true, false, List, [], ◌∷◌, ◌⊎◌, Option, Some, None, slice_get, refl, sym, ap, subst, inl, inr, ◌∙◌, arith}
+use Rattle.std.proofs.Common.{◌≡◌, ℕ, ◌+◌, ◌≤◌, Bool, true, false, List, [], ◌∷◌, ◌⊎◌, Option, Some, None, slice_get, nat_eq, if◌then◌else◌, refl, sym, ap, subst, inl, inr, ◌∙◌, arith}
+use Rattle.std.proofs.lemmas.Bool.Decides.{nat_tests}
 use Rattle.bac_apdu.specs.Apdu.{Apdu, Limits, Segment}
 use Rattle.bac_apdu.specs.Apdu.Apdu.{ConfirmedRequest}
 use Rattle.bac_apdu.specs.Spelling.{SpellsApdu}
@@ -25,8 +26,8 @@ use Rattle.bac_world.specs.Once.{Fact, Stores}
 use Rattle.bac_world.specs.ReusingLogs.{IsOnceSo, Reuses}
 use Rattle.bac_world.specs.ReusingWorlds.{WorldRunSo, WorldStepSo}
 use Rattle.bac_world.specs.Services.{ArePerformed, Performed as performed}
-use Rattle.bac_world.specs.World.{Event, IsBounded, IsFresh, RunsOn, World, link_at, stores_of, told}
-use Rattle.bac_world.specs.World.Event.{Advance, Ask, AskAway, Change, Deliver, Noise, Restart, Stray, Tick}
+use Rattle.bac_world.specs.World.{Event, IsBounded, IsFresh, Life, RunsOn, World, link_at, stores_of, told}
+use Rattle.bac_world.specs.World.Event.{Advance, Ask, AskAway, Begin, BeginAgain, Change, Deliver, Noise, Restart, Stray, Tick}
 use Rattle.bac_world.proofs.Headline.{fresh_over, rules_bounded, rules_of, run_over_so}
 use Rattle.bac_world.proofs.Heard.{IsHeardIn, IsHeardInBy, heard_in}
 use Rattle.bac_world.proofs.Settings.{end_heard}
@@ -36,7 +37,7 @@ use Rattle.bac_writes.proofs.Gathering.{NoneWholeIn}
 use Rattle.bac_writes.proofs.Kept.{heard, performs_there}
 use Rattle.bac_writes.proofs.Logs.{adds_none, adds_then}
 use Rattle.bac_writes.proofs.Machine.{IsBegunBy, Performs, hears_performs}
-use Rattle.bac_writes.proofs.Steps.{KeptAt, step_later, step_went}
+use Rattle.bac_writes.proofs.Steps.{KeptAt, step_active, step_later, step_went}
 use Rattle.bac_writes.proofs.Tables.{NoneWhole, fresh_none_whole, none_whole_at, run_none_whole}
 
 first_on : (i : ℕ) (e : Event) (es : List Event) → RunsOn i (e ∷ es) → RunsOn i (e ∷ []) × RunsOn i es
@@ -49,6 +50,8 @@ first_on i (Tick node) es h = (tt, h)
 first_on i (Advance by own) es h = (tt, h)
 first_on i (Change node c) es h = (tt, h)
 first_on i (Restart node exact store) es h = ((h.0, tt), h.1)
+first_on i (Begin node exact) es h = (tt, h)
+first_on i (BeginAgain node exact first_id store) es h = ((h.0, tt), h.1)
 
 first_no : (node : ℕ) (key : PeerKey) (choice : ℕ) (request : KeptOctets) (e : Event) (es : List Event) → HearsNoOther node key choice request (e ∷ es)
     → HearsNoOther node key choice request (e ∷ []) × HearsNoOther node key choice request es
@@ -61,6 +64,8 @@ first_no node key choice request (Tick i) es h = (tt, h)
 first_no node key choice request (Advance by own) es h = (tt, h)
 first_no node key choice request (Change i c) es h = (tt, h)
 first_no node key choice request (Restart i exact store) es h = (tt, h)
+first_no node key choice request (Begin i exact) es h = (tt, h)
+first_no node key choice request (BeginAgain i exact first_id store) es h = (tt, h)
 
 module _ (links : ℕ → Option Octets) (apart : (i j : ℕ) (l : Octets) → links i ≡ Some l → links j ≡ Some l → i ≡ j) (W : ℕ) (x : Rules)
     (bound : IsBoundedNet W x) (readable : x.readable ≡ reads_reply) (u : Reuses) (opening : Stores) where
@@ -79,26 +84,27 @@ module _ (links : ℕ → Option Octets) (apart : (i j : ℕ) (l : Octets) → l
   one_event e v v' r s = reaches (e ∷ []) v v' r (v', s, refl)
 
   module _ (begin choice : ℕ) (request : KeptOctets) (key : PeerKey) (node : ℕ) (stranger : (i : ℕ) → links i ≡ Some key.peer.link → ⊥) where
-    run_later : (es : List Event) (v last : World) → Reached v → WorldRunSo x.overtake u v es last → RunsOn node es → told v node ≤ told last node
-    run_later [] v last r run on = subst (λ (y : World). told v node ≤ told y node) (sym run) (omega arith)
-    run_later (e ∷ es) v last r run on =
+    run_later : (es : List Event) (v last : World) → Reached v → (v.lives node).active ≡ true → WorldRunSo x.overtake u v es last → RunsOn node es → told v node ≤ told last node
+    run_later [] v last r active run on = subst (λ (y : World). told v node ≤ told y node) (sym run) (omega arith)
+    run_later (e ∷ es) v last r active run on =
         let parts = first_on node e es on in
         let first : told v node ≤ told run.0 node =
-        step_later begin choice request key links apart W x bound u v r.net r.over node e run.0 parts.0 run.1 in
-        let rest : told run.0 node ≤ told last node = run_later es run.0 last (one_event e v run.0 r run.1) run.2 parts.1 in
+        step_later begin choice request key links apart W x bound u v r.net r.over node e run.0 active parts.0 run.1 in
+        let rest : told run.0 node ≤ told last node = run_later es run.0 last (one_event e v run.0 r run.1)
+        (step_active x.overtake u v run.0 node active e run.1) run.2 parts.1 in
         omega arith
 
-    run_adds : (es : List Event) (v last : World) → Reached v → KeptAt begin choice request key v.nodes node → WorldRunSo x.overtake u v es last
+    run_adds : (es : List Event) (v last : World) → Reached v → (v.lives node).active ≡ true → KeptAt begin choice request key v.nodes node → WorldRunSo x.overtake u v es last
         → RunsOn node es → HearsNoOther node key choice request es → told last node ≤ begin + KEEP → AddsNothingFor node key v.log last.log
-    run_adds [] v last r kept run on none young = adds_none node key v.log last.log (ap (λ (y : World). y.log) run)
-    run_adds (e ∷ es) v last r kept run on none young =
+    run_adds [] v last r active kept run on none young = adds_none node key v.log last.log (ap (λ (y : World). y.log) run)
+    run_adds (e ∷ es) v last r active kept run on none young =
         let now_on = first_on node e es on in
         let now_none = first_no node key choice request e es none in
-        let later : told v node ≤ told last node = run_later (e ∷ es) v last r run on in
+        let later : told v node ≤ told last node = run_later (e ∷ es) v last r active run on in
         let went = step_went begin choice request key links apart W x bound u v r.net r.over node (omega arith) kept run.0 e
         (λ j at. stranger j (sym (r.over.linked j) ∙ at)) now_on.0 now_none.0 run.1 in
         adds_then node key v.log run.0.log last.log went.adds
-        (run_adds es run.0 last (one_event e v run.0 r run.1) went.kept run.2 now_on.1 now_none.1 young)
+        (run_adds es run.0 last (one_event e v run.0 r run.1) (step_active x.overtake u v run.0 node active e run.1) went.kept run.2 now_on.1 now_none.1 young)
 
 -- The write.
 
@@ -201,6 +207,14 @@ module _ (W overtake : ℕ) (u : Reuses) (first old new : World) (fresh : IsFres
     kept = record { begin_is = refl; choice_is = refl; request_is = refl; gathered = keeping.performs.gathered; no_read = keeping.performs.no_read };
   }
 
+  -- something happened there
+  active : (new.lives node).active ≡ true
+  active = subst (λ (f : ℕ → Life). (f node).active ≡ true) (sym p.hears.acts.lives)
+      (ap (λ (b : Bool). (if b then record { active = true; sends_until = (old.lives node).sends_until } else old.lives node).active) same)
+    where
+      same : nat_eq node node ≡ true
+      same = grind (arith, nat_tests)
+
   -- the link of its key is the stranger's
   of_none : (i : ℕ) → link_at first.nodes i ≡ Some key.peer.link → ⊥
   of_none i at = p.stranger i (before.over.linked i ∙ at ∙ ap (λ (q : PeerView). Some q.link) p.means.carries.sender)
@@ -211,7 +225,7 @@ module _ (W overtake : ℕ) (u : Reuses) (first old new : World) (fresh : IsFres
     there = keeping.there;
     whole = begun_whole (told old node) segment choice octets entry keeping.performs.begun;
     once = λ more last go on none young. run_adds (link_at first.nodes) fresh.apart W (rules_of overtake first) (rules_bounded W overtake first bounded) refl u
-        (stores_of first.nodes) entry.begin entry.choice (kept_by entry) key node of_none more new last after kept go on none young;
+        (stores_of first.nodes) entry.begin entry.choice (kept_by entry) key node of_none more new last after active kept go on none young;
   }
 
 pub writes_act_once : WritesActOnce

@@ -1,14 +1,14 @@
 -- What each event of a world leaves of the entry of a write, and adds to the log.
 use Rattle.std.proofs.Common.{◌≡◌, ℕ, ◌+◌, ◌<◌, ◌≤◌, Bool, true, false, List, [], ◌∷◌, length, ◌⊎◌, Option, Some, None, slice_get, if◌then◌else◌, nat_eq}
-use Rattle.std.proofs.Common.{refl, sym, ap, subst, inl, inr, ◌∙◌, arith}
+use Rattle.std.proofs.Common.{min, refl, sym, ap, subst, inl, inr, ◌∙◌, arith}
 use Rattle.std.proofs.lemmas.Bool.Decides.{nat_tests}
 use Rattle.bac_apdu.specs.Apdu.{Apdu}
 use Rattle.bac_apdu.specs.Spelling.{SpellsApdu}
 use Rattle.bac_npdu.specs.Datagram.{Means}
 use Rattle.bac_npdu.specs.Peers.{PeerView}
-use Rattle.bac_protocol.specs.declared.times.TheConstants.{KEEP}
+use Rattle.bac_protocol.specs.declared.times.TheConstants.{DEADLINE, KEEP}
 use Rattle.bac_protocol.specs.Claims.{IsBounded}
-use Rattle.bac_protocol.specs.Pace.{Clock, IsShown, clock_at, goes_on}
+use Rattle.bac_protocol.specs.Pace.{Clock, IsShown, clock_at, goes_on, most}
 use Rattle.bac_protocol.specs.Server.{Effect, ServerTransaction, is_live}
 use Rattle.bac_protocol.specs.Service.{Octets}
 use Rattle.bac_protocol.specs.Transaction.{Key, Rules}
@@ -27,8 +27,8 @@ use Rattle.bac_world.specs.ReusingLogs.{Reuses}
 use Rattle.bac_world.specs.ReusingNodes.{NodeHears}
 use Rattle.bac_world.specs.ReusingWorlds.{DeliversIfSo, HearsSo, WorldStepSo}
 use Rattle.bac_world.specs.Services.{ArePerformed, Performed}
-use Rattle.bac_world.specs.World.{Copy, Event, IsOfNone, IsWithNode, RunsOn, Time, World, is_deliverable, told}
-use Rattle.bac_world.specs.World.Event.{Advance, Ask, AskAway, Change, Deliver, Noise, Restart, Stray, Tick}
+use Rattle.bac_world.specs.World.{Copy, Event, IsOfNone, IsWithNode, Life, RunsOn, Time, World, is_deliverable, told, with_act, with_clock, with_life}
+use Rattle.bac_world.specs.World.Event.{Advance, Ask, AskAway, Begin, BeginAgain, Change, Deliver, Noise, Restart, Stray, Tick}
 use Rattle.bac_world.proofs.Heard.{IsHeardIn, IsHeardInBy, heard_in}
 use Rattle.bac_world.proofs.ServerTick.{entry_tick}
 use Rattle.bac_world.proofs.Settings.{end_heard, reusing_in}
@@ -217,6 +217,14 @@ module _ (begin choice : ℕ) (request : KeptOctets) (key : PeerKey) where
         kept = with_kept node v.nodes v'.nodes i _ s.nodes (λ is. absurd (on.0 is)) was;
         adds = adds_one node key (Restarted i store) tt v.log v'.log s.log;
       }
+      step_went (Begin i exact) stranger on quiet_so s = record {
+        kept = subst (λ (y : World). KeptAt y.nodes node) (sym s.is) was;
+        adds = adds_none node key v.log v'.log (ap (λ (y : World). y.log) s.is);
+      }
+      step_went (BeginAgain i exact first_id store) stranger on quiet_so s = record {
+        kept = with_kept node v.nodes v'.nodes i _ s.nodes (λ is. absurd (on.0 is)) was;
+        adds = adds_one node key (Restarted i store) tt v.log v'.log s.log;
+      }
 
     -- The clock of a node that does not restart never goes back.
 
@@ -245,19 +253,67 @@ module _ (begin choice : ℕ) (request : KeptOctets) (key : PeerKey) where
     later_delivered true c v' d = as_before v'.time d.hears.acts.time
     later_delivered false c v' d = same_world v' d
 
-    pub step_later : (e : Event) (v' : World) → RunsOn node (e ∷ []) → WorldStepSo x.overtake u v e v' → told v node ≤ told v' node
-    step_later (Ask client server limits r) v' on (inl s) = as_before v'.time s.time
-    step_later (Ask client server limits r) v' on (inr s) = same_world v' s.same
-    step_later (AskAway client peer limits r) v' on (inl s) = as_before v'.time s.time
-    step_later (AskAway client peer limits r) v' on (inr s) = same_world v' s.same
-    step_later (Deliver number) v' on s =
+    -- another node's clock begins anew
+    other_clock : (v' : World) (i exact : ℕ) → (i ≡ node → ⊥) → v'.time ≡ with_clock v.time i exact → told v node ≤ told v' node
+    other_clock v' i exact other is = subst (λ (y : Time). told v node ≤ (y.clocks node).shows) (sym is)
+        (subst (λ (b : Bool). told v node ≤ (if b then clock_at v.time.pace exact else v.time.clocks node).shows) (sym (apart_from i other)) (omega arith))
+
+    pub step_later : (e : Event) (v' : World) → (v.lives node).active ≡ true → RunsOn node (e ∷ []) → WorldStepSo x.overtake u v e v' → told v node ≤ told v' node
+    step_later (Ask client server limits r) v' active on (inl s) = as_before v'.time s.time
+    step_later (Ask client server limits r) v' active on (inr s) = same_world v' s.same
+    step_later (AskAway client peer limits r) v' active on (inl s) = as_before v'.time s.time
+    step_later (AskAway client peer limits r) v' active on (inr s) = same_world v' s.same
+    step_later (Deliver number) v' active on s =
         later_delivered (is_deliverable x.overtake v.time.pace.life v.time.now number v.copies s.copy) s.copy v' s.goes
-    step_later (Noise i from octets) v' on (inl s) = as_before v'.time s.hears.acts.time
-    step_later (Noise i from octets) v' on (inr s) = same_world v' s.same
-    step_later (Stray i from octets) v' on (inl s) = as_before v'.time s.hears.acts.time
-    step_later (Stray i from octets) v' on (inr s) = same_world v' s.same
-    step_later (Tick i) v' on s = as_before v'.time s.acts.time
-    step_later (Advance by own) v' on s = subst (λ (y : World). told v node ≤ told y node) (sym s) (goes by (own node))
-    step_later (Change i change) v' on s = as_before v'.time s.time
-    step_later (Restart i exact store) v' on s = subst (λ (y : Time). told v node ≤ (y.clocks node).shows) (sym s.time)
-        (subst (λ (b : Bool). told v node ≤ (if b then clock_at v.time.pace exact else v.time.clocks node).shows) (sym (apart_from i on.0)) (omega arith))
+    step_later (Noise i from octets) v' active on (inl s) = as_before v'.time s.hears.acts.time
+    step_later (Noise i from octets) v' active on (inr s) = same_world v' s.same
+    step_later (Stray i from octets) v' active on (inl s) = as_before v'.time s.hears.acts.time
+    step_later (Stray i from octets) v' active on (inr s) = same_world v' s.same
+    step_later (Tick i) v' active on s = as_before v'.time s.acts.time
+    step_later (Advance by own) v' active on s = subst (λ (y : World). told v node ≤ told y node) (sym s) (goes by (own node))
+    step_later (Change i change) v' active on s = as_before v'.time s.time
+    step_later (Restart i exact store) v' active on s = other_clock v' i exact on.0 s.time
+    step_later (BeginAgain i exact first_id store) v' active on s = other_clock v' i exact on.0 s.time
+    step_later (Begin i exact) v' active on s = other_clock v' i exact
+        (λ same. let no : false ≡ true = sym s.first ∙ ap (λ (k : ℕ). (v.lives k).active) same ∙ active in cc) (ap (λ (y : World). y.time) s.is)
+
+-- A node at which something happened.
+
+still_active : (lives next : ℕ → Life) (i : ℕ) (life : Life) → next ≡ with_life lives i life → life.active ≡ true → (j : ℕ) → (lives j).active ≡ true
+    → (next j).active ≡ true
+still_active lives next i life is active j was = subst (λ (f : ℕ → Life). (f j).active ≡ true) (sym is) (go (nat_eq j i))
+  where
+    go : (b : Bool) → (if b then life else lives j).active ≡ true
+    go true = active
+    go false = was
+
+module _ (overtake : ℕ) (u : Reuses) (v v' : World) (j : ℕ) (was : (v.lives j).active ≡ true) where
+  as_it_was : v' ≡ v → (v'.lives j).active ≡ true
+  as_it_was same = subst (λ (y : World). (y.lives j).active ≡ true) (sym same) was
+
+  acted : (i : ℕ) → v'.lives ≡ with_act v.lives i → (v'.lives j).active ≡ true
+  acted i is = still_active v.lives v'.lives i (record { active = true; sends_until = (v.lives i).sends_until }) is refl j was
+
+  active_delivered : (b : Bool) (c : Copy) → DeliversIfSo b u v c v' → (v'.lives j).active ≡ true
+  active_delivered true c d = acted c.to d.hears.acts.lives
+  active_delivered false c d = as_it_was d
+
+  pub step_active : (e : Event) → WorldStepSo overtake u v e v' → (v'.lives j).active ≡ true
+  step_active (Ask client server limits r) (inl s) =
+      still_active v.lives v'.lives client (record { active = true; sends_until = v.time.now + most v.time.pace DEADLINE + 1 }) s.lives refl j was
+  step_active (Ask client server limits r) (inr s) = as_it_was s.same
+  step_active (AskAway client peer limits r) (inl s) = acted client s.lives
+  step_active (AskAway client peer limits r) (inr s) = as_it_was s.same
+  step_active (Deliver number) s =
+      active_delivered (is_deliverable overtake v.time.pace.life v.time.now number v.copies s.copy) s.copy s.goes
+  step_active (Noise i from octets) (inl s) = acted i s.hears.acts.lives
+  step_active (Noise i from octets) (inr s) = as_it_was s.same
+  step_active (Stray i from octets) (inl s) = acted i s.hears.acts.lives
+  step_active (Stray i from octets) (inr s) = as_it_was s.same
+  step_active (Tick i) s = acted i s.acts.lives
+  step_active (Advance by own) s = subst (λ (y : World). (y.lives j).active ≡ true) (sym s) was
+  step_active (Change i change) s = subst (λ (f : ℕ → Life). (f j).active ≡ true) (sym s.lives) was
+  step_active (Restart i exact store) s =
+      still_active v.lives v'.lives i (record { active = true; sends_until = min (v.lives i).sends_until (v.time.now + 1) }) s.lives refl j was
+  step_active (Begin i exact) s = subst (λ (y : World). (y.lives j).active ≡ true) (sym s.is) was
+  step_active (BeginAgain i exact first_id store) s = acted i s.lives

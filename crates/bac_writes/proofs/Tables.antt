@@ -17,7 +17,7 @@ use Rattle.bac_world.specs.ReusingLogs.{Reuses}
 use Rattle.bac_world.specs.ReusingNodes.{NodeHears}
 use Rattle.bac_world.specs.ReusingWorlds.{DeliversIfSo, HearsSo, WorldRunSo, WorldStepSo}
 use Rattle.bac_world.specs.World.{Copy, Event, IsFresh, IsWithNode, World, is_deliverable, told}
-use Rattle.bac_world.specs.World.Event.{Advance, Ask, AskAway, Change, Deliver, Noise, Restart, Stray, Tick}
+use Rattle.bac_world.specs.World.Event.{Advance, Ask, AskAway, Begin, BeginAgain, Change, Deliver, Noise, Restart, Stray, Tick}
 use Rattle.bac_world.proofs.Heard.{IsHeardIn, IsHeardInBy, heard_in}
 use Rattle.bac_world.proofs.Reused.{heard_left}
 use Rattle.bac_world.proofs.ServerTick.{entry_tick}
@@ -124,6 +124,8 @@ module _ (overtake : ℕ) (u : Reuses) where
   step_so v w (Advance by own) was s = subst (λ (y : World). NoneWhole y.nodes) (sym s) was
   step_so v w (Change i change) was s = with_so v.nodes w.nodes i _ s.nodes (was i s.before s.at) was
   step_so v w (Restart i exact store) was s = with_so v.nodes w.nodes i _ s.nodes tt was
+  step_so v w (Begin i exact) was s = subst (λ (y : World). NoneWhole y.nodes) (sym s.is) was
+  step_so v w (BeginAgain i exact first_id store) was s = with_so v.nodes w.nodes i _ s.nodes tt was
 
   pub run_none_whole : (es : List Event) (v w : World) → NoneWhole v.nodes → WorldRunSo overtake u v es w → NoneWhole w.nodes
   run_none_whole [] v w was run = same_so v w was run

@@ -24,9 +24,9 @@ use Rattle.bac_transaction.specs.Services.{service_of, outcome_by}
 use Rattle.bac_world.specs.Services.{Performed}
 use Rattle.bac_world.specs.Node.{Node, Outcome, IsServerTurn, NodeAsks}
 use Rattle.bac_world.specs.Once.{Fact}
-use Rattle.bac_world.specs.World.{Copy, IsAsked, peer_at}
+use Rattle.bac_world.specs.World.{Copy, IsAsked, Life, peer_at, with_act, with_ask}
 use Rattle.bac_world.specs.Examples.{STORE}
-use Rattle.bac_world.specs.AnsweredRun.{LIMITS, SETTINGS, link, node, OPENING}
+use Rattle.bac_world.specs.AnsweredRun.{TIME, LIMITS, SETTINGS, link, node, OPENING}
 use Rattle.bac_world.proofs.Answered.{answered_run}
 use Rattle.bac_liveness.specs.StraightRuns.{IsStraight}
 use Rattle.bac_liveness.specs.StraightExamples.{zeros, WRITE, InSegments}
@@ -162,7 +162,26 @@ asks = record {
   sent = sent 0 1 (FIRST ∷ []) (first_good, tt);
 }
 
-abbrev asked : IsAsked OPENING 0 1 LIMITS WRITE (world (nodes ACCEPTED.end EMPTY) (copy 0 1 FIRST ∷ []) ASKED)
+-- what both nodes did by then
+abbrev LIVES : ℕ → Life
+LIVES = with_ask TIME OPENING.lives 0
+
+abbrev LIVES_1 : ℕ → Life
+LIVES_1 = with_act LIVES 1
+
+abbrev LIVES_2 : ℕ → Life
+LIVES_2 = with_act LIVES_1 0
+
+abbrev LIVES_3 : ℕ → Life
+LIVES_3 = with_act LIVES_2 1
+
+abbrev LIVES_4 : ℕ → Life
+LIVES_4 = with_act LIVES_3 0
+
+abbrev LIVES_5 : ℕ → Life
+LIVES_5 = with_act LIVES_4 0
+
+abbrev asked : IsAsked OPENING 0 1 LIMITS WRITE (world LIVES (nodes ACCEPTED.end EMPTY) (copy 0 1 FIRST ∷ []) ASKED)
 asked = record {
   before = node 0;
   at = refl;
@@ -174,6 +193,7 @@ asked = record {
   asks = asks;
   nodes = record { here = refl; others = first_other (client ACCEPTED.end) (node 0) (node 1) };
   time = refl;
+  lives = refl;
   sent = copy 0 1 FIRST ∷ [];
   copies = refl;
   copied = copied OPENING.nodes 0 1 refl refl (FIRST ∷ []) (first_good, tt);
@@ -306,27 +326,27 @@ answer_taken = record {
   logged = refl;
 }
 
-abbrev run : IsStraight 253 OPENING 0 1 LIMITS WRITE (Some (Answered REPLY)) 5 (world (nodes CLOSED DONE) ALL ENDED)
+abbrev run : IsStraight 253 OPENING 0 1 LIMITS WRITE (Some (Answered REPLY)) 5 (world LIVES_5 (nodes CLOSED DONE) ALL ENDED)
 run = record {
-  asked = world (nodes ACCEPTED.end EMPTY) (copy 0 1 FIRST ∷ []) ASKED;
+  asked = world LIVES (nodes ACCEPTED.end EMPTY) (copy 0 1 FIRST ∷ []) ASKED;
   asks = asked;
   delivers = (
     refl,
-    world (nodes ACCEPTED.end TAKEN) (copy 0 1 FIRST ∷ copy 1 0 (ACK 0) ∷ []) ASKED,
-    delivers _ _ _ _ _ _ _ _ _ _ first_taken,
+    world LIVES_1 (nodes ACCEPTED.end TAKEN) (copy 0 1 FIRST ∷ copy 1 0 (ACK 0) ∷ []) ASKED,
+    delivers LIVES _ _ _ _ _ _ _ _ _ _ first_taken,
     (
       refl,
-      world (nodes SENT TAKEN) COPIES ASKED,
-      delivers _ _ _ _ _ _ _ _ _ _ first_acked,
+      world LIVES_2 (nodes SENT TAKEN) COPIES ASKED,
+      delivers LIVES_1 _ _ _ _ _ _ _ _ _ _ first_acked,
       (
         refl,
-        world (nodes SENT DONE) ALL PERFORMED,
-        delivers _ _ _ _ _ _ _ _ _ _ second_performed,
+        world LIVES_3 (nodes SENT DONE) ALL PERFORMED,
+        delivers LIVES_2 _ _ _ _ _ _ _ _ _ _ second_performed,
         (
           refl,
-          world (nodes WAITS DONE) ALL PERFORMED,
-          delivers _ _ _ _ _ _ _ _ _ _ second_acked,
-          (refl, world (nodes CLOSED DONE) ALL ENDED, delivers _ _ _ _ _ _ _ _ _ _ answer_taken, refl),
+          world LIVES_4 (nodes WAITS DONE) ALL PERFORMED,
+          delivers LIVES_3 _ _ _ _ _ _ _ _ _ _ second_acked,
+          (refl, world LIVES_5 (nodes CLOSED DONE) ALL ENDED, delivers LIVES_4 _ _ _ _ _ _ _ _ _ _ answer_taken, refl),
         ),
       ),
     ),
@@ -348,7 +368,7 @@ in_segments = record {
     server_window = omega arith;
     room = omega arith;
   };
-  last = world (nodes CLOSED DONE) ALL ENDED;
+  last = world LIVES_5 (nodes CLOSED DONE) ALL ENDED;
   run = run;
   sent = refl;
 }

@@ -11,7 +11,7 @@ use Rattle.bac_protocol.specs.Transaction.{Key}
 use Rattle.bac_transaction.specs.Sends.{Datagram, Pairwise, IsSent, to_all}
 use Rattle.bac_world.specs.Node.{Node, Outcome, IsHeardBy}
 use Rattle.bac_world.specs.Once.{Fact}
-use Rattle.bac_world.specs.World.{World, Copy, Note, AreEnded, AreLogged, IsCopied, IsDelivered, IsWithNode, is_deliverable, link_at, peer_at, transaction_of}
+use Rattle.bac_world.specs.World.{World, Copy, Life, Note, with_act, AreEnded, AreLogged, IsCopied, IsDelivered, IsWithNode, is_deliverable, link_at, peer_at, transaction_of}
 use Rattle.bac_world.specs.World.{DeliversIf}
 use Rattle.bac_world.proofs.Bridge.{each_copied}
 use Rattle.bac_world.specs.AnsweredRun.{TIME, link}
@@ -28,8 +28,8 @@ datagram to a = record { to = link to; octets = frame (peer_at (link to)) (is_co
 abbrev pub copy : (from to : ℕ) → Apdu → Copy
 copy from to a = record { moment = 0; from = from; to = to; key = KEY; octets = (datagram to a).octets }
 
-abbrev pub world : List Node → List Copy → List Fact → World
-world nodes copies log = record { nodes = nodes; time = TIME; copies = copies; log = log; notes = NOTES }
+abbrev pub world : (ℕ → Life) → List Node → List Copy → List Fact → World
+world lives nodes copies log = record { nodes = nodes; time = TIME; lives = lives; copies = copies; log = log; notes = NOTES }
 
 -- an APDU of the one transaction, which has a frame
 pub record IsGood (from to : ℕ) (a : Apdu) : Type 0 where
@@ -102,13 +102,13 @@ pub record IsDelivery (from to : ℕ) (old new : List Node) (copies : List Copy)
     pub ended : AreEnded NOTES to outcome.ended log between
     pub logged : AreLogged old NOTES to after outcome.performed between log'
 
-pub delivers : (from to : ℕ) (old new : List Node) (copies : List Copy) (log log' : List Fact) (number : ℕ) (a : Apdu) (sends : List Apdu)
+pub delivers : (lives : ℕ → Life) (from to : ℕ) (old new : List Node) (copies : List Copy) (log log' : List Fact) (number : ℕ) (a : Apdu) (sends : List Apdu)
     → IsDelivery from to old new copies log log' number a sends
-    → IsDelivered 253 (world old copies log) number (world new (copies ++ map (copy to from) sends) log')
-delivers from to old new copies log log' number a sends d = record {
+    → IsDelivered 253 (world lives old copies log) number (world (with_act lives to) new (copies ++ map (copy to from) sends) log')
+delivers lives from to old new copies log log' number a sends d = record {
   copy = copy from to a;
   there = d.there;
-  goes = subst (λ b. DeliversIf b (world old copies log) (copy from to a) (world new (copies ++ map (copy to from) sends) log')) (sym d.may) (record {
+  goes = subst (λ b. DeliversIf b (world lives old copies log) (copy from to a) (world (with_act lives to) new (copies ++ map (copy to from) sends) log')) (sym d.may) (record {
     link = link from;
     sender = d.from_at;
     hears = record {
@@ -120,6 +120,7 @@ delivers from to old new copies log log' number a sends d = record {
       acts = record {
         nodes = d.nodes;
         time = refl;
+        lives = refl;
         notes = refl;
         sent = map (copy to from) sends;
         copies = refl;

@@ -30,7 +30,10 @@ use Rattle.bac_transaction.proofs.ServerTables.{has_space}
 use Rattle.bac_world.specs.Node.{Node, Outcome, NodeOn, NodeTick, NodeAsks, IsHeardBy, with_change}
 use Rattle.bac_world.specs.World.{World, Event, WorldStep, WorldRun, IsFresh, IsFreshNode, IsWithNode, DeliversIf, Hears, is_deliverable, Time, passes}
 use Rattle.bac_world.specs.World.{with_clock, told}
-use Rattle.bac_world.specs.World.Event.{Deliver, Noise, Stray, Tick, Advance, Change, Restart}
+use Rattle.bac_world.specs.World.Event.{Deliver, Noise, Stray, Tick, Advance, Change, Restart, Begin, BeginAgain}
+use Rattle.bac_world.specs.World.{IsBegun}
+use Rattle.bac_world.proofs.Bridge.{AreIdle}
+use Rattle.bac_world.proofs.Lives.{step_idle}
 use Rattle.bac_world.proofs.Steps.{decide_number}
 use Rattle.bac_world.proofs.Asking.{accepted_is}
 use Rattle.bac_liveness.specs.Room.{HasRoom, HaveRoom}
@@ -308,29 +311,43 @@ restart_room w w' i exact b nodes time room h j n at = subst (λ (t : Time). Has
         go true e = absurd (ne (grind (arith, nat_tests)))
         go false e = h k m there
 
-step_room : (overtake : ℕ) (w w' : World) (e : Event) → WorldStep overtake w e w' → AreShown w.time → HaveRoom w → HaveRoom w'
-step_room overtake w w' (Event.Ask client server limits r) (inl s) shown h = still_room w w' client s.after s.nodes s.time
+-- a node that begins is as it was at its beginning
+begin_room : (w w' : World) (i exact : ℕ) → IsBegun w i exact w' → AreIdle w.nodes w.lives → HaveRoom w → HaveRoom w'
+begin_room w w' i exact s idle h = subst HaveRoom (sym s.is) (λ j n at. go j n at (nat_eq j i) refl)
+  where
+    go : (j : ℕ) (n : Node) → slice_get w.nodes j ≡ Some n → (y : Bool) → nat_eq j i ≡ y
+        → HasRoom (if nat_eq j i then clock_at w.time.pace exact else w.time.clocks j).shows n
+    go j n at true e =
+        let is : j ≡ i = grind (arith, nat_tests) in
+        fresh_room _ n (idle j n at (ap (λ (k : ℕ). (w.lives k).active) is ∙ s.first))
+    go j n at false e = subst (λ (y : Bool). HasRoom (if y then clock_at w.time.pace exact else w.time.clocks j).shows n) (sym e) (h j n at)
+
+step_room : (overtake : ℕ) (w w' : World) (e : Event) → WorldStep overtake w e w' → AreShown w.time → AreIdle w.nodes w.lives → HaveRoom w → HaveRoom w'
+step_room overtake w w' (Event.Ask client server limits r) (inl s) shown idle h = still_room w w' client s.after s.nodes s.time
     (asks_room (told w client) _ limits r s.before s.after s.accepted s.sends s.asks (h client s.before s.at)) h
-step_room overtake w w' (Event.Ask client server limits r) (inr s) shown h = same_room w w' s.same h
-step_room overtake w w' (Event.AskAway client peer limits r) (inl s) shown h = still_room w w' client s.after s.nodes s.time
+step_room overtake w w' (Event.Ask client server limits r) (inr s) shown idle h = same_room w w' s.same h
+step_room overtake w w' (Event.AskAway client peer limits r) (inl s) shown idle h = still_room w w' client s.after s.nodes s.time
     (asks_room (told w client) _ limits r s.before s.after s.accepted s.sends s.asks (h client s.before s.at)) h
-step_room overtake w w' (Event.AskAway client peer limits r) (inr s) shown h = same_room w w' s.same h
-step_room overtake w w' (Deliver number) s shown h = go (is_deliverable overtake w.time.pace.life w.time.now number w.copies s.copy) s.goes
+step_room overtake w w' (Event.AskAway client peer limits r) (inr s) shown idle h = same_room w w' s.same h
+step_room overtake w w' (Deliver number) s shown idle h = go (is_deliverable overtake w.time.pace.life w.time.now number w.copies s.copy) s.goes
   where
     go : (b : Bool) → DeliversIf b w s.copy w' → HaveRoom w'
     go true d = hears_stays w w' s.copy.to d.link s.copy.octets d.hears h
     go false same = same_room w w' same h
-step_room overtake w w' (Noise node from octets) (inl s) shown h = hears_stays w w' node from octets s.hears h
-step_room overtake w w' (Noise node from octets) (inr s) shown h = same_room w w' s.same h
-step_room overtake w w' (Stray node from octets) (inl s) shown h = hears_stays w w' node from octets s.hears h
-step_room overtake w w' (Stray node from octets) (inr s) shown h = same_room w w' s.same h
-step_room overtake w w' (Tick node) s shown h = still_room w w' node s.after s.acts.nodes s.acts.time
+step_room overtake w w' (Noise node from octets) (inl s) shown idle h = hears_stays w w' node from octets s.hears h
+step_room overtake w w' (Noise node from octets) (inr s) shown idle h = same_room w w' s.same h
+step_room overtake w w' (Stray node from octets) (inl s) shown idle h = hears_stays w w' node from octets s.hears h
+step_room overtake w w' (Stray node from octets) (inr s) shown idle h = same_room w w' s.same h
+step_room overtake w w' (Tick node) s shown idle h = still_room w w' node s.after s.acts.nodes s.acts.time
     (tick_room (told w node) s.before s.after s.outcome s.tick (h node s.before s.at)) h
-step_room overtake w w' (Advance by own) s shown h = subst HaveRoom (sym s) (λ j n at. later_room (told w j)
+step_room overtake w w' (Advance by own) s shown idle h = subst HaveRoom (sym s) (λ j n at. later_room (told w j)
     (goes_on w.time.pace by (own j) (w.time.clocks j)).shows (goes_on_later w.time.pace by (own j) (w.time.clocks j) (shown j)) n (h j n at))
-step_room overtake w w' (Change node change) s shown h = still_room w w' node (with_change change s.before) s.nodes s.time
+step_room overtake w w' (Change node change) s shown idle h = still_room w w' node (with_change change s.before) s.nodes s.time
     (let room = h node s.before s.at in record { held = room.held; live = room.live }) h
-step_room overtake w w' (Restart node exact store) s shown h =
+step_room overtake w w' (Restart node exact store) s shown idle h =
+    restart_room w w' node exact _ s.nodes s.time (λ now. record { held = omega arith; live = omega arith }) h
+step_room overtake w w' (Begin node exact) s shown idle h = begin_room w w' node exact s idle h
+step_room overtake w w' (BeginAgain node exact first_id store) s shown idle h =
     restart_room w w' node exact _ s.nodes s.time (λ now. record { held = omega arith; live = omega arith }) h
 
 still_shown : (t u : Time) → u ≡ t → AreShown t → AreShown u
@@ -354,12 +371,17 @@ step_shown overtake w w' (Tick node) s h = still_shown w.time w'.time s.acts.tim
 step_shown overtake w w' (Advance by own) s h = still_shown (passes w.time by own) w'.time (ap (λ (y : World). y.time) s) (λ i. refl)
 step_shown overtake w w' (Change node change) s h = still_shown w.time w'.time s.time h
 step_shown overtake w w' (Restart node exact store) s h = still_shown (with_clock w.time node exact) w'.time s.time (with_shown w.time node exact h)
+step_shown overtake w w' (Begin node exact) s h =
+    still_shown (with_clock w.time node exact) w'.time (ap (λ (y : World). y.time) s.is) (with_shown w.time node exact h)
+step_shown overtake w w' (BeginAgain node exact first_id store) s h =
+    still_shown (with_clock w.time node exact) w'.time s.time (with_shown w.time node exact h)
 
-run_room : (overtake : ℕ) (events : List Event) (w w' : World) → WorldRun overtake w events w' → AreShown w.time → HaveRoom w → HaveRoom w'
-run_room overtake [] w w' run shown h = same_room w w' run h
-run_room overtake (e ∷ es) w w' run shown h =
-    run_room overtake es run.0 w' run.2 (step_shown overtake w run.0 e run.1 shown) (step_room overtake w run.0 e run.1 shown h)
+run_room : (overtake : ℕ) (events : List Event) (w w' : World) → WorldRun overtake w events w' → AreShown w.time → AreIdle w.nodes w.lives → HaveRoom w
+    → HaveRoom w'
+run_room overtake [] w w' run shown idle h = same_room w w' run h
+run_room overtake (e ∷ es) w w' run shown idle h = run_room overtake es run.0 w' run.2 (step_shown overtake w run.0 e run.1 shown)
+    (step_idle overtake w run.0 e run.1 idle) (step_room overtake w run.0 e run.1 shown idle h)
 
 pub have_room : (overtake : ℕ) (events : List Event) (first old : World) → WorldRun overtake first events old → IsFresh first → HaveRoom old
 have_room overtake events first old run fresh =
-    run_room overtake events first old run fresh.clocks (λ j n at. fresh_room (told first j) n (fresh.nodes j n at))
+    run_room overtake events first old run fresh.clocks (λ j n at off. fresh.nodes j n at) (λ j n at. fresh_room (told first j) n (fresh.nodes j n at))

@@ -22,9 +22,9 @@ use Rattle.bac_transaction.specs.Services.{service_of, outcome_by}
 use Rattle.bac_world.specs.Services.{Performed}
 use Rattle.bac_world.specs.Node.{Node, Outcome, IsServerTurn, NodeAsks}
 use Rattle.bac_world.specs.Once.{Fact}
-use Rattle.bac_world.specs.World.{Copy, IsAsked, peer_at}
+use Rattle.bac_world.specs.World.{Copy, IsAsked, Life, peer_at, with_act, with_ask}
 use Rattle.bac_world.specs.Examples.{REQUEST, REPLY, STORE, ASKED}
-use Rattle.bac_world.specs.AnsweredRun.{LIMITS, SETTINGS, link, node, OPENING}
+use Rattle.bac_world.specs.AnsweredRun.{TIME, LIMITS, SETTINGS, link, node, OPENING}
 use Rattle.bac_world.proofs.Answered.{answered_run}
 use Rattle.bac_liveness.specs.StraightRuns.{IsStraight}
 use Rattle.bac_liveness.specs.StraightExamples.{OfOneApdu}
@@ -108,7 +108,17 @@ asks = record {
   sent = sent 0 1 (ASK ∷ []) (ask_good, tt);
 }
 
-abbrev asked : IsAsked OPENING 0 1 LIMITS REQUEST (world (nodes ACCEPTED.end EMPTY) (copy 0 1 ASK ∷ []) ASKED)
+-- what both nodes did by then
+abbrev LIVES : ℕ → Life
+LIVES = with_ask TIME OPENING.lives 0
+
+abbrev LIVES_1 : ℕ → Life
+LIVES_1 = with_act LIVES 1
+
+abbrev LIVES_2 : ℕ → Life
+LIVES_2 = with_act LIVES_1 0
+
+abbrev asked : IsAsked OPENING 0 1 LIMITS REQUEST (world LIVES (nodes ACCEPTED.end EMPTY) (copy 0 1 ASK ∷ []) ASKED)
 asked = record {
   before = node 0;
   at = refl;
@@ -120,6 +130,7 @@ asked = record {
   asks = asks;
   nodes = record { here = refl; others = first_other (client ACCEPTED.end) (node 0) (node 1) };
   time = refl;
+  lives = refl;
   sent = copy 0 1 ASK ∷ [];
   copies = refl;
   copied = copied OPENING.nodes 0 1 refl refl (ASK ∷ []) (ask_good, tt);
@@ -187,15 +198,15 @@ answer_taken = record {
   logged = refl;
 }
 
-abbrev run : IsStraight 253 OPENING 0 1 LIMITS REQUEST (Some (Answered REPLY)) 2 (world (nodes CLOSED DONE) BOTH ENDED)
+abbrev run : IsStraight 253 OPENING 0 1 LIMITS REQUEST (Some (Answered REPLY)) 2 (world LIVES_2 (nodes CLOSED DONE) BOTH ENDED)
 run = record {
-  asked = world (nodes ACCEPTED.end EMPTY) (copy 0 1 ASK ∷ []) ASKED;
+  asked = world LIVES (nodes ACCEPTED.end EMPTY) (copy 0 1 ASK ∷ []) ASKED;
   asks = asked;
   delivers = (
     refl,
-    world (nodes ACCEPTED.end DONE) BOTH PERFORMED,
-    delivers _ _ _ _ _ _ _ _ _ _ request_performed,
-    (refl, world (nodes CLOSED DONE) BOTH ENDED, delivers _ _ _ _ _ _ _ _ _ _ answer_taken, refl),
+    world LIVES_1 (nodes ACCEPTED.end DONE) BOTH PERFORMED,
+    delivers LIVES _ _ _ _ _ _ _ _ _ _ request_performed,
+    (refl, world LIVES_2 (nodes CLOSED DONE) BOTH ENDED, delivers LIVES_1 _ _ _ _ _ _ _ _ _ _ answer_taken, refl),
   );
   stops = inl refl;
   ending_is = refl;
@@ -214,7 +225,7 @@ of_one_apdu = record {
     server_window = omega arith;
     room = omega arith;
   };
-  last = world (nodes CLOSED DONE) BOTH ENDED;
+  last = world LIVES_2 (nodes CLOSED DONE) BOTH ENDED;
   run = run;
   sent = refl;
 }

@@ -8,9 +8,9 @@ pub returns-then-not-are_same_notes : goal.returns-then-not-are_same_notes
 returns-then-not-are_same_notes c = rw (← c.self.view_is, ← c.other.view_is) (
   λ t. absurd cc,
   λ s.
-      let ours = c.deref-3.ensures.value in
-      let theirs = c.deref-4.ensures.value in
+      let ours = c.deref-5.ensures.value in
+      let theirs = c.deref-6.ensures.value in
       let mapped = notes_mapped c.self.inside.notes.items c.other.inside.notes.items s.notes in
-      let same : map note_view c.deref-3.result.now ≡ map note_view c.deref-4.result.now = cc in
+      let same : map note_view c.deref-5.result.now ≡ map note_view c.deref-6.result.now = cc in
       absurd (c.if-not-are_same_notes.ensures same),
 )

@@ -14,7 +14,7 @@ set_rate-requires-clause-going c = (
 
 pub invariant_of-self : goal.invariant_of-self
 invariant_of-self c =
-    (c.self.invariant.0, c.self.invariant.1, c.set_rate.ensures.going c.self.inside.moment (length c.self.inside.links.items) c.self.invariant.2)
+    (c.self.invariant.0, c.self.invariant.1, c.set_rate.ensures.going c.self.inside.moment (length c.self.inside.links.items) c.self.invariant.2, c.self.invariant.3)
 
 pub returns-clause-time : goal.returns-clause-time
 returns-clause-time c =

@@ -1,5 +1,6 @@
 -- Time passes at all nodes.
 use Rattle.std.proofs.Common.{◌≡◌, true, false, refl}
+use Rattle.bac_journal.specs.Lives.{lives_at}
 use Rattle.bac_network.specs.Views.{log_view}
 use Rattle.bac_network.proofs.network.Network.advance.Goals as goal
 
@@ -8,6 +9,7 @@ returns-in-Some-clause-happens c = λ overtake. (
   λ i. record {
     nodes = c.args.self.now.nodes.items;
     time = c.in-Some.ensures.time refl i;
+    lives = lives_at (c.in-Some.ensures.some refl i).lives;
     copies = (c.in-Some.ensures.some refl i).copies;
     log = log_view c.args.self.now.log.items;
     notes = (c.in-Some.ensures.some refl i).notes;

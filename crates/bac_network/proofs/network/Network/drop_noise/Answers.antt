@@ -9,7 +9,7 @@ use Rattle.bac_network.proofs.network.Network.drop_noise.Goals as goal
 
 pub returns-clause-heard : goal.returns-clause-heard
 returns-clause-heard c =
-    let new : Network = record (c.args.self.now) { nodes = with_items c.args.self.now.nodes c.hear.new.nodes } in
+    let new : Network = record (c.args.self.now) { nodes = with_items c.args.self.now.nodes c.hear.new.nodes; journal = c.act.new.self } in
     noise_heard c.args.self.now new c.args.node c.args.from c.args.octets.now (outcome_view c.in-Ok._outcome) c.requires.noise c.deref_mut.result.now
     c.deref_mut.ensures.value c.told.result c.told.ensures c.hear.new.nodes
-    (with_items_is c.args.self.now.nodes c.hear.new.nodes (omega arith)) c.in-Ok.ensures.went refl refl
+    (with_items_is c.args.self.now.nodes c.hear.new.nodes (omega arith)) c.in-Ok.ensures.went c.act.ensures.is c.act.ensures.lives refl

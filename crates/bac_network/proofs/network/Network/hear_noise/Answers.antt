@@ -1,7 +1,7 @@
 -- Octets that mean nothing are heard, and others are lost.
 use Rattle.std.proofs.Common.{◌≡◌, ◌<◌, length, true, false, refl, inr, arith}
 use Rattle.bac_world.specs.Laws.{IsMeaningless}
-use Rattle.bac_network.proofs.Delivered.{there_is}
+use Rattle.bac_network.proofs.Delivered.{linked_within, there_is}
 use Rattle.bac_network.proofs.network.Network.hear_noise.Goals as goal
 
 pub returns-else-is_meaningless-clause-happens : goal.returns-else-is_meaningless-clause-happens
@@ -14,3 +14,10 @@ returns-else-is_meaningless-clause-happens c = λ overtake.
 
 pub drop_noise-requires-clause-noise : goal.drop_noise-requires-clause-noise
 drop_noise-requires-clause-noise c = c.if-is_meaningless.ensures.0 refl
+
+pub drop_noise-requires-clause-punctual : goal.drop_noise-requires-clause-punctual
+drop_noise-requires-clause-punctual c = (c.requires.2).can.punctual
+
+pub drop_noise-requires-clause-linked : goal.drop_noise-requires-clause-linked
+drop_noise-requires-clause-linked c =
+    linked_within c.args.self.now.nodes.items c.args.self.now.journal.links (c.requires.2).linked c.args.node (omega arith)

@@ -2,7 +2,7 @@
 use Rattle.std.proofs.Common.{◌*◌, sym, subst}
 use Rattle.bac_protocol.specs.Service.{Octets}
 use Rattle.bac_store.specs.Views.{change_view}
-use Rattle.bac_world.specs.World.Event.{Noise, Stray, Tick, Advance, Change, Restart}
+use Rattle.bac_world.specs.World.Event.{Noise, Stray, Tick, Advance, Change, Restart, Begin, BeginAgain}
 use Rattle.bac_journal.specs.Clocks.{parts_of, restart_at, steps_of}
 use Rattle.bac_network.specs.Clocks.{instant}
 use Rattle.bac_network.specs.Networks.{world_of}
@@ -57,6 +57,23 @@ returns-in-Restart-clause-happens c =
     (told_nothing c.args.overtake (world_of c.args.self.now) (world_of c.restart.new.self) (Restart c.in-Restart.node (restart_at c.args.self.now.journal.moment c.args.self.now.journal.own)
     c.in-Restart.store) tt
     c.restart.result c.untold-in-Restart.result (c.restart.ensures.happens c.args.overtake) c.untold-in-Restart.ensures)
+
+pub returns-in-Begin-clause-happens : goal.returns-in-Begin-clause-happens
+returns-in-Begin-clause-happens c =
+    subst (λ (e : Event). HappensTelling c.args.overtake (world_of c.args.self.now) (event_view (instant c.args.self.now.journal) e) c.untold-in-Begin.result
+    (world_of c.begin.new.self))
+    (sym c.in-Begin.is)
+    (told_nothing c.args.overtake (world_of c.args.self.now) (world_of c.begin.new.self) (Begin c.in-Begin.node (restart_at c.args.self.now.journal.moment c.args.self.now.journal.own)) tt
+    c.begin.result c.untold-in-Begin.result (c.begin.ensures.happens c.args.overtake) c.untold-in-Begin.ensures)
+
+pub returns-in-BeginAgain-clause-happens : goal.returns-in-BeginAgain-clause-happens
+returns-in-BeginAgain-clause-happens c =
+    subst (λ (e : Event). HappensTelling c.args.overtake (world_of c.args.self.now) (event_view (instant c.args.self.now.journal) e) c.untold-in-BeginAgain.result
+    (world_of c.begin_again.new.self))
+    (sym c.in-BeginAgain.is)
+    (told_nothing c.args.overtake (world_of c.args.self.now) (world_of c.begin_again.new.self) (BeginAgain c.in-BeginAgain.node (restart_at c.args.self.now.journal.moment c.args.self.now.journal.own)
+    c.in-BeginAgain.first_id c.in-BeginAgain.store) tt
+    c.begin_again.result c.untold-in-BeginAgain.result (c.begin_again.ensures.happens c.args.overtake) c.untold-in-BeginAgain.ensures)
 
 pub returns-in-Ask-clause-happens : goal.returns-in-Ask-clause-happens
 returns-in-Ask-clause-happens c =

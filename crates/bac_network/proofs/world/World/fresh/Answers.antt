@@ -1,7 +1,8 @@
 -- What is made is fresh.
-use Rattle.std.proofs.Common.{◌≡◌, [], List, None, refl, ap, ◌∙◌}
+use Rattle.std.proofs.Common.{◌≡◌, [], List, map, None, refl, ap, ◌∙◌}
 use Rattle.bac_protocol.specs.Service.{Octets}
 use Rattle.bac_journal.specs.Journals.{JournalView}
+use Rattle.bac_journal.specs.Lives.{fresh_life}
 use Rattle.bac_network.specs.Fresh.{greatest_window, links_of, opening_of}
 use Rattle.bac_network.proofs.Makers.{all_good, kept_first, made_is, one_shown, today}
 use Rattle.bac_network.proofs.world.World.fresh.Goals as goal
@@ -19,5 +20,5 @@ invariant_of-result c =
     (made_is (record { moment = 0; own = None }) c.args.overtake c.args.makers.items c.in_ok-opening.opening.items
     (record { nodes = c.in_ok-nodes.nodes; journal = c.in_ok-journal.journal; log = c.new-2.result })
     (c.in_ok-opening.ensures ∙ ap opening_of c.deref-2.ensures.value) c.in_ok-nodes.ensures
-    (c.in_ok-journal.ensures ∙ ap (λ (l : List Octets). record (c.in_ok-journal.journal) { links = l; moment = 0; own = None; copies = []; notes = [] }) are)
+    (c.in_ok-journal.ensures ∙ ap (λ (l : List Octets). record (c.in_ok-journal.journal) { links = l; moment = 0; own = None; lives = map fresh_life l; copies = []; notes = [] }) are)
     c.new-2.ensures.items)

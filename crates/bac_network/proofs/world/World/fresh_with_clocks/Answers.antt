@@ -1,8 +1,9 @@
 -- What is made is fresh, and its clocks begin.
-use Rattle.std.proofs.Common.{◌≡◌, [], List, Some, refl, ap, ◌∙◌, arith}
+use Rattle.std.proofs.Common.{◌≡◌, [], List, map, Some, refl, ap, ◌∙◌, arith}
 use Rattle.bac_protocol.specs.Service.{Octets}
 use Rattle.bac_journal.specs.Clocks.{OwnClocks, fresh_clocks}
 use Rattle.bac_journal.specs.Journals.{JournalView}
+use Rattle.bac_journal.specs.Lives.{fresh_life}
 use Rattle.bac_network.specs.Clocks.{Instant}
 use Rattle.bac_network.specs.Fresh.{greatest_window, links_of, opening_of}
 use Rattle.bac_network.proofs.Makers.{all_good, kept_first, made_is, own_shown}
@@ -27,6 +28,7 @@ invariant_of-result c =
       links = l;
       moment = 0;
       own = Some (fresh_clocks c.args.pace.drift c.args.pace.life c.args.starts.now);
+      lives = map fresh_life l;
       copies = [];
       notes = [];
     }) are)

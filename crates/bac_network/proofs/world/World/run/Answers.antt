@@ -16,7 +16,7 @@ returns-in-Err-clause-stopped c =
     (slice_get_read c.args.events.now _ at.place event refl lt c.index-events-place.is) at.invariant.done at.invariant.overtake at.invariant.time
     c.in-Err.ensures.err
     (fault_is c.in-Err.fault at.self.overtake (as_world at.self) (event_view at.self.time event) (Err c.in-Err.fault) refl c.in-Err.ensures.node
-    c.in-Err.ensures.datagram c.in-Err.ensures.link c.in-Err.ensures.clock c.in-Err.ensures.change c.in-Err.ensures.memory)
+    c.in-Err.ensures.datagram c.in-Err.ensures.link c.in-Err.ensures.clock c.in-Err.ensures.soon c.in-Err.ensures.change c.in-Err.ensures.memory)
 
 pub returns-clause-went : goal.returns-clause-went
 returns-clause-went c =

@@ -1,6 +1,7 @@
 -- The world is the same, and one clock goes on otherwise.
 use Rattle.std.proofs.Common.{◌≡◌, ◌<◌, None, length, slice_get, sym, ap, subst, ◌∙◌, arith}
 use Rattle.bac_journal.specs.Journals.{JournalView}
+use Rattle.bac_journal.specs.Lives.{lives_at}
 use Rattle.bac_network.specs.Histories.{WorldView, as_world}
 use Rattle.bac_network.specs.Networks.{world_of}
 use Rattle.bac_network.specs.Views.{log_view}
@@ -22,6 +23,7 @@ invariant_of-self c =
     (λ i. record {
       nodes = c.self.inside.network.nodes.items;
       time = c.set_rate.ensures.time i;
+      lives = lives_at (c.set_rate.ensures.is i).lives;
       copies = (c.set_rate.ensures.is i).copies;
       log = log_view c.self.inside.network.log.items;
       notes = (c.set_rate.ensures.is i).notes;
@@ -33,6 +35,7 @@ returns-clause-same c =
     let same : world_of new ≡ world_of c.self.inside.network = λ i. record {
       nodes = c.self.inside.network.nodes.items;
       time = c.set_rate.ensures.time i;
+      lives = lives_at (c.set_rate.ensures.is i).lives;
       copies = (c.set_rate.ensures.is i).copies;
       log = log_view c.self.inside.network.log.items;
       notes = (c.set_rate.ensures.is i).notes;

@@ -5,7 +5,7 @@ use Rattle.bac_network.specs.Clocks.{instant}
 use Rattle.bac_network.specs.Histories.{WorldView, view_of}
 use Rattle.bac_network.specs.Networks.{world_of}
 use Rattle.bac_network.specs.Views.{event_view}
-use Rattle.bac_network.proofs.Happening.{node_exactly, copy_exactly, link_exactly, clock_exactly, change_exactly, memory_only, step_is, told_is, same_seen}
+use Rattle.bac_network.proofs.Happening.{node_exactly, copy_exactly, link_exactly, soon_exactly, clock_exactly, change_exactly, memory_only, step_is, told_is, same_seen}
 use Rattle.bac_network.proofs.Histories.{alone_after, ended_now, kept_after, once_now, performed_now, permitted_now, ready_now, replayed_now, requests_now}
 use Rattle.bac_network.proofs.OfNone.{strangers_now}
 use Rattle.bac_network.proofs.world.World.step.Goals as goal
@@ -86,6 +86,13 @@ returns-clause-link c =
     c.args.event.now) c.step.result
     c.step.ensures.happens)
 
+pub returns-clause-soon : goal.returns-clause-soon
+returns-clause-soon c =
+    rw (← c.self.view_is)
+    (soon_exactly c.self.inside.overtake (world_of c.self.inside.network) (world_of c.step.new.self) (event_view (instant c.self.inside.network.journal)
+    c.args.event.now) c.step.result
+    c.step.ensures.happens)
+
 pub returns-clause-clock : goal.returns-clause-clock
 returns-clause-clock c =
     rw (← c.self.view_is)
@@ -112,7 +119,8 @@ returns-clause-err c =
     rw (← c.self.view_is)
     (same_seen c.self.inside.overtake (world_of c.self.inside.network) (world_of c.step.new.self) (event_view (instant c.self.inside.network.journal)
     c.args.event.now) c.step.result
-    c.step.ensures.happens (instant c.step.new.self.journal) (instant c.self.inside.network.journal) c.step.ensures.stays c.self.inside.overtake
+    c.step.ensures.happens (instant c.step.new.self.journal) (instant c.self.inside.network.journal) c.step.ensures.stays c.step.new.self.journal.lives
+    c.self.inside.network.journal.lives c.step.ensures.lived c.self.inside.overtake
     c.self.inside.opening.items)
 
 pub returns-clause-settings : goal.returns-clause-settings

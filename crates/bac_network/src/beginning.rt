@@ -1,0 +1,123 @@
+//! Nodes that begin late, and programs that begin where others were.
+ghost use Rattle.std.specs.Prelude.{◌≡◌, ◌+◌, ◌<◌, ◌≤◌, ℕ, OnErr, OnOk, length, true, vec_capacity};
+ghost use Rattle.bac_world.specs.World.{IsBegunAgain, is_quiet};
+ghost use Rattle.bac_world.specs.World.Event.{Begin, BeginAgain};
+ghost use Rattle.bac_journal.specs.Clocks.{restart_at, restarted_own};
+ghost use Rattle.bac_network.specs.Clocks.{instant};
+ghost use Rattle.bac_network.specs.Networks.{world_of, IsReady};
+ghost use Rattle.bac_network.specs.Steps.{Happens};
+
+use crate::fact::Fact;
+use crate::fault::WorldFault;
+use crate::going::replace_node;
+use crate::network::Network;
+use crate::restarting::start_of;
+use bac_store::Store;
+use bac_value::NoMemory;
+use std::alloc::Global;
+
+impl Network {
+    /// A node at which nothing happened begins, with a new clock. It takes no memory.
+    pub(crate) fn begin(&mut self, node: usize) -> Result<(), WorldFault>
+        requires { (window : ℕ) × (overtake : ℕ) × IsReady window overtake self.old }
+        ensures happens { (overtake : ℕ) → Happens overtake (world_of self.old)
+            (Begin node (restart_at self.old.journal.moment self.old.journal.own)) result (world_of self.new) }
+        ensures links { self.new.journal.links ≡ self.old.journal.links }
+        ensures passed { OnOk result (instant self.new.journal
+            ≡ record { moment = self.old.journal.moment; own = restarted_own node self.old.journal.own }) }
+        ensures stays { OnErr result (instant self.new.journal ≡ instant self.old.journal) }
+        ensures lived { OnErr result (self.new.journal.lives ≡ self.old.journal.lives) }
+    {
+        if node >= self.nodes.len() {
+            return Err(WorldFault::NoSuchNode);
+        }
+        if self.journal.is_active(node) {
+            return Err(WorldFault::TooSoon);
+        }
+        self.journal.restart_clock(node);
+        Ok(())
+    }
+
+    /// Another program begins at a node's link, where all is over that its client sent, and the restart enters the log.
+    pub(crate) fn begin_again(
+        &mut self,
+        alloc: Global,
+        node: usize,
+        first_id: u8,
+        store: &Option<Store>,
+    ) -> Result<(), WorldFault>
+        requires { (window : ℕ) × (overtake : ℕ) × IsReady window overtake self.old }
+        ensures happens { (overtake : ℕ) → Happens overtake (world_of self.old)
+            (BeginAgain node (restart_at self.old.journal.moment self.old.journal.own) first_id store.now) result (world_of self.new) }
+        ensures links { self.new.journal.links ≡ self.old.journal.links }
+        ensures passed { OnOk result (instant self.new.journal
+            ≡ record { moment = self.old.journal.moment; own = restarted_own node self.old.journal.own }) }
+        ensures stays { OnErr result (instant self.new.journal ≡ instant self.old.journal) }
+        ensures lived { OnErr result (self.new.journal.lives ≡ self.old.journal.lives) }
+    {
+        if node >= self.nodes.len() {
+            return Err(WorldFault::NoSuchNode);
+        }
+        if !self.journal.is_quiet(node) {
+            return Err(WorldFault::TooSoon);
+        }
+        Ok(self.replace_now(alloc, node, first_id, store)?)
+    }
+
+    /// Another program begins at the link of a node that there is. The log's copy of its store, the node's, and all room are made before anything changes.
+    fn replace_now(
+        &mut self,
+        alloc: Global,
+        node: usize,
+        first_id: u8,
+        store: &Option<Store>,
+    ) -> Result<(), NoMemory>
+        requires there { node < length self.old.nodes.items }
+        requires linked { node < length self.old.journal.links }
+        requires quiet { is_quiet (world_of self.old) node ≡ true }
+        ensures begun { OnOk result (IsBegunAgain (world_of self.old) node
+            (restart_at self.old.journal.moment self.old.journal.own) first_id store.now (world_of self.new)) }
+        ensures err { OnErr result (world_of self.new ≡ world_of self.old) }
+        ensures links { self.new.journal.links ≡ self.old.journal.links }
+        ensures passed { OnOk result (instant self.new.journal
+            ≡ record { moment = self.old.journal.moment; own = restarted_own node self.old.journal.own }) }
+        ensures stays { OnErr result (instant self.new.journal ≡ instant self.old.journal) }
+        ensures lived { OnErr result (self.new.journal.lives ≡ self.old.journal.lives) }
+    {
+        let kept = start_of(alloc, store)?;
+        let given = start_of(alloc, store)?;
+        self.make_room(1, 0)?;
+        self.make_replacement(node, first_id, given, kept)
+    }
+
+    /// The same with that store, and the copy of it enters the log, which has room for it.
+    fn make_replacement(
+        &mut self,
+        node: usize,
+        first_id: u8,
+        given: Option<Store>,
+        kept: Option<Store>,
+    ) -> Result<(), NoMemory>
+        requires there { node < length self.old.nodes.items }
+        requires linked { node < length self.old.journal.links }
+        requires quiet { is_quiet (world_of self.old) node ≡ true }
+        requires kept { kept ≡ given }
+        requires room { length self.old.log.items + 1 ≤ vec_capacity self.old.log }
+        ensures begun { OnOk result (IsBegunAgain (world_of self.old) node
+            (restart_at self.old.journal.moment self.old.journal.own) first_id given (world_of self.new)) }
+        ensures err { OnErr result (world_of self.new ≡ world_of self.old) }
+        ensures links { self.new.journal.links ≡ self.old.journal.links }
+        ensures passed { OnOk result (instant self.new.journal
+            ≡ record { moment = self.old.journal.moment; own = restarted_own node self.old.journal.own }) }
+        ensures stays { OnErr result (instant self.new.journal ≡ instant self.old.journal) }
+        ensures lived { OnErr result (self.new.journal.lives ≡ self.old.journal.lives) }
+    {
+        let now = self.journal.told_at_restart();
+        replace_node(&mut self.nodes, node, now, first_id, given)?;
+        self.journal.act(node);
+        self.journal.restart_clock(node);
+        let fact = Fact::Restarted { node, store: kept };
+        self.log.push_reserved(fact);
+        Ok(())
+    }
+}
