@@ -137,6 +137,6 @@ Lists IsOnListed s f path old new = ByStatus s (AppendsText old new (IsOnListed 
 
 -- the same of a command, if it is to list
 abbrev pub ListsAsAsked : Listings → Task → Status → (old new : Option (List ℕ)) → Type 0
-ListsAsAsked IsOnListed (task.Keep path) s old new = Lists IsOnListed s form.Lines path.now old new
-ListsAsAsked IsOnListed (task.KeepJson path) s old new = Lists IsOnListed s form.Objects path.now old new
+ListsAsAsked IsOnListed (task.Keep path loss) s old new = Lists IsOnListed s form.Lines path.now old new
+ListsAsAsked IsOnListed (task.KeepJson path loss) s old new = Lists IsOnListed s form.Objects path.now old new
 ListsAsAsked IsOnListed _ s old new = ⊤

@@ -51,8 +51,8 @@ IsPerformed IsAt IsOn IsClock IsOnDatabase (task.ServeLooking serving objects) s
     IsServedLooking IsAt (option_map (λ p. p.now) objects) IsOn IsClock s serving old new
 IsPerformed IsAt IsOn IsClock IsOnDatabase (task.ServeKept serving objects path) s old new =
     IsServedKept IsAt (option_map (λ p. p.now) objects) IsOnDatabase IsOn IsClock s serving path.now old new
-IsPerformed IsAt IsOn IsClock IsOnDatabase (task.Keep path) s old new = IsListed s old new
-IsPerformed IsAt IsOn IsClock IsOnDatabase (task.KeepJson path) s old new = IsListed s old new
+IsPerformed IsAt IsOn IsClock IsOnDatabase (task.Keep path loss) s old new = IsListed s old new
+IsPerformed IsAt IsOn IsClock IsOnDatabase (task.KeepJson path loss) s old new = IsListed s old new
 IsPerformed IsAt IsOn IsClock IsOnDatabase (task.Forget forgetting) s old new = IsListed s old new
 IsPerformed IsAt IsOn IsClock IsOnDatabase (task.Ask asking peer words) s old new =
     IsAskedFrom IsAt IsOn IsClock s asking (peer_view peer) (map (λ w. w.now) words.now) old new

@@ -78,8 +78,10 @@ fn perform<F: OpenFiles, M: Machine, O: Write, E: Write>(
             objects,
             path,
         } => serve_kept(environment, &serving, objects, path, out, err),
-        Task::Keep(path) => list_kept(environment, path, ListForm::Lines, out, err),
-        Task::KeepJson(path) => list_kept(environment, path, ListForm::Objects, out, err),
+        Task::Keep { path, loss } => list_kept(environment, path, loss, ListForm::Lines, out, err),
+        Task::KeepJson { path, loss } => {
+            list_kept(environment, path, loss, ListForm::Objects, out, err)
+        }
         Task::Forget(forgetting) => forget_kept(environment, forgetting, out, err),
         Task::Ask {
             asking,

@@ -13,7 +13,7 @@ use crate::online::Machine;
 use crate::part_words::print_about;
 use bac_commands::CommandError;
 use bac_keep::{DatabaseFault, KeepFault};
-use bac_keep_file::{Selection, forget};
+use bac_keep_file::{Loss, Selection, forget};
 use bac_lists::bad_word_text;
 use bac_service_text::{BadWord, Wanted};
 use bac_text::{Status, complain, no_memory, output_failed};
@@ -134,7 +134,7 @@ pub(crate) fn forget_kept<F: OpenFiles, M: Machine, O: Write, E: Write>(
     if let Err(status) = opened(environment.files, path, err) {
         return status;
     }
-    let (mut database, _) = match open_kept(environment.machine, path, err) {
+    let (mut database, _) = match open_kept(environment.machine, path, Loss::Refused, err) {
         Ok(opened) => opened,
         Err(status) => return status,
     };

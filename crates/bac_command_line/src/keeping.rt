@@ -16,10 +16,10 @@ use crate::objects::document_of;
 use crate::online::Machine;
 use crate::part_words::print_about;
 use crate::serving::{Serving, Start, epoch_of, print_listening, print_not_bound, serve_kept_from};
-use bac_commands::{KeptServer, bound_server, clock_unread};
+use bac_commands::{CommandError, KeptServer, bound_server, clock_unread};
 use bac_driver::{Clock, Round};
 use bac_keep::{KeepFault, Keeper, Part};
-use bac_keep_file::{CellKeeper, OpenFault};
+use bac_keep_file::{CellKeeper, Loss, OpenFault};
 use bac_node::NewNodeFault;
 use bac_store::Store as Objects;
 use bac_text::{Status, complain, no_memory};
@@ -35,21 +35,47 @@ fn print_refusal<M: Machine, E: Write>(machine: &M, path: &str, err: &mut E) {
     }
 }
 
+/// What a lost log, or a lost file, means for what is kept.
+fn loss_of(fault: OpenFault) -> Option<(&'static str, &'static str)> {
+    match fault {
+        OpenFault::LogMissing => Some(("-wal", "is missing or empty")),
+        OpenFault::LogCut => Some(("-wal", "is cut off")),
+        OpenFault::LogDamaged => Some(("-wal", "is damaged")),
+        OpenFault::FileMissing => Some(("", "is missing or empty, and its -wal is there")),
+        _ => None,
+    }
+}
+
+/// Tells why the file at a path is not opened.
+fn print_unopened<E: Write>(path: &str, fault: OpenFault, err: &mut E) {
+    // if that fails too, only the status is left
+    let _ = match loss_of(fault) {
+        Some((end, what)) => {
+            let hint = "what was kept last may be lost; to go on with what is left";
+            writeln!(
+                err,
+                "{path}{end} {what}: {hint}, run: bac keep {path} --accept-loss"
+            )
+        }
+        None => writeln!(err, "{path}: {fault}"),
+    };
+}
+
 /// The database of the file at a path, and whether it is new; where it can't be opened, `err` and the status say why.
 pub(crate) fn open_kept<M: Machine, E: Write>(
     machine: &M,
     path: &str,
+    loss: Loss,
     err: &mut E,
 ) -> Result<(M::Database, bool), Status>
     ensures opened { IfOk result (λ r. M.is_database path.now r.1 r.0) }
     ensures told { IfErr result IsStop }
 {
-    match machine.open_database(path) {
+    match machine.open_database(path, loss) {
         Ok((database, is_new)) => Ok((database, is_new)),
         Err(OpenFault::NoMemory) => Err(no_memory(err)),
         Err(fault) => {
-            // if that fails too, only the status is left
-            let _ = writeln!(err, "{path}: {fault}");
+            print_unopened(path, fault, err);
             if matches!(fault, OpenFault::CannotOpen) {
                 print_refusal(machine, path, err);
             }
@@ -163,7 +189,7 @@ fn keeper_over<S: Store + Drop, E: Write>(
     }
 }
 
-/// A node with a store, which a keeper keeps in the file at a path, serves.
+/// A node with a store, which a keeper keeps in the file at a path, serves. Returns the keeper too where the node has served and the keeper has not failed.
 fn serve_round<M: Machine, K: Keeper, O: Write, E: Write>(
     environment: (Global, &M, &str),
     serving: &Serving,
@@ -171,26 +197,28 @@ fn serve_round<M: Machine, K: Keeper, O: Write, E: Write>(
     store: Objects,
     out: &mut O,
     err: &mut E,
-) -> Status
+) -> (Status, Option<K>)
     requires { K.IsHonest (keeper_in round) → IsKept K.IsOpen K.kept K.noted (keeper_in round) store }
-    ensures { IsServedInRounds store (OnPort M.is_bound M.Link.failures M.Link.calls) (OnClock M.is_made M.Timer.told) result serving.now
+    ensures { IsServedInRounds store (OnPort M.is_bound M.Link.failures M.Link.calls) (OnClock M.is_made M.Timer.told) result.0 serving.now
         (EndsWith K.IsHonest K.IsOpen K.kept K.noted K.base (keeper_in round)) (O.contents out.old) (O.contents out.new) }
 {
     let (alloc, machine, path) = environment;
     let (link, address) = match machine.bind(serving.host, serving.port) {
         Ok(bound) => bound,
-        Err(error) => return print_not_bound(serving, &error, err),
+        Err(error) => return (print_not_bound(serving, &error, err), None),
     };
     let Some(mut timer) = machine.timer() else {
-        return clock_unread(err);
+        return (clock_unread(err), None);
     };
     let start = timer.now();
     let objects = store.object_count();
     let restart = serving.restart(start);
     let mut bound_node = match bound_server(alloc, link, address, store, serving.slots, restart) {
         Ok(bound_node) => bound_node,
-        Err(NewNodeFault::BadSlots) => return complain(err, "bad slots", Status::CommandLine),
-        Err(_) => return no_memory(err),
+        Err(NewNodeFault::BadSlots) => {
+            return (complain(err, "bad slots", Status::CommandLine), None);
+        }
+        Err(_) => return (no_memory(err), None),
     };
     serving.set(&mut bound_node);
     let began = Start {
@@ -206,7 +234,30 @@ fn serve_round<M: Machine, K: Keeper, O: Write, E: Write>(
     };
     let status = serve_kept_from(alloc, serving, began, &mut server, out, err);
     print_keep_fault(path, server.fault, err);
-    status
+    match server.fault {
+        None => (status, Some(server.round.into_keeper())),
+        Some(_) => (status, None),
+    }
+}
+
+/// Closes the database of a keeper, if there is one. Where that fails, `err` says why, and the status is `Output`, unless the one before was bad.
+fn close_kept<M: Machine, E: Write>(
+    machine: &M,
+    path: &str,
+    ended: (Status, Option<CellKeeper<M::Database>>),
+    err: &mut E,
+) -> Status {
+    let (status, Some(keeper)) = ended else {
+        return ended.0;
+    };
+    match machine.close_database(keeper.into_database()) {
+        Ok(()) => status,
+        Err(fault) => {
+            let failed = CommandError::Keep(fault).report(err);
+            print_keep_fault(path, Some(fault), err);
+            if status == Status::Done { failed } else { status }
+        }
+    }
 }
 
 /// A node serves with the store that a database, which may be new, makes over a document.
@@ -226,7 +277,7 @@ fn serve_database<M: Machine, O: Write, E: Write>(
     if let Err(error) = machine.bind(serving.host, serving.port) {
         return print_not_bound(serving, &error, err);
     }
-    let (database, is_new) = match open_kept(machine, path, err) {
+    let (database, is_new) = match open_kept(machine, path, Loss::Refused, err) {
         Ok(opened) => opened,
         Err(status) => return status,
     };
@@ -239,7 +290,8 @@ fn serve_database<M: Machine, O: Write, E: Write>(
     };
     let serving = serving.restarted_by(is_new);
     let environment = (alloc, machine, path);
-    serve_round(environment, &serving, round, store, out, err)
+    let ended = serve_round(environment, &serving, round, store, out, err);
+    close_kept(machine, path, ended, err)
 }
 
 /// A node whose store the file at a path keeps serves, with the house or the objects of a document below what is kept. Where the file had a table of cells, the

@@ -15,7 +15,7 @@ use crate::keeping::{open_kept, print_not_kept};
 use crate::online::Machine;
 use crate::part_words::part_words;
 use bac_keep::{Cell, Part};
-use bac_keep_file::kept_cells;
+use bac_keep_file::{Loss, kept_cells};
 use bac_keep_json::{KeptPart, print_cell_object};
 use bac_text::{Status, output_failed};
 use bac_value::{NoMemory, ObjectIdentifier, read_data};
@@ -213,6 +213,7 @@ pub(crate) fn print_cells<O: Write>(
 pub(crate) fn list_kept<F: OpenFiles, M: Machine, O: Write, E: Write>(
     environment: &Environment<'_, F, M>,
     path: &str,
+    loss: Loss,
     form: ListForm,
     out: &mut O,
     err: &mut E,
@@ -224,7 +225,7 @@ pub(crate) fn list_kept<F: OpenFiles, M: Machine, O: Write, E: Write>(
     if let Err(status) = opened(environment.files, path, err) {
         return status;
     }
-    let (mut database, _) = match open_kept(environment.machine, path, err) {
+    let (mut database, _) = match open_kept(environment.machine, path, loss, err) {
         Ok(opened) => opened,
         Err(status) => return status,
     };

@@ -17,7 +17,8 @@ use crate::serving::{Serving, Start, epoch_of, print_listening, print_not_bound,
 use crate::station::Station;
 use bac_commands::{Style, bound_house, bound_server, clock_unread, read_question};
 use bac_driver::{Clock, Link, Question};
-use bac_keep_file::OpenFault;
+use bac_keep::KeepFault;
+use bac_keep_file::{Loss, OpenFault};
 use bac_lists::{LOCAL_HOST, print_bad_words};
 use bac_node::NewNodeFault;
 use bac_npdu::{LinkAddress, Peer};
@@ -67,8 +68,11 @@ pub trait Machine {
 
     /// The database of the file at a path, which is made if it is missing, and whether it is new: it had no tables. While it is open, no other process can
     /// open it. The faults are those of `bac_keep_file::open`.
-    fn open_database(&self, path: &str) -> Result<(Self::Database, bool), OpenFault>
+    fn open_database(&self, path: &str, loss: Loss) -> Result<(Self::Database, bool), OpenFault>
         ensures { IfOk result (λ r. Self.is_database path.now r.1 r.0) };
+
+    /// Closes a database, whose file is whole then: a copy of it alone has all that is kept. The fault is that of the database.
+    fn close_database(&self, database: Self::Database) -> Result<(), KeepFault>;
 
     /// Why the system refuses to open the file at a path for reading and writing, or to make it if it is missing; None where it does neither, or tells no reason.
     fn refusal_of_database(&self, _path: &str) -> Option<io::Error> {

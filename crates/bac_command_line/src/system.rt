@@ -10,7 +10,8 @@ use crate::client_pair::{ClientPair, pair_at};
 use crate::files::OpenFiles;
 use crate::online::Machine;
 use bac_driver::{MonotonicClock, UdpLink};
-use bac_keep_file::{KeptFile, OpenFault};
+use bac_keep::KeepFault;
+use bac_keep_file::{Checkpoint, KeptFile, Loss, OpenFault};
 use bac_npdu::LinkAddress;
 use mio::unix::SourceFd;
 use mio::{Events, Interest, Poll, Token};
@@ -190,8 +191,12 @@ impl<'a> Machine for System<'a, HostRuntime> {
         }
     }
 
-    fn open_database(&self, path: &str) -> Result<(KeptFile, bool), OpenFault> {
-        bac_keep_file::open(self.runtime, path)
+    fn open_database(&self, path: &str, loss: Loss) -> Result<(KeptFile, bool), OpenFault> {
+        bac_keep_file::open(self.runtime, path, loss)
+    }
+
+    fn close_database(&self, mut database: KeptFile) -> Result<(), KeepFault> {
+        database.make_whole()
     }
 
     /// That of opening it so.

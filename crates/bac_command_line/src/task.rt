@@ -10,6 +10,7 @@ use crate::selecting::{chart_of, options_of};
 use crate::serving::Serving;
 use crate::serving_words::serving_of;
 use bac_explain_report::{ChartOptions, ReportOptions};
+use bac_keep_file::Loss;
 use bac_npdu::Peer;
 use bac_simulate::View;
 use bac_words::Telling;
@@ -92,9 +93,9 @@ pub(crate) enum Task<'m, 'a> {
         path: &'a str,
     },
     /// What the file at this path keeps.
-    Keep(&'a str),
+    Keep { path: &'a str, loss: Loss },
     /// The same as objects of JSON.
-    KeepJson(&'a str),
+    KeepJson { path: &'a str, loss: Loss },
     /// That the file at a path forgets something.
     Forget(Forgetting<'a>),
     /// The request that some words are.
@@ -257,10 +258,15 @@ pub(crate) fn task_of<'m, 'a>(
                     property,
                 }));
             }
+            let loss = if given.get_flag("accept-loss") {
+                Loss::Accepted
+            } else {
+                Loss::Refused
+            };
             if given.get_flag("json") {
-                return Some(Task::KeepJson(path));
+                return Some(Task::KeepJson { path, loss });
             }
-            Some(Task::Keep(path))
+            Some(Task::Keep { path, loss })
         }
         ("ask", given) if bad_pace(given).is_some() => None,
         ("ask", given) => {

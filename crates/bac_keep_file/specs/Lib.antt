@@ -1,5 +1,6 @@
 pub mod Faults
 pub mod Forgotten
+pub mod Idle
 pub mod Made
 pub mod Refused
 pub mod Rows

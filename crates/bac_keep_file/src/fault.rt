@@ -19,6 +19,18 @@ pub enum OpenFault {
     /// The file is a database of something else.
     #[error("a database of something else")]
     Foreign,
+    /// The log, the file beside it whose name ends in `-wal`, is missing or empty.
+    #[error("its log is missing")]
+    LogMissing,
+    /// The log ends before what it had.
+    #[error("its log is cut off")]
+    LogCut,
+    /// The log is damaged in front, or before its last commit.
+    #[error("its log is damaged")]
+    LogDamaged,
+    /// The file is missing or empty, and its log is there.
+    #[error("it is missing or empty, and its log is there")]
+    FileMissing,
     /// The file can't be opened or made.
     #[error("it cannot be opened; a file wanted, or a new one in a folder that may be written")]
     CannotOpen,

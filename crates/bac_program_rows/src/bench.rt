@@ -8,7 +8,8 @@ use crate::files::copy_front;
 use crate::scene::{BenchClock, Scene, Setup};
 use bac_command_line::{ClientPair, Machine};
 use bac_driver::{Link, LinkFault};
-use bac_keep_file::OpenFault;
+use bac_keep::KeepFault;
+use bac_keep_file::{Checkpoint, Loss, OpenFault};
 use sqlite_trees::memory::MemStore;
 use std::alloc::Global;
 use std::cell::Cell;
@@ -253,8 +254,12 @@ impl<'a> Machine for BenchMachine<'a> {
         }
     }
 
-    fn open_database(&self, path: &str) -> Result<(MemStore, bool), OpenFault> {
-        database_at(self.alloc, self.setup, path)
+    fn open_database(&self, path: &str, loss: Loss) -> Result<(MemStore, bool), OpenFault> {
+        database_at(self.alloc, self.setup, path, loss)
+    }
+
+    fn close_database(&self, mut database: MemStore) -> Result<(), KeepFault> {
+        database.make_whole()
     }
 
     /// From the first look on.

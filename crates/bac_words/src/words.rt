@@ -516,7 +516,8 @@ const KEEP_EXAMPLES: &str = "\
 Example: bac keep plant.db
 Example: bac keep plant.db --forget analog-value:1 present-value
 Example: bac keep plant.db --forget file:1
-Example: bac keep plant.db --json";
+Example: bac keep plant.db --json
+Example: bac keep copy.db --accept-loss";
 
 /// What `keep` takes.
 const KEEP: &[Word] = &[
@@ -526,6 +527,13 @@ const KEEP: &[Word] = &[
         need: Need::Always,
         against: &[],
         help: "The file that a server was given with --keep, and which no server has open",
+    },
+    Word {
+        name: "accept-loss",
+        form: WordForm::Flag,
+        need: Need::Never,
+        against: &["forget"],
+        help: "Goes on without what is lost where FILE-wal is missing, cut off or damaged, or where FILE is a copy alone: takes what is left, and prints it",
     },
     Word {
         name: "forget",
