@@ -23,6 +23,7 @@ use crate::online::Machine;
 use crate::reasons::print_no_task;
 use crate::task::{Task, task_of};
 use crate::telling::tell;
+use crate::told::{Told, is_brief};
 use crate::{file_words, online};
 use bac_text::{Status, no_memory};
 use bac_words::{Telling, matches};
@@ -109,7 +110,8 @@ fn asks_version(words: &[String]) -> bool {
 
 /// Does what the words of a command line ask for; the first word is the program's name. `--version` alone does what the command `version` does.
 ///
-/// Words of no form: clap's text on `err`, and `CommandLine`. Out of memory: `no memory` on `err`.
+/// Words of no form: clap's text on `err`, and `CommandLine`. Out of memory: `no memory` on `err`. Where a brief command line fails and standard error is no
+/// terminal, `err` gets one line; otherwise what went wrong, and why.
 pub fn run<F: OpenFiles, M: Machine, O: Write, E: Write>(
     alloc: Global,
     words: &[String],
@@ -135,8 +137,11 @@ pub fn run<F: OpenFiles, M: Machine, O: Write, E: Write>(
         files,
         machine,
     };
-    match task_of(&matches, machine.shows_progress()) {
-        Some(task) => perform(&environment, task.from_source(machine), out, err),
-        None => print_no_task(&matches, err),
+    let is_terminal = machine.shows_progress();
+    let tells_why = is_terminal || !is_brief(&matches);
+    let mut told = Told::new(err, tells_why);
+    match task_of(&matches, is_terminal, tells_why) {
+        Some(task) => perform(&environment, task.from_source(machine), out, &mut told),
+        None => print_no_task(&matches, &mut told),
     }
 }

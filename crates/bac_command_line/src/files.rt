@@ -134,6 +134,8 @@ pub(crate) struct CaptureFile<'a> {
     pub path: &'a str,
     /// A UDP port beside those of BACnet/IP whose datagrams are read too.
     pub port: Option<u16>,
+    /// Whether a hint is told of a file that begins as no capture.
+    pub reasons: bool,
 }
 
 impl CaptureFile<'_> {
@@ -155,7 +157,7 @@ pub(crate) struct ScriptFile<'a> {
     pub path: &'a str,
     /// Whether notes are taken.
     pub notes: bool,
-    /// Whether more is told of a bad line than that it is one, also where that is not wanted in words: on a terminal.
+    /// Whether more is told of a bad line than that it is one.
     pub reasons: bool,
 }
 
@@ -204,7 +206,7 @@ fn print_no_capture<E: Write>(is_none: bool, status: Status, path: &str, err: &m
 }
 
 /// Checks the capture in a file: one of pcap or pcapng, or of lines; in words, with counts of other functions by name, or not. A file that cannot be opened or read on:
-/// `cannot read` on `err`, and why. Of a file that begins as no capture `err` has a hint.
+/// `cannot read` on `err`, and why. Of a file that begins as no capture `err` has a hint, where reasons are told.
 pub(crate) fn check<F: OpenFiles, O: Write, E: Write>(
     alloc: Global,
     files: &F,
@@ -218,7 +220,7 @@ pub(crate) fn check<F: OpenFiles, O: Write, E: Write>(
     match reader_of(alloc, files, capture.path, err) {
         Ok(mut input) => {
             let ports = Ports { also: capture.port };
-            let is_none = begins_as_none(alloc, &mut input);
+            let is_none = begins_as_none(alloc, &mut input) && capture.reasons;
             let status = check_capture_over(alloc, &mut input, ports, in_words, out, err);
             print_no_capture(is_none, status, capture.path, err);
             print_unfit(status, capture.path, input.get_ref(), None, err);

@@ -47,6 +47,7 @@ mod station;
 mod system;
 mod task;
 mod telling;
+mod told;
 mod unsent;
 mod watched;
 mod whole_files;

@@ -139,10 +139,14 @@ fn view_of(given: &ArgMatches<'_>) -> Option<View> {
 }
 
 /// The file of a capture, with the port that is given. None where no file is.
-fn capture_of<'a>(given: &ArgMatches<'a>) -> Option<CaptureFile<'a>> {
+fn capture_of<'a>(given: &ArgMatches<'a>, tells_why: bool) -> Option<CaptureFile<'a>> {
     let path = given.get_str("FILE")?;
     let port = given.get_one("port");
-    Some(CaptureFile { path, port })
+    Some(CaptureFile {
+        path,
+        port,
+        reasons: tells_why,
+    })
 }
 
 impl<'m, 'a> Task<'m, 'a> {
@@ -168,10 +172,11 @@ impl<'m, 'a> Task<'m, 'a> {
 }
 
 /// None where there is no subcommand, or its word is missing; clap refuses such words itself. Also where an address is none of IPv4. On a terminal
-/// the progress of asks is shown, and what is wrong with a line of a script.
+/// the progress of asks is shown. Where the command line tells why it fails, so does the task.
 pub(crate) fn task_of<'m, 'a>(
     matches: &'m ArgMatches<'a>,
     is_terminal: bool,
+    tells_why: bool,
 ) -> Option<Task<'m, 'a>> {
     match matches.subcommand()? {
         ("answer", given) => {
@@ -200,14 +205,16 @@ pub(crate) fn task_of<'m, 'a>(
             let in_words = given.get_flag("text");
             Some(Task::CheckLines { in_words, path })
         }
-        ("check", given) if given.get_flag("json") => Some(Task::CheckJson(capture_of(given)?)),
+        ("check", given) if given.get_flag("json") => {
+            Some(Task::CheckJson(capture_of(given, tells_why)?))
+        }
         ("check", given) => {
-            let capture = capture_of(given)?;
+            let capture = capture_of(given, tells_why)?;
             let in_words = given.get_flag("text");
             Some(Task::Check { in_words, capture })
         }
         ("explain", given) => {
-            let capture = capture_of(given)?;
+            let capture = capture_of(given, tells_why)?;
             if let Some(options) = chart_of(given) {
                 return Some(Task::Chart { options, capture });
             }
@@ -226,7 +233,7 @@ pub(crate) fn task_of<'m, 'a>(
             let script = ScriptFile {
                 path,
                 notes,
-                reasons: is_terminal || notes,
+                reasons: tells_why,
             };
             match view_of(given) {
                 Some(view) => Some(Task::Show { view, script }),
