@@ -193,7 +193,7 @@ fn object_of(alloc: Global, ask: &AskRecord<'_, '_, '_>) -> Result<Json, NoMemor
     Ok(ask_object(alloc, ask.name, asked, end, answer)?)
 }
 
-/// Prints an ask as one object of JSON on a line, whose members docs/COMMANDS.md ("JSON") lists. An Err is the writer's, or out of memory.
+/// Prints an ask as one object of JSON on a line, whose members docs/FORMATS.md ("JSON") lists. An Err is the writer's, or out of memory.
 pub fn print_ask_object<W: Write>(
     alloc: Global,
     ask: &AskRecord<'_, '_, '_>,

@@ -1,6 +1,6 @@
 //! What the plain lines say, as JSON: values, requests, replies, and the layers of datagrams.
 //!
-//! Each function returns values of serde_json, whose members its definition in specs/ lists; docs/COMMANDS.md ("JSON") has them in a table. Texts in
+//! Each function returns values of serde_json, whose members its definition in specs/ lists; docs/FORMATS.md ("JSON") has them in a table. Texts in
 //! them are those that the plain lines print.
 #![tactic(auto)]
 
