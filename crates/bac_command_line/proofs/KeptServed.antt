@@ -48,7 +48,7 @@ pub served_so : {K B : Type 0} (IsHonest IsOpen : K → Type 0) (kept noted : K 
     (serving : Serving) (start : ℕ) (restart : Option ℕ) (address : Octets) (before after : Timed) (old new : Option (List ℕ)) (s : Status)
     → restart ≡ restart_of serving.restarted start → before.bound_node.node ≡ server_node serving.slots restart address store
     → IsOn serving.host serving.port address before.bound_node.failures before.bound_node.calls → HasTold IsClock start before.told
-    → before.bound_node.reuse ≡ serving.reuse → ByStatus s (RoundsText (patience_of serving start) (turns_of serving.turns) before after old new) ⊥ ⊥
+    → before.bound_node.rules ≡ serving.rules → ByStatus s (RoundsText (patience_of serving start) (turns_of serving.turns) before after old new) ⊥ ⊥
     → IsKeptByStatus s IsHonest IsOpen kept noted last after.bound_node.node.store → (IsHonest last → IsHonest first) → base last ≡ base first
     → IsServedInRounds store IsOn IsClock s serving (EndsWith IsHonest IsOpen kept noted base first) old new
 served_so IsHonest IsOpen kept noted base first last IsOn IsClock store serving start restart address before after old new s restarts node on clock reuse reports all
@@ -66,7 +66,7 @@ served_so IsHonest IsOpen kept noted base first last IsOn IsClock store serving 
           start = start;
           before = before;
           after = after;
-          node = record { address = address; node = node_is; reuse_is = reuse; on = on };
+          node = record { address = address; node = node_is; rules_are = reuse; on = on };
           clock = clock;
           text = text;
           ends = record { last = last; honest = honest; same_base = same_base; all = kept_all };

@@ -17,7 +17,7 @@ pub served_so : (IsOn : Links) (IsClock : Clocks) (store : Store) (serving : Ser
     (turns : ℕ) (before after : Timed) (old new : Option (List ℕ)) (s : Status) → restart ≡ restart_of serving.restarted start
     → p ≡ patience_of serving start → turns ≡ turns_of serving.turns → before.bound_node.node ≡ server_node serving.slots restart address store
     → IsOn serving.host serving.port address before.bound_node.failures before.bound_node.calls → HasTold IsClock start before.told
-    → before.bound_node.reuse ≡ serving.reuse → ReportsServing s p turns before after old new → IsServedBy store IsOn IsClock s serving old new
+    → before.bound_node.rules ≡ serving.rules → ReportsServing s p turns before after old new → IsServedBy store IsOn IsClock s serving old new
 served_so IsOn IsClock store serving start restart address p turns before after old new s restarts waits most node on clock reuse reports =
     lifted s served (λ (no : ⊥). absurd no) (λ (no : ⊥). absurd no) reports where
       node_is : before.bound_node.node ≡ server_node serving.slots (restart_of serving.restarted start) address store
@@ -29,7 +29,7 @@ served_so IsOn IsClock store serving start restart address p turns before after 
             start = start;
             before = before;
             after = after;
-            node = record { address = address; node = node_is; reuse_is = reuse; on = on };
+            node = record { address = address; node = node_is; rules_are = reuse; on = on };
             clock = clock;
             text =
                 subst (λ (n : ℕ). ServedText (patience_of serving start) n before after old new) most
@@ -40,14 +40,14 @@ served_so IsOn IsClock store serving start restart address p turns before after 
 pub station_so : (IsOn : Links) (IsClock : Clocks) (store : Store) (serving : Serving) (start : ℕ) (restart : Option ℕ) (address : Octets) (server : Timed)
     → restart ≡ restart_of serving.restarted start → server.bound_node.node ≡ server_node serving.slots restart address store
     → IsOn serving.host serving.port address server.bound_node.failures server.bound_node.calls → HasTold IsClock start server.told
-    → server.bound_node.reuse ≡ serving.reuse → IsServer IsOn IsClock serving store start server
+    → server.bound_node.rules ≡ serving.rules → IsServer IsOn IsClock serving store start server
 station_so IsOn IsClock store serving start restart address server restarts node on clock reuse =
     record {
       node =
           record {
             address = address;
             node = subst (λ (r : Option ℕ). server.bound_node.node ≡ server_node serving.slots r address store) restarts node;
-            reuse_is = reuse;
+            rules_are = reuse;
             on = on;
           };
       clock = clock;

@@ -11,9 +11,9 @@ use Rattle.bac_lists.specs.Addresses.{is_of_node}
 use Rattle.bac_commands.specs.declared.log_level.LogLevel.{LogLevel}
 use Rattle.bac_commands.specs.declared.log_level.LogLevel.TheVariants as level
 use Rattle.bac_node.specs.declared.memory.TheConstants.{MEMORY}
-use Rattle.bac_node.specs.declared.reuse.Reuse.{Reuse}
+use Rattle.bac_transaction.specs.declared.rules.Rules.{Rules}
 use Rattle.bac_command_line.specs.Given.{IsFlag, IsNumber, text_of, words_text}
-use Rattle.bac_command_line.specs.Serving.{is_reusing, reuse_of}
+use Rattle.bac_command_line.specs.Serving.{is_reusing, rules_by}
 use Rattle.bac_command_line.specs.declared.serving.Serving.{Serving}
 
 -- ---- the address
@@ -69,16 +69,6 @@ pub record AreSlots (given : ArgMatches) (turns : Option ℕ) (slots : ℕ) : Ty
 
 -- ---- invoke IDs
 
--- whether it lets clients use them again, and for how long it then remembers a request
-pub record IsReuse (given : ArgMatches) (turns : Option ℕ) (reuse : Reuse) : Type 0 where
-  pub told : Bool
-  pub strict : Bool
-  pub remember : Option ℕ
-  pub told_is : IsFlag given (codes "reuse") told
-  pub strict_is : IsFlag given (codes "strict") strict
-  pub remember_is : IsNumber given (codes "remember") remember
-  pub is : reuse ≡ reuse_of (is_reusing turns told strict) remember
-
 -- it is to remember requests, and does not let clients use them again
 pub record IsInVain (given : ArgMatches) (is : Bool) : Type 0 where
   pub turns : Option ℕ
@@ -125,6 +115,20 @@ abbrev pub memory_given : (text : Option (List ℕ)) → Option ℕ
 memory_given None = Some MEMORY
 memory_given (Some text) = memory_named text
 
+-- ---- its rules
+
+-- whether it lets clients use invoke IDs again, for how long it then remembers a request, and how many octets it keeps at the most
+pub record IsRules (given : ArgMatches) (turns : Option ℕ) (rules : Rules) : Type 0 where
+  pub told : Bool
+  pub strict : Bool
+  pub remember : Option ℕ
+  pub memory : ℕ
+  pub told_is : IsFlag given (codes "reuse") told
+  pub strict_is : IsFlag given (codes "strict") strict
+  pub remember_is : IsNumber given (codes "remember") remember
+  pub memory_is : memory_given (words_text given (codes "memory")) ≡ Some memory
+  pub is : rules ≡ rules_by (is_reusing turns told strict) remember memory
+
 -- ---- its log
 
 abbrev pub level_named : (word : List ℕ) → Option LogLevel
@@ -145,8 +149,7 @@ pub record IsServing (given : ArgMatches) (s : Serving) : Type 0 where
   pub seconds : IsNumber given (codes "seconds") s.seconds
   pub slots : AreSlots given s.turns s.slots
   pub restarted : IsFlag given (codes "restarted") s.restarted
-  pub reuse : IsReuse given s.turns s.reuse
-  pub memory : memory_given (words_text given (codes "memory")) ≡ Some s.memory
+  pub rules : IsRules given s.turns s.rules
   pub log : IsFlag given (codes "log") s.log
   pub level : s.level ≡ level_given (words_text given (codes "log-level"))
   pub json : IsFlag given (codes "json") s.json

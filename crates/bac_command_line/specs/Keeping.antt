@@ -73,7 +73,7 @@ pub record ServesStore (store : Store) (IsOn : Links) (IsClock : Clocks) (servin
   pub before : Timed
   pub after : Timed
   pub node :
-      IsAt IsOn serving.host serving.port (λ address. server_node serving.slots (restart_of serving.restarted start) address store) serving.reuse
+      IsAt IsOn serving.host serving.port (λ address. server_node serving.slots (restart_of serving.restarted start) address store) serving.rules
       before.bound_node
   pub clock : HasTold IsClock start before.told
   pub text : RoundsText (patience_of serving start) (turns_of serving.turns) before after old new

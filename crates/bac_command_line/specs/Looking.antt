@@ -84,7 +84,7 @@ pub record TakesStretches (stop : Stop) (effects : ℕ) (old new : Timed) : Type
 -- a node with that store, on a link that was bound, beside a clock that was made and told that moment
 pub record IsServer (IsOn : Links) (IsClock : Clocks) (serving : Serving) (store : Store) (start : ℕ) (server : Timed) : Type 0 where
   pub node :
-      IsAt IsOn serving.host serving.port (λ address. server_node serving.slots (restart_of serving.restarted start) address store) serving.reuse
+      IsAt IsOn serving.host serving.port (λ address. server_node serving.slots (restart_of serving.restarted start) address store) serving.rules
       server.bound_node
   pub clock : HasTold IsClock start server.told
 

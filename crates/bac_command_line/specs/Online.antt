@@ -1,10 +1,10 @@
 -- What `serve`, `ask` and `pair` print, and their statuses: over links that the machine bound to the address of the command, and beside a clock that it made,
 -- bac_commands' promise holds.
-use Rattle.std.specs.Prelude.{◌≡◌, ℕ, Bool, true, false, List, Option}
+use Rattle.std.specs.Prelude.{◌≡◌, ℕ, Bool, true, false, List, Option, Some}
 use Rattle.std.specs.Io.KnownBytes.{Keeps}
 use Rattle.bac_protocol.specs.Service.{Octets}
-use Rattle.bac_node.specs.declared.reuse.Reuse.{Reuse}
-use Rattle.bac_node.specs.declared.reuse.Reuse.TheVariants as setting
+use Rattle.bac_transaction.specs.Given.{STRICTLY}
+use Rattle.bac_transaction.specs.declared.rules.Rules.{Rules}
 use Rattle.bac_driver.specs.Calls.{Calls}
 use Rattle.bac_driver.specs.Moments.{Told, with_moment}
 use Rattle.bac_driver.specs.Udp.{LOCAL_HOST}
@@ -53,22 +53,26 @@ Clocks = Told → Type 0
 abbrev pub FREE : ℕ
 FREE = 0
 
+-- the rules of a node that asks
+abbrev pub CLIENTS : Rules
+CLIENTS = record STRICTLY { memory = Some 67108864 }
+
 -- a node on a link at a port: that node, by its address, with that setting of whether it lets clients use an invoke ID again, and for how long
 -- it then remembers a request
-pub record IsAt (IsOn : Links) (host : Octets) (port : ℕ) (node_at : (address : Octets) → Node) (reuse : Reuse) (bound_node : BoundNode) : Type 0 where
+pub record IsAt (IsOn : Links) (host : Octets) (port : ℕ) (node_at : (address : Octets) → Node) (rules : Rules) (bound_node : BoundNode) : Type 0 where
   pub address : Octets
   pub node : bound_node.node ≡ node_at address
-  pub reuse_is : bound_node.reuse ≡ reuse
+  pub rules_are : bound_node.rules ≡ rules
   pub on : IsOn host port address bound_node.failures bound_node.calls
 
 -- one with the house store, to which nothing has happened, at any free port; its invoke IDs begin at that one
 abbrev pub IsHouseAt : Links → (host : Octets) → (first_id : ℕ) → BoundNode → Type 0
-IsHouseAt IsOn host first_id bound_node = IsAt IsOn host FREE (house_node first_id) setting.Never bound_node
+IsHouseAt IsOn host first_id bound_node = IsAt IsOn host FREE (house_node first_id) CLIENTS bound_node
 
 -- one that asks for lists
 pub record IsClientAt (IsOn : Links) (host : Octets) (first_id : ℕ) (bound_node : BoundNode) : Type 0 where
   pub port : ℕ
-  pub at : IsAt IsOn host port (client_node first_id) setting.Never bound_node
+  pub at : IsAt IsOn host port (client_node first_id) CLIENTS bound_node
 
 -- its invoke IDs begin anywhere
 pub record IsClient (IsOn : Links) (host : Octets) (bound_node : BoundNode) : Type 0 where
@@ -89,7 +93,7 @@ pub record Serves (store : Store) (IsOn : Links) (IsClock : Clocks) (serving : S
   pub before : Timed
   pub after : Timed
   pub node :
-      IsAt IsOn serving.host serving.port (λ address. server_node serving.slots (restart_of serving.restarted start) address store) serving.reuse
+      IsAt IsOn serving.host serving.port (λ address. server_node serving.slots (restart_of serving.restarted start) address store) serving.rules
       before.bound_node
   pub clock : HasTold IsClock start before.told
   pub text : ServedText (patience_of serving start) (turns_of serving.turns) before after old new

@@ -3,9 +3,8 @@ use Rattle.std.specs.Prelude.{ℕ, ◌+◌, ◌*◌, min, Bool, true, false, not
 use Rattle.std.specs.Option.{option_map}
 use Rattle.bac_driver.specs.Waits.{MOST}
 use Rattle.bac_driver.specs.declared.wait_limit.WaitLimit.{WaitLimit}
-use Rattle.bac_node.specs.Remembering.{as_ever}
-use Rattle.bac_node.specs.declared.reuse.Reuse.{Reuse}
-use Rattle.bac_node.specs.declared.reuse.Reuse.TheVariants as setting
+use Rattle.bac_transaction.specs.Given.{ANEW, STRICTLY}
+use Rattle.bac_transaction.specs.declared.rules.Rules.{Rules}
 use Rattle.bac_command_line.specs.declared.serving.Serving.{Serving}
 
 -- how long its turns wait: 100 ms where it takes so many, otherwise until something is due
@@ -33,8 +32,8 @@ abbrev pub is_reusing : (turns : Option ℕ) → (is_told is_strict : Bool) → 
 is_reusing None is_told is_strict = not is_strict
 is_reusing (Some turns) is_told is_strict = is_told
 
--- and then it remembers a request for so many seconds, where they are given
-abbrev pub reuse_of : (is_reusing : Bool) → (seconds : Option ℕ) → Reuse
-reuse_of true (Some seconds) = setting.Remembering (min (seconds * 1000) MOST)
-reuse_of true None = as_ever true
-reuse_of false seconds = as_ever false
+-- its rules, where it keeps so many octets at the most; it then remembers a request for so many seconds, where they are given
+abbrev pub rules_by : (is_reusing : Bool) → (seconds : Option ℕ) → (memory : ℕ) → Rules
+rules_by true (Some seconds) memory = record ANEW { remember = Some (min (seconds * 1000) MOST); memory = Some memory }
+rules_by true None memory = record ANEW { memory = Some memory }
+rules_by false seconds memory = record STRICTLY { memory = Some memory }

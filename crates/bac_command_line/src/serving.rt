@@ -19,9 +19,9 @@ use bac_commands::{
 use bac_driver::{BoundNode, Clock, Link, NoObserver, RunLimit, WaitLimit};
 use bac_keep::Keeper;
 use bac_log_json::LogEvent;
-use bac_node::Reuse;
 use bac_npdu::LinkAddress;
 use bac_text::Status;
+use bac_transaction::Rules;
 use std::alloc::{AllocError, Global};
 use std::io;
 use std::io::Write;
@@ -44,10 +44,8 @@ pub(crate) struct Serving {
     pub slots: usize,
     /// Whether it served before, and lost what it remembered.
     pub restarted: bool,
-    /// Whether it lets clients use an invoke ID again as soon as its transaction is over, and for how long it then remembers a request.
-    pub reuse: Reuse,
-    /// How many octets of service data it keeps for those that ask it.
-    pub memory: usize,
+    /// The rules by which it serves.
+    pub rules: Rules,
     /// Whether its turns are logged, all of them.
     pub log: bool,
     /// Which of its turns are logged, with long octets by their first ones.
@@ -122,13 +120,9 @@ impl Serving {
 
     /// A bound node is set as it says.
     pub(crate) fn set<L: Link>(&self, bound_node: &mut BoundNode<L>)
-        ensures { bound_node.new ≡ record bound_node.old { reuse = self.now.reuse } }
+        ensures { bound_node.new ≡ record bound_node.old { rules = self.now.rules } }
     {
-        bound_node.set_memory(self.memory);
-        match self.reuse {
-            Reuse::Never => bound_node.set_reuse(false),
-            Reuse::Remembering(remember) => bound_node.set_remember(remember),
-        }
+        bound_node.set_rules(self.rules);
     }
 
     /// Its log, where it begins then.

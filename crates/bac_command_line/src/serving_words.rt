@@ -2,14 +2,15 @@
 ghost use Rattle.std.specs.Prelude.{◌≡◌, codes, None, IfSome, MatchOption};
 ghost use Rattle.std.specs.Option.{option_map};
 ghost use Rattle.bac_command_line.specs.Given.{words_text};
-ghost use Rattle.bac_command_line.specs.GivenServing.{AreSlots, IsGivenPort, IsHost, IsHostText, IsInVain, IsNoHost, IsPort, IsRefused, IsReuse, IsServing, digits_before, level_given, level_named, memory_given, memory_named, slots_without, times, with_unit, within, without_plus};
-ghost use Rattle.bac_command_line.specs.Serving.{is_reusing, reuse_of};
+ghost use Rattle.bac_command_line.specs.GivenServing.{AreSlots, IsGivenPort, IsHost, IsHostText, IsInVain, IsNoHost, IsPort, IsRefused, IsRules, IsServing, digits_before, level_given, level_named, memory_given, memory_named, slots_without, times, with_unit, within, without_plus};
+ghost use Rattle.bac_command_line.specs.Serving.{is_reusing, rules_by};
 
 use crate::asking::{flag_of, number_of};
 use crate::serving::Serving;
 use bac_commands::LogLevel;
 use bac_lists::{BACNET_PORT, LOCAL_HOST, is_of_node, read_host};
-use bac_node::{MEMORY, Reuse};
+use bac_node::MEMORY;
+use bac_transaction::Rules;
 use bac_value_text::{number_in, parts_at};
 use clap::ArgMatches;
 
@@ -66,24 +67,33 @@ fn is_reusing(turns: Option<u64>, is_told: bool, is_strict: bool) -> bool
     }
 }
 
-/// The same, and for how long it then remembers a request, where that is given in seconds.
-fn reuse_by(is_reusing: bool, seconds: Option<u64>) -> Reuse
-    ensures { result ≡ reuse_of is_reusing seconds }
+/// The rules of such a server, which keeps so many octets at the most: for how long it then remembers a request, where that is given in seconds.
+fn rules_by(is_reusing: bool, seconds: Option<u64>, memory: usize) -> Rules
+    ensures { result ≡ rules_by is_reusing seconds memory }
 {
+    let rules = Rules::of(is_reusing).within(memory);
     match seconds {
-        Some(seconds) if is_reusing => Reuse::Remembering(seconds.saturating_mul(1_000)),
-        _ => Reuse::of(is_reusing),
+        Some(seconds) if is_reusing => Rules {
+            remember: Some(seconds.saturating_mul(1_000)),
+            ..rules
+        },
+        _ => rules,
     }
 }
 
-/// The same by the words, of a server that takes so many turns.
-fn reuse_of(given: &ArgMatches<'_>, turns: Option<u64>) -> Reuse
-    ensures { IsReuse given.now turns result }
+/// The same by the words, of a server that takes so many turns. None where what is given is no number of octets.
+fn rules_of(given: &ArgMatches<'_>, turns: Option<u64>) -> Option<Rules>
+    ensures { MatchOption result (memory_given (words_text given.now (codes "memory")) ≡ None) (IsRules given.now turns) }
 {
+    let memory = memory_of(given)?;
     let is_told = flag_of(given, "reuse");
     let is_strict = flag_of(given, "strict");
     let remember = number_of(given, "remember");
-    reuse_by(is_reusing(turns, is_told, is_strict), remember)
+    Some(rules_by(
+        is_reusing(turns, is_told, is_strict),
+        remember,
+        memory,
+    ))
 }
 
 /// A number without the plus that may stand before it.
@@ -218,8 +228,8 @@ pub(crate) fn serving_of(given: &ArgMatches<'_>) -> Option<Serving>
         return None;
     }
     let host = host_of(given)?;
-    let memory = memory_of(given)?;
     let turns = number_of(given, "turns");
+    let rules = rules_of(given, turns)?;
     Some(Serving {
         host,
         port: port_of(given),
@@ -227,8 +237,7 @@ pub(crate) fn serving_of(given: &ArgMatches<'_>) -> Option<Serving>
         seconds: number_of(given, "seconds"),
         slots: slots_of(given, turns),
         restarted: flag_of(given, "restarted"),
-        reuse: reuse_of(given, turns),
-        memory,
+        rules,
         log: flag_of(given, "log"),
         level: level_of(given),
         json: flag_of(given, "json"),

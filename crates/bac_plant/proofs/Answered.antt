@@ -1,10 +1,11 @@
 -- Runs in which an ask is answered, and in which the power is cut before.
-use Rattle.std.proofs.Common.{◌≡◌, ℕ, List, [], ◌∷◌, map, slice_index_or, slice_get, true, Option, Some, None, refl, sym, ap, subst, ◌∙◌, arith}
+use Rattle.std.proofs.Common.{◌≡◌, ℕ, List, [], ◌∷◌, map, slice_index_or, slice_get, true, false, Option, Some, None, refl, sym, ap, subst, ◌∙◌, arith}
 use Rattle.bac_protocol.specs.declared.times.TheConstants.{T_OUT}
 use Rattle.bac_requester.specs.Timers.{LAST_MOMENT}
 use Rattle.bac_transaction.specs.Ends.{ClientSlot, TransactionSlot, requester_tick}
 use Rattle.bac_transaction.specs.Ends.TransactionSlot.{Closed, Open}
 use Rattle.bac_protocol.proofs.AtDrift.{lives}
+use Rattle.bac_node.specs.Serving.{rules_as}
 use Rattle.bac_world.specs.AnsweredRun.{LIMITS, TIME, link, node}
 use Rattle.bac_world.specs.Examples.{REQUEST}
 use Rattle.bac_world.specs.Node.{Node, Outcome, restarted}
@@ -15,7 +16,6 @@ use Rattle.bac_world.specs.World.{Copy, Delivers, DeliversIf, Hears, IsDelivered
 use Rattle.bac_world.proofs.Answered.{ACCEPTED, ANSWER, ASK, ASKED_NODE, LAST, SECOND, THIRD, answer_delivered, answered_run, ask_copied, asks}
 use Rattle.bac_world.proofs.Answered.{copy, datagram, request_delivered}
 use Rattle.bac_node.specs.Waiting.{MovesAt, RestsUntil}
-use Rattle.bac_node.specs.declared.reuse.Reuse.TheVariants as setting
 use Rattle.bac_driver.specs.Asking.{IsBegun}
 use Rattle.bac_driver.specs.BoundNodes.{BoundNode}
 use Rattle.bac_driver.specs.Rounds.{sends_of_all}
@@ -65,7 +65,7 @@ asked_due = record { rests = asked_rests; moves = asked_moves }
 -- The ask.
 
 abbrev ASKED : BoundNode
-ASKED = record { node = ASKED_NODE; failures = 0; calls = with_calls (Some []) (map call_of (datagram (link 1) ASK ∷ [])); buffer = []; reuse = setting.Never }
+ASKED = record { node = ASKED_NODE; failures = 0; calls = with_calls (Some []) (map call_of (datagram (link 1) ASK ∷ [])); buffer = []; rules = rules_as false }
 
 abbrev begun : IsBegun 0 (question (peer_at (link 1)) LIMITS REQUEST) (station 0) 0 ASKED
 begun = record {
@@ -76,7 +76,7 @@ begun = record {
   lost = 0;
   carried = record { order = refl; count = refl; most = omega arith };
   buffer = refl;
-  reuse = refl;
+  rules = refl;
 }
 
 abbrev FIRST : Plant
@@ -220,7 +220,7 @@ abbrev SENT : Plant
 SENT = with_station HELD 1 sent_station
 
 sends_held : AreSent (served_turn ∷ []) held_station sent_station
-sends_held = record { lost = 0; carried = record { order = refl; count = refl; most = omega arith }; node = refl; buffer = refl; reuse = refl }
+sends_held = record { lost = 0; carried = record { order = refl; count = refl; most = omega arith }; node = refl; buffer = refl; rules = refl }
 
 answer_comes_again : IsOfStation 253 SENT 0 1 (link 1) (copy 1 0 ANSWER).octets
 answer_comes_again = record { copy = copy 1 0 ANSWER; there = refl; to = refl; sender = refl; whole = refl; young = omega arith; few = omega arith }
@@ -301,7 +301,7 @@ cuts c b at time = record {
     at = at;
     after = started b;
     node = ap (λ (t : Time). restarted (clock_at t.pace 0).shows b.node.store b.node) (sym time);
-    reuse = refl;
+    rules = refl;
     is = refl;
   };
   losing = refl;

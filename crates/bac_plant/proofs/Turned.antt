@@ -10,10 +10,12 @@ use Rattle.bac_protocol.specs.Wire.{is_from_client}
 use Rattle.bac_transaction.specs.Sends.{Datagram}
 use Rattle.bac_world.specs.Node.{Node, NodeOn, Outcome, IsHeardBy}
 use Rattle.bac_world.specs.ReusingLogs.{Reuses}
-use Rattle.bac_node.specs.Remembering.{IsHeardRememberingBy, NodeHearsBy, as_ever, is_reusing}
-use Rattle.bac_node.specs.declared.reuse.Reuse.{Reuse}
-use Rattle.bac_node.specs.declared.reuse.Reuse.TheVariants as setting
-use Rattle.bac_node.proofs.Remembering.{as_heard}
+use Rattle.bac_node.specs.Serving.{IsHeardSoBy, NodeServes, ServesBy, is_reusing, rules_as}
+use Rattle.bac_transaction.specs.declared.rules.Rules.{Rules}
+use Rattle.bac_node.proofs.Rules.{hears_as_in_worlds}
+use Rattle.bac_transaction.specs.Views.{rules_view}
+use Rattle.bac_apdu.specs.Apdu.{Apdu}
+use Rattle.bac_npdu.specs.Peers.{PeerView}
 use Rattle.bac_world.specs.ReusingWorlds.{ActsSo, AreLoggedSo, DeliversIfSo, DeliversSo, HearsSo, WorldRunSo}
 use Rattle.bac_world.specs.Once.{Fact}
 use Rattle.bac_world.specs.World.{AreCopied, AreEnded, Copy, Event, IsCopied, IsWithNode, Life, Note, World, with_act}
@@ -67,20 +69,22 @@ on_link now from octets a b o (inr d) = go (is_from_client d.apdu) d.heard
     go true t = ap (λ (n : Node). n.link) t.node
     go false t = ap (λ (n : Node). n.link) t.node
 
-node_link : (reuse : Reuse) (now : ℕ) (from octets : Octets) (a b : Node) (o : Outcome) → NodeHearsBy reuse now from octets a b o → b.link ≡ a.link
-node_link setting.Never now from octets a b o h = on_link now from octets a b o h
-node_link (setting.Remembering remember) now from octets a b o (inl d) = ap (λ (n : Node). n.link) d.node
-node_link (setting.Remembering remember) now from octets a b o (inr d) = go (is_from_client d.apdu) d.heard
+node_link : (rules : Rules) (now : ℕ) (from octets : Octets) (a b : Node) (o : Outcome) → ServesBy rules now from octets a b o → b.link ≡ a.link
+node_link rules now from octets a b o h = go h.serves
   where
-    go : (up : Bool) → IsHeardRememberingBy remember up d.peer d.apdu now a b o → b.link ≡ a.link
-    go true t = ap (λ (n : Node). n.link) t.node
-    go false t = ap (λ (n : Node). n.link) t.node
+    by : (why : Option ℕ) (up : Bool) (peer : PeerView) (apdu : Apdu) → IsHeardSoBy (rules_view rules) why up peer apdu now a b o → b.link ≡ a.link
+    by why true peer apdu t = ap (λ (n : Node). n.link) t.turn.node
+    by why false peer apdu t = ap (λ (n : Node). n.link) t.0.node
 
-pub hears_link : (reuse : Reuse) (now : ℕ) (buffer : Octets) (came : Option (Octets × ℕ)) (a b : Node) (heard : Option Outcome)
-    → turns.Hears reuse now buffer came a b heard → b.link ≡ a.link
-hears_link reuse now buffer None a b heard h = ap (λ (n : Node). n.link) h.1
-hears_link reuse now buffer (Some d) a b None h = ap (λ (n : Node). n.link) h.same
-hears_link reuse now buffer (Some d) a b (Some o) h = node_link reuse now d.0 (take d.1 buffer) a b o h
+    go : NodeServes (rules_view rules) h.why now from octets a b o → b.link ≡ a.link
+    go (inl d) = ap (λ (n : Node). n.link) d.0.node
+    go (inr d) = by h.why (is_from_client d.apdu) d.peer d.apdu d.heard
+
+pub hears_link : (rules : Rules) (now : ℕ) (buffer : Octets) (came : Option (Octets × ℕ)) (a b : Node) (heard : Option Outcome)
+    → turns.Hears rules now buffer came a b heard → b.link ≡ a.link
+hears_link rules now buffer None a b heard h = ap (λ (n : Node). n.link) h.1
+hears_link rules now buffer (Some d) a b None h = ap (λ (n : Node). n.link) h.same
+hears_link rules now buffer (Some d) a b (Some o) h = node_link rules now d.0 (take d.1 buffer) a b o h
 
 -- a node with that link takes the place of another one
 pub set_links : (xs : List Node) (i : ℕ) (a b : Node) → slice_get xs i ≡ Some a → b.link ≡ a.link → (j : ℕ) → link_at (slice_set xs i b) j ≡ link_at xs j
@@ -192,7 +196,7 @@ module _ (overtake : ℕ) (u : Reuses) (p : Plant) (i : ℕ) (a b : Node) (at : 
   none_heard : b ≡ a → cs ≡ [] → between ≡ p.log → log ≡ between → After p.lives ≡ world_of p
   none_heard same none e f = nothing_called (world_of p) i a b at same cs none log (f ∙ e)
 
-  world_hears : (from octets : Octets) (o : Outcome) → NodeHearsBy (as_ever (u i)) (shows p i) from octets a b o
+  world_hears : (from octets : Octets) (o : Outcome) → ServesBy (rules_as (u i)) (shows p i) from octets a b o
       → AreCopied (nodes_of p.stations) p.time.now i o.sends cs → AreEnded p.notes i o.ended p.log between
       → AreLoggedSo (u i) (nodes_of p.stations) p.notes i b o.performed between log → HearsSo (u i) (world_of p) i from octets Acted
   world_hears from octets o on copied ended logged = record {
@@ -200,7 +204,7 @@ module _ (overtake : ℕ) (u : Reuses) (p : Plant) (i : ℕ) (a b : Node) (at : 
     at = at;
     after = b;
     outcome = o;
-    on = as_heard (shows p i) a b o from octets (u i) on;
+    on = hears_as_in_worlds (u i) (shows p i) from octets a b o on;
     acts = acted (u i) (world_of p) i a b o at cs copied between log ended logged;
   }
 
@@ -229,7 +233,7 @@ module _ (overtake : ℕ) (u : Reuses) (p : Plant) (i : ℕ) (a b : Node) (at : 
   heard_as sender sent from octets link_is whole h =
       subst (λ l. HearsSo (u i) (world_of p) i l sent Acted) link_is (subst (λ os. HearsSo (u i) (world_of p) i from os Acted) whole h)
 
-  came_run : (source : Source) (d : Octets × ℕ) (buffer : Octets) (heard : Option Outcome) → turns.HearsOne (as_ever (u i)) (shows p i) d.0 (take d.1 buffer) a b heard
+  came_run : (source : Source) (d : Octets × ℕ) (buffer : Octets) (heard : Option Outcome) → turns.HearsOne (rules_as (u i)) (shows p i) d.0 (take d.1 buffer) a b heard
       → HandsOver overtake p i source (Some d) buffer → AreCopied (nodes_of p.stations) p.time.now i (sends_of heard) cs
       → AreEnded p.notes i (ended_of heard) p.log between → AreLoggedSo (u i) (nodes_of p.stations) p.notes i b (performed_of heard) between log
       → WorldRunSo overtake u (world_of p) (heard_events i source heard) (After (heard_lives i source heard p.lives))
@@ -257,7 +261,7 @@ module _ (overtake : ℕ) (u : Reuses) (p : Plant) (i : ℕ) (a b : Node) (at : 
   )
 
   pub heard_run : (source : Source) (came : Option (Octets × ℕ)) (buffer : Octets) (heard : Option Outcome)
-      → turns.Hears (as_ever (u i)) (shows p i) buffer came a b heard → HandsOver overtake p i source came buffer
+      → turns.Hears (rules_as (u i)) (shows p i) buffer came a b heard → HandsOver overtake p i source came buffer
       → AreCopied (nodes_of p.stations) p.time.now i (sends_of heard) cs
       → AreEnded p.notes i (ended_of heard) p.log between → AreLoggedSo (u i) (nodes_of p.stations) p.notes i b (performed_of heard) between log
       → WorldRunSo overtake u (world_of p) (heard_events i source heard) (After (heard_lives i source heard p.lives))
@@ -297,34 +301,34 @@ run_join overtake u (e ∷ es) fs w v y h k = (h.0, h.1, run_join overtake u es 
 -- The turn.
 
 -- what its node hears, by the buffer that the turn leaves
-hears_by : (reuse : Reuse) (now : ℕ) (first received after : BoundNode) (turn : turns.Turn) (middle : Node) → received.node ≡ first.node
-    → after.buffer ≡ received.buffer → received.reuse ≡ reuse → turns.Hears received.reuse now received.buffer turn.received received.node middle turn.heard
-    → turns.Hears reuse now after.buffer turn.received first.node middle turn.heard
-hears_by reuse now first received after turn middle node buffer same hears =
-    subst (λ n. turns.Hears reuse now after.buffer turn.received n middle turn.heard) node
-    (subst (λ l. turns.Hears reuse now l turn.received received.node middle turn.heard) (sym buffer)
-    (subst (λ (r : Reuse). turns.Hears r now received.buffer turn.received received.node middle turn.heard) same hears))
+hears_by : (rules : Rules) (now : ℕ) (first received after : BoundNode) (turn : turns.Turn) (middle : Node) → received.node ≡ first.node
+    → after.buffer ≡ received.buffer → received.rules ≡ rules → turns.Hears received.rules now received.buffer turn.received received.node middle turn.heard
+    → turns.Hears rules now after.buffer turn.received first.node middle turn.heard
+hears_by rules now first received after turn middle node buffer same hears =
+    subst (λ n. turns.Hears rules now after.buffer turn.received n middle turn.heard) node
+    (subst (λ l. turns.Hears rules now l turn.received received.node middle turn.heard) (sym buffer)
+    (subst (λ (r : Rules). turns.Hears r now received.buffer turn.received received.node middle turn.heard) same hears))
 
-pub turn_hears : (reuse : Reuse) (now : ℕ) (before : BoundNode) (turn : turns.Turn) (after : BoundNode) (t : IsSomeTurn now before turn after)
-    → before.reuse ≡ reuse → turns.Hears reuse now after.buffer turn.received before.node t.is.acts.middle turn.heard
-turn_hears reuse now before turn after t same =
-    hears_by reuse now before t.is.middle after turn t.is.acts.middle t.is.receives.node t.is.acts.buffer (t.is.receives.reuse ∙ same) t.is.acts.hears
+pub turn_hears : (rules : Rules) (now : ℕ) (before : BoundNode) (turn : turns.Turn) (after : BoundNode) (t : IsSomeTurn now before turn after)
+    → before.rules ≡ rules → turns.Hears rules now after.buffer turn.received before.node t.is.acts.middle turn.heard
+turn_hears rules now before turn after t same =
+    hears_by rules now before t.is.middle after turn t.is.acts.middle t.is.receives.node t.is.acts.buffer (t.is.receives.rules ∙ same) t.is.acts.hears
 
-pub held_hears : (reuse : Reuse) (now : ℕ) (before : BoundNode) (turn : turns.Turn) (after : BoundNode) (t : HoldsSomeTurn now before turn after)
-    → before.reuse ≡ reuse → turns.Hears reuse now after.buffer turn.received before.node t.takes.middle turn.heard
-held_hears reuse now before turn after t same =
-    hears_by reuse now before t.middle after turn t.takes.middle t.receives.node t.takes.buffer (t.receives.reuse ∙ same) t.takes.hears
+pub held_hears : (rules : Rules) (now : ℕ) (before : BoundNode) (turn : turns.Turn) (after : BoundNode) (t : HoldsSomeTurn now before turn after)
+    → before.rules ≡ rules → turns.Hears rules now after.buffer turn.received before.node t.takes.middle turn.heard
+held_hears rules now before turn after t same =
+    hears_by rules now before t.middle after turn t.takes.middle t.receives.node t.takes.buffer (t.receives.rules ∙ same) t.takes.hears
 
-same_setting : (reuse : Bool) → is_reusing (as_ever reuse) ≡ reuse
+same_setting : (reuse : Bool) → is_reusing (rules_as reuse) ≡ reuse
 same_setting true = refl
 same_setting false = refl
 
 -- the setting of a station that is there
-pub setting_at : (p : Plant) (i : ℕ) (b : BoundNode) → slice_get p.stations i ≡ Some b → settings_of p i ≡ is_reusing b.reuse
+pub setting_at : (p : Plant) (i : ℕ) (b : BoundNode) → slice_get p.stations i ≡ Some b → settings_of p i ≡ is_reusing b.rules
 setting_at p i b at = ap reuse_of at
 
 module _ (overtake : ℕ) (u : Reuses) (old : Plant) (i : ℕ) (before : BoundNode) (at : slice_get old.stations i ≡ Some before) (source : Source)
-    (turn : turns.Turn) (middle : Node) (after : BoundNode) (hears : turns.Hears (as_ever (u i)) (shows old i) after.buffer turn.received before.node middle turn.heard)
+    (turn : turns.Turn) (middle : Node) (after : BoundNode) (hears : turns.Hears (rules_as (u i)) (shows old i) after.buffer turn.received before.node middle turn.heard)
     (ticks : turns.Ticks (shows old i) middle after.node turn.ticked) (new : Plant) (t : HappensAt (u i) overtake old i source turn middle after new) where
   first_at : slice_get (nodes_of old.stations) i ≡ Some before.node
   first_at = node_at old.stations i before at
@@ -340,7 +344,7 @@ module _ (overtake : ℕ) (u : Reuses) (old : Plant) (i : ℕ) (before : BoundNo
 
   linked : (j : ℕ) → link_at Middle.nodes j ≡ link_at (nodes_of old.stations) j
   linked = set_links (nodes_of old.stations) i before.node middle first_at
-      (hears_link (as_ever (u i)) (shows old i) after.buffer turn.received before.node middle turn.heard hears)
+      (hears_link (rules_as (u i)) (shows old i) after.buffer turn.received before.node middle turn.heard hears)
 
   last : after_call Middle i after.node (turn_lives i source turn old.lives) split.rest t.log ≡ world_of new
   last =
@@ -367,7 +371,7 @@ module _ (overtake : ℕ) (u : Reuses) (old : Plant) (settings : (i : ℕ) → s
   turn_run t =
       let same : t.reuse ≡ u i = setting_is t.before t.at t.reuse t.set in
       happens_run overtake u old i t.before t.at source turn t.takes.is.acts.middle t.after
-      (turn_hears (as_ever (u i)) (shows old i) t.before turn t.after t.takes (t.set ∙ ap as_ever same))
+      (turn_hears (rules_as (u i)) (shows old i) t.before turn t.after t.takes (t.set ∙ ap rules_as same))
       t.takes.is.acts.ticks new (subst (λ (r : Bool). HappensAt r overtake old i source turn t.takes.is.acts.middle t.after new) same t.happens)
 
   -- that what it sends is held makes no difference to its world
@@ -375,5 +379,5 @@ module _ (overtake : ℕ) (u : Reuses) (old : Plant) (settings : (i : ℕ) → s
   held_run t =
       let same : t.reuse ≡ u i = setting_is t.before t.at t.reuse t.set in
       happens_run overtake u old i t.before t.at source turn t.holds.takes.middle t.after
-      (held_hears (as_ever (u i)) (shows old i) t.before turn t.after t.holds (t.set ∙ ap as_ever same))
+      (held_hears (rules_as (u i)) (shows old i) t.before turn t.after t.holds (t.set ∙ ap rules_as same))
       t.holds.takes.ticks new (subst (λ (r : Bool). HappensAt r overtake old i source turn t.holds.takes.middle t.after new) same t.happens)

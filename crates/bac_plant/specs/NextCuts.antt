@@ -35,7 +35,7 @@ LostTurnsGoOn overtake c =
 abbrev pub CanStart : (overtake : ℕ) → (stands : BoundNode) → Store → Type 0
 CanStart overtake stands s =
     (c : CutPlant) (i : ℕ) → slice_get c.plant.stations i ≡ Some stands → (exact : ℕ) (after : BoundNode)
-    → after.node ≡ restarted (clock_at c.plant.time.pace exact).shows s stands.node → after.reuse ≡ stands.reuse
+    → after.node ≡ restarted (clock_at c.plant.time.pace exact).shows s stands.node → after.rules ≡ stands.rules
     → LeadsOn overtake c (CutStep.Cuts i exact) i after
 
 -- whatever store an honest keeper finds after a cut in a round, also in one that stopped: a station that stands as before the round, which is lost then, can

@@ -4,7 +4,7 @@ use Rattle.bac_world.specs.Node.{Node}
 use Rattle.bac_world.specs.Once.{Fact}
 use Rattle.bac_world.specs.ReusingLogs.{Reuses}
 use Rattle.bac_world.specs.World.{Copy, Life, Note, Time, World}
-use Rattle.bac_node.specs.Remembering.{as_ever, is_reusing}
+use Rattle.bac_node.specs.Serving.{is_reusing, rules_as}
 use Rattle.bac_driver.specs.BoundNodes.{BoundNode}
 
 -- a station is a bound node: a node, what its link was asked to do, and its buffer
@@ -34,7 +34,7 @@ shows p i = (p.time.clocks i).shows
 
 abbrev pub reuse_of : Option BoundNode → Bool
 reuse_of None = false
-reuse_of (Some b) = is_reusing b.reuse
+reuse_of (Some b) = is_reusing b.rules
 
 -- which stations let clients use an invoke ID again as soon as its transaction is over
 abbrev pub settings_of : Plant → Reuses
@@ -42,11 +42,11 @@ settings_of p i = reuse_of (slice_get p.stations i)
 
 -- a station does so or not, and if it does, it remembers a request for 65,000 ms, as long as an entry is live. Turns of other stations are no steps of a plant
 abbrev pub IsSetTo : (reuse : Bool) → BoundNode → Type 0
-IsSetTo reuse b = b.reuse ≡ as_ever reuse
+IsSetTo reuse b = b.rules ≡ rules_as reuse
 
 -- a station does not, or it remembers a request that long
 abbrev pub RemembersInFull : BoundNode → Type 0
-RemembersInFull b = IsSetTo (is_reusing b.reuse) b
+RemembersInFull b = IsSetTo (is_reusing b.rules) b
 
 -- none does
 abbrev pub HasNoReuse : Plant → Type 0

@@ -51,7 +51,7 @@ pub fn turns_are_events()
     ensures settings { (overtake : ℕ) (steps : List Step) (old new : Plant) → PlantRun overtake steps old new → (station : ℕ)
         → settings_of new station ≡ settings_of old station }
     ensures stays { (overtake : ℕ) (steps : List Step) (old new : Plant) → PlantRun overtake steps old new → (station : ℕ) (before after : BoundNode)
-        → slice_get old.stations station ≡ Some before → slice_get new.stations station ≡ Some after → after.reuse ≡ before.reuse }
+        → slice_get old.stations station ≡ Some before → slice_get new.stations station ≡ Some after → after.rules ≡ before.rules }
     ensures events { (overtake : ℕ) (steps : List Step) (old new : Plant) → PlantRun overtake steps old new
         → WorldRunSo overtake (settings_of old) (world_of old) (events_of steps) (world_of new) }
     ensures once { (W overtake : ℕ) (old new : Plant) → IsFresh (world_of old) → IsTimely old.time.pace → IsBounded W overtake (world_of old)

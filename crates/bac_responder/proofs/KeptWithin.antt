@@ -1,9 +1,8 @@
 -- What the server's end keeps after a call, in its own terms and in those of its table.
-use Rattle.std.proofs.Common.{◌≡◌, ℕ, zero, suc, ◌+◌, ◌≤◌, Bool, true, false, ◌&&◌, ◌||◌, List, [], ◌∷◌, filter, length, max, map, take, Option, Some, None}
-use Rattle.std.proofs.Common.{Result, Ok, Err, if◌then◌else◌, refl, ap, sym, subst, ◌∙◌, arith}
-use Rattle.std.specs.Prelude.{IfOk, IfSome, MatchOption}
+use Rattle.std.proofs.Common.{◌≡◌, ℕ, zero, suc, ◌+◌, ◌≤◌, Bool, true, false, ◌&&◌, List, [], ◌∷◌, filter, length, max, map, take, Option, Some, None}
+use Rattle.std.proofs.Common.{not, inl, inr, Result, Ok, Err, if◌then◌else◌, refl, ap, sym, subst, ◌∙◌, arith}
+use Rattle.std.specs.Prelude.{IfSome}
 use Rattle.bac_apdu.specs.Apdu.{Apdu}
-use Rattle.bac_npdu.specs.Peers.{PeerView}
 use Rattle.bac_service.specs.Replies as plain
 use Rattle.bac_service.specs.Services.{request_at}
 use Rattle.bac_service.specs.Values.{Request}
@@ -16,29 +15,30 @@ use Rattle.bac_slots.proofs.Values.{removed_none}
 use Rattle.bac_store.specs.ReplyLengths.{DATA_LIMIT, reply_length}
 use Rattle.bac_store.specs.Replies.{reply_to}
 use Rattle.bac_store.specs.Stores.{Store}
-use Rattle.bac_protocol.specs.Context.{Settings}
-use Rattle.bac_protocol.specs.Reuse.{is_ended_by, left_on_apdu}
-use Rattle.bac_protocol.specs.Server.{ServerTransaction, Service, is_live, is_none_live, live_entry, server_on_apdu}
+use Rattle.bac_protocol.specs.Context.{Context, Settings}
+use Rattle.bac_protocol.specs.Serving.{Place, ServerRules, begins_request, ends_entry, entry_left, idle_by, is_ended, needs_no_place, needs_place, server_hears}
+use Rattle.bac_protocol.proofs.ByRules.{anyway_at}
+use Rattle.bac_protocol.specs.Server.{Reaction, ServerTransaction, is_live, is_none_live, live_entry, live_on_apdu}
 use Rattle.bac_protocol.specs.Service.{Octets}
-use Rattle.bac_transaction.specs.Ends.{ServerEnd, ServerSlot, context_of, is_free, key_of, put_entry, responder_on_apdu}
+use Rattle.bac_transaction.specs.Ends.{ServerEnd, ServerSlot, context_of, put_entry, server_goes}
 use Rattle.bac_transaction.specs.Keys as keys
 use Rattle.bac_transaction.specs.Keys.{same_key}
-use Rattle.bac_transaction.specs.Remembering.{end_unless, ends_it, entry_unless, is_forgotten, responder_remembering}
-use Rattle.bac_transaction.specs.Reuse.{is_read, slots_left}
+use Rattle.bac_transaction.specs.Reuse.{slots_left}
+use Rattle.bac_transaction.specs.Serving.{decided, end_left, place_for}
 use Rattle.bac_transaction.specs.Services.{outcome_by, outcome_of, service_of}
-use Rattle.bac_transaction.specs.Views.{code_same_key, context_view, peer_key_view, settings_view, slot_view, slots_view}
-use Rattle.bac_transaction.specs.declared.context.Context as code
+use Rattle.bac_transaction.specs.Views.{code_same_key, peer_key_view, settings_view, slot_view, slots_view}
 use Rattle.bac_transaction.specs.declared.settings.Settings.{Settings as CodeSettings}
 use Rattle.bac_transaction.specs.declared.peer_key.PeerKey.{PeerKey}
 use Rattle.bac_transaction.proofs.Keyed.{value_viewed}
 use Rattle.bac_transaction.proofs.KeyedSlots.{keys_equivalent}
 use Rattle.bac_transaction.proofs.Viewed.{orderly_viewed}
 use Rattle.bac_responder.specs.Aging.{entry_ticked}
-use Rattle.bac_responder.specs.Kept.{HasShortReplies, StaysWithin, adds_nothing, counted, entry_octets, given_back, growth, is_known, keeps_no_more, kept_octets, knows, octets_of, sum_of}
-use Rattle.bac_responder.specs.Reuse.{reusing_turn_of}
-use Rattle.bac_responder.specs.Views.{end_of, turn_of}
-use Rattle.bac_responder.proofs.Growth.{Fits, known_fits, left_fits, nothing_fits, outcome_octets, server_fits}
-use Rattle.bac_responder.proofs.KeptTables.{live_slots, put_begins, put_grows, put_moves, ticked_octets, without_octets}
+use Rattle.bac_responder.specs.Kept.{GoesOnWithin, HasRoom, HasShortReplies, IsBounded, IsWithin, counted, entry_octets, given_back, growth, kept_octets, octets_of, sum_of}
+use Rattle.bac_responder.specs.Hearing.{place_view, reason_of, turn_at}
+use Rattle.bac_responder.specs.Views.{end_of}
+use Rattle.bac_responder.specs.declared.turned_away.TurnedAway.{TurnedAway}
+use Rattle.bac_responder.proofs.Growth.{Fits, begun_fits, closed_fits, fits_more, live_fits, none_fits, outcome_octets}
+use Rattle.bac_responder.proofs.KeptTables.{live_slots, put_grows, put_moves, ticked_octets, without_octets}
 use Rattle.bac_responder.proofs.Ticks.{left_viewed, ticked_viewed}
 
 -- The replies of a store are short.
@@ -58,53 +58,41 @@ short_service s short choice octets = go (request_at choice octets)
 
 -- An APDU comes for a key.
 
-module _ (remember now : ℕ) (key : keys.PeerKey) (a : Apdu) (e : ServerEnd) where
+module _ (rules : ServerRules) (now : ℕ) (key : keys.PeerKey) (a : Apdu) (e : ServerEnd) where
   abbrev pub present : Option ServerTransaction
   present = value_at same_key key e.slots
 
   -- the slots without the entry that the APDU ends, if it ends one
   abbrev pub remaining : List ServerSlot
-  remaining = slots_left (ends_it remember now present a) key e.slots
+  remaining = slots_left (ends_entry rules now present a) key e.slots
 
   rest_within : kept_octets remaining ≤ kept_octets e.slots
-  rest_within = go (ends_it remember now present a)
+  rest_within = go (ends_entry rules now present a)
     where
       go : (b : Bool) → kept_octets (slots_left b key e.slots) ≤ kept_octets e.slots
       go true = let sum = without_octets key e.slots in omega (arith, sum)
       go false = omega arith
 
   rest_distinct : IsDistinct same_key e.slots → IsDistinct same_key remaining
-  rest_distinct distinct = go (ends_it remember now present a)
+  rest_distinct distinct = go (ends_entry rules now present a)
     where
       go : (b : Bool) → IsDistinct same_key (slots_left b key e.slots)
       go true = IsDistinct-without same_key key e.slots distinct
       go false = distinct
 
   rest_moves : kept_octets remaining + octets_of present ≤ kept_octets e.slots + octets_of (value_at same_key key remaining)
-  rest_moves = go (ends_it remember now present a)
+  rest_moves = go (ends_entry rules now present a)
     where
       go : (b : Bool) → kept_octets (slots_left b key e.slots) + octets_of present ≤ kept_octets e.slots + octets_of (value_at same_key key (slots_left b key e.slots))
       go true = let sum = without_octets key e.slots in omega (arith, sum)
       go false = omega arith
 
-  left_there : IsDistinct same_key e.slots → value_at same_key key remaining ≡ entry_unless remember now present a
-  left_there distinct = go (ends_it remember now present a)
+  left_there : IsDistinct same_key e.slots → value_at same_key key remaining ≡ entry_left rules now present a
+  left_there distinct = go (ends_entry rules now present a)
     where
       go : (b : Bool) → value_at same_key key (slots_left b key e.slots) ≡ (if b then None else present)
       go true = removed_none keys.PeerKey ServerTransaction same_key keys_equivalent key e.slots distinct
       go false = refl
-
-  -- where none is live, none ends
-  none_ends : is_none_live now present ≡ true → ends_it remember now present a ≡ false
-  none_ends none = go present none
-    where
-      dead : (b d : Bool) → (if b then false else true) ≡ true → b && d ≡ false
-      dead true d none = absurd cc
-      dead false d none = refl
-
-      go : (o : Option ServerTransaction) → is_none_live now o ≡ true → ends_it remember now o a ≡ false
-      go None none = refl
-      go (Some d) none = dead (is_live now d) (is_ended_by is_read d a || is_forgotten remember now d a) none
 
   -- what the entry of the key keeps more or less, all keep
   pub left_moves : IsDistinct same_key e.slots → (o : Option ServerTransaction)
@@ -114,85 +102,97 @@ module _ (remember now : ℕ) (key : keys.PeerKey) (a : Apdu) (e : ServerEnd) wh
       let sum = put_moves now key remaining (rest_distinct distinct) o in
       omega (arith, less, sum)
 
-  module _ (c : Settings) (s : Store) (short : HasShortReplies s) (distinct : IsDistinct same_key e.slots) where
-    abbrev after : Option ServerTransaction
-    after = (server_on_apdu (context_of c now key) (service_of s) present (is_free now e) a).entry
+  -- an entry that keeps so many octets more is put
+  left_grows : IsDistinct same_key e.slots → (n : ℕ) (o : Option ServerTransaction) → Fits now (octets_of (live_entry now (entry_left rules now present a)) + n) o
+      → kept_octets (put_entry now key o remaining) ≤ kept_octets e.slots + n
+  left_grows distinct n o fit =
+      let less = rest_within in
+      let sum = put_grows now key remaining n o
+      (subst (λ (x : Option ServerTransaction). Fits now (octets_of (live_entry now x) + n) o) (sym (left_there distinct)) fit) in
+      omega (arith, less, sum)
 
-    fits : Fits now (octets_of (live_entry now present) + growth a) after
-    fits = server_fits (context_of c now key) (service_of s) (short_service s short) present (is_free now e) a
+  module _ (c : Settings) (s : Store) (memory kept : Option ℕ) (distinct : IsDistinct same_key e.slots) (bounded : IfSome kept (λ k. kept_octets e.slots ≤ k)) where
+    abbrev at : Context
+    at = context_of c now key
 
-    pub on_grows : kept_octets (put_entry now key after e.slots) ≤ kept_octets e.slots + growth a
-    on_grows = put_grows now key e.slots (growth a) after fits
+    abbrev left : Option ServerTransaction
+    left = entry_left rules now present a
 
-    pub on_begins : is_none_live now present ≡ true
-        → kept_octets (put_entry now key after e.slots) ≤ max (kept_octets e.slots) (kept_octets (live_slots now e.slots) + growth a)
-    on_begins none = put_begins now key e.slots (growth a) after none fits
+    -- where memory has room for it
+    roomy : (m : ℕ) (old new grown : ℕ) → new ≤ old + growth a → (k : Option ℕ) → IfSome k (λ n. old ≤ n) → HasRoom (Some m) k a → new ≤ max old m
+    roomy m old new grown more k is (inl none) = omega (arith, more, none)
+    roomy m old new grown more None is (inr there) = absurd there
+    roomy m old new grown more (Some n) is (inr there) = omega (arith, more, is, there)
 
-    abbrev left_after : Option ServerTransaction
-    left_after = (left_on_apdu (context_of c now key) (service_of s) is_read (entry_unless remember now present a) (is_free now (end_unless remember now key a e)) a).entry
+    -- none is live, and one begins, or none does
+    pub begun_within : is_none_live now left ≡ true → (place : Option TurnedAway) (r : Reaction)
+        → r ≡ idle_by at (service_of s) rules.reads left (place_view place) a → (begins_request a ≡ false → place ≡ None)
+        → (begins_request a ≡ true → place ≡ None → HasRoom memory kept a) → IsWithin memory s e (server_goes now (end_left rules now key a e) key r).end
+    begun_within none place r is other room = go memory room
+      where
+        grows : HasShortReplies s → (n : ℕ) → Fits now n r.entry → kept_octets (put_entry now key r.entry remaining) ≤ kept_octets e.slots + n
+        grows short n fit =
+            left_grows distinct n r.entry (fits_more now n (octets_of (live_entry now left) + n) r.entry (omega arith) fit)
 
-    left_fit : Fits now (octets_of (live_entry now (value_at same_key key remaining)) + growth a) left_after
-    left_fit = subst (λ (o : Option ServerTransaction). Fits now (octets_of (live_entry now o) + growth a) left_after) (sym (left_there distinct))
-        (left_fits (context_of c now key) (service_of s) (short_service s short) is_read (entry_unless remember now present a) (is_free now (end_unless remember now key a e)) a)
+        here : HasShortReplies s → (p : Option TurnedAway) → place ≡ p → Fits now (growth a) r.entry
+        here short p same =
+            subst (λ (x : Reaction). Fits now (growth a) x.entry) (sym is)
+            (begun_fits at (service_of s) (short_service s short) left none rules.reads (place_view place) a)
 
-    pub reusing_grows : kept_octets (put_entry now key left_after remaining) ≤ kept_octets e.slots + growth a
-    reusing_grows =
-        let less = rest_within in
-        let sum = put_grows now key remaining (growth a) left_after left_fit in
-        omega (arith, less, sum)
+        closed : HasShortReplies s → (w : TurnedAway) → place ≡ Some w → Fits now 0 r.entry
+        closed short w same =
+            subst (λ (x : Reaction). Fits now 0 x.entry)
+            (sym (is ∙ ap (λ (p : Option TurnedAway). idle_by at (service_of s) rules.reads left (place_view p) a) same))
+            (closed_fits at (service_of s) (short_service s short) left none rules.reads (reason_of w) a)
 
-    pub reusing_begins : is_none_live now present ≡ true
-        → kept_octets (put_entry now key left_after remaining) ≤ max (kept_octets e.slots) (kept_octets (live_slots now e.slots) + growth a)
-    reusing_begins none =
-        let same : remaining ≡ e.slots = ap (λ (b : Bool). slots_left b key e.slots) (none_ends none) in
-        let all = ap kept_octets same in
-        let live = ap (λ (l : List ServerSlot). kept_octets (live_slots now l)) same in
-        let there : is_none_live now (value_at same_key key remaining) ≡ true = ap (λ (l : List ServerSlot). is_none_live now (value_at same_key key l)) same ∙ none in
-        let sum = put_begins now key remaining (growth a) left_after there left_fit in
-        omega (arith, all, live, sum)
+        no_request : HasShortReplies s → begins_request a ≡ false → Fits now 0 r.entry
+        no_request short none_begins =
+            let needs : needs_place at (service_of s) rules.reads a ≡ false = ap (λ (b : Bool). b && not (needs_no_place at (service_of s) rules.reads a)) none_begins in
+            subst (λ (x : Reaction). Fits now 0 x.entry)
+            (sym (is ∙ anyway_at at (service_of s) left rules.reads (place_view place) a needs
+            ∙ sym (anyway_at at (service_of s) left rules.reads (Place.Closed 0) a needs)))
+            (closed_fits at (service_of s) (short_service s short) left none rules.reads 0 a)
 
-    -- it makes no entry keep more
+        go : (m : Option ℕ) → (begins_request a ≡ true → place ≡ None → HasRoom m kept a)
+            → IsWithin m s e (server_goes now (end_left rules now key a e) key r).end
+        go None room = tt
+        go (Some m) room = λ short. by_place short place refl (begins_request a) refl
+          where
+            by_place : HasShortReplies s → (p : Option TurnedAway) → place ≡ p → (b : Bool) → begins_request a ≡ b
+                → kept_octets (put_entry now key r.entry remaining) ≤ max (kept_octets e.slots) m
+            by_place short (Some w) same b begins = let sum = grows short 0 (closed short w same) in omega (arith, sum)
+            by_place short None same false begins = let sum = grows short 0 (no_request short begins) in omega (arith, sum)
+            by_place short None same true begins =
+                roomy m (kept_octets e.slots) (kept_octets (put_entry now key r.entry remaining)) 0 (grows short (growth a) (here short None same)) kept bounded
+                (room begins same)
 
-    pub on_known : is_known now present a ≡ true → kept_octets (put_entry now key after e.slots) ≤ kept_octets e.slots
-    on_known is =
-        let fit = known_fits (context_of c now key) (service_of s) (short_service s short) present (is_free now e) a is in
-        let sum = put_grows now key e.slots 0 after fit in
-        omega (arith, sum)
+    -- one is live, and goes on
+    pub live_within : (d : ServerTransaction) (r : Reaction) → present ≡ Some d → is_live now d ≡ true → is_ended rules now d a ≡ false
+        → r ≡ live_on_apdu at (service_of s) d d.state a → GoesOnWithin memory kept d a
+        → IsWithin memory s e (server_goes now (end_left rules now key a e) key r).end
+    live_within d r there live stays is within = go memory within
+      where
+        stays_left : left ≡ Some d
+        stays_left =
+            ap (λ (o : Option ServerTransaction). entry_left rules now o a) there
+            ∙ ap (λ (b : Bool). if b && is_ended rules now d a then None else Some d) live ∙ ap (λ (b : Bool). if b then None else Some d) stays
 
-    pub reusing_adds_nothing : adds_nothing (context_of c now key) (service_of s) (entry_unless remember now present a) a ≡ true
-        → kept_octets (put_entry now key left_after remaining) ≤ kept_octets e.slots
-    reusing_adds_nothing is =
-        let fit : Fits now (octets_of (live_entry now (value_at same_key key remaining)) + 0) left_after =
-        subst (λ (o : Option ServerTransaction). Fits now (octets_of (live_entry now o) + 0) left_after) (sym (left_there distinct))
-        (nothing_fits (context_of c now key) (service_of s) (short_service s short) (entry_unless remember now present a) (is_free now (end_unless remember now key a e)) a is) in
-        let less = rest_within in
-        let sum = put_grows now key remaining 0 left_after fit in
-        omega (arith, less, sum)
+        alive : live_entry now left ≡ Some d
+        alive = ap (live_entry now) stays_left ∙ ap (λ (b : Bool). if b then Some d else None) live
 
--- Whether there is room for it.
+        grows : (n : ℕ) → Fits now (octets_of (Some d) + n) r.entry → kept_octets (put_entry now key r.entry remaining) ≤ kept_octets e.slots + n
+        grows n fit = left_grows distinct n r.entry (subst (λ (o : Option ServerTransaction). Fits now (octets_of o + n) r.entry) (sym alive) fit)
 
-module _ (now : ℕ) (peer : PeerView) (a : Apdu) (room : ℕ) (e : ServerEnd) (distinct : IsDistinct same_key e.slots) where
-  -- it grows by no more, and there is room for that
-  grown_within : kept_octets e.slots + growth a ≤ room → StaysWithin now peer a room e
-  grown_within there = record {
-    on = λ c s short. let sum = on_grows 0 now (key_of peer a) a e c s short distinct in omega (arith, sum, there);
-    on_reusing = λ remember c s short. let sum = reusing_grows remember now (key_of peer a) a e c s short distinct in omega (arith, sum, there);
-  }
-
-  -- it does not grow
-  same_within : growth a ≡ 0 → StaysWithin now peer a room e
-  same_within none = record {
-    on = λ c s short. let sum = on_grows 0 now (key_of peer a) a e c s short distinct in omega (arith, sum, none);
-    on_reusing = λ remember c s short. let sum = reusing_grows remember now (key_of peer a) a e c s short distinct in omega (arith, sum, none);
-  }
-
-  -- no entry of its key is live, and beside the live ones there is room
-  begun_within : is_none_live now (value_at same_key (key_of peer a) e.slots) ≡ true → kept_octets (live_slots now e.slots) + growth a ≤ room
-      → StaysWithin now peer a room e
-  begun_within none there = record {
-    on = λ c s short. let sum = on_begins 0 now (key_of peer a) a e c s short distinct none in omega (arith, sum, there);
-    on_reusing = λ remember c s short. let sum = reusing_begins remember now (key_of peer a) a e c s short distinct none in omega (arith, sum, there);
-  }
+        go : (m : Option ℕ) → GoesOnWithin m kept d a → IsWithin m s e (server_goes now (end_left rules now key a e) key r).end
+        go None within = tt
+        go (Some m) (inl none) = λ short.
+            let sum = grows 0 (subst (λ (x : Reaction). Fits now (octets_of (Some d) + 0) x.entry) (sym is)
+            (none_fits at (service_of s) (short_service s short) d a none)) in
+            omega (arith, sum)
+        go (Some m) (inr room) = λ short.
+            roomy m (kept_octets e.slots) (kept_octets (put_entry now key r.entry remaining)) 0
+            (grows (growth a) (subst (λ (x : Reaction). Fits now (octets_of (Some d) + growth a) x.entry) (sym is)
+            (live_fits at (service_of s) (short_service s short) d a))) kept bounded room
 
 -- The table.
 
@@ -213,71 +213,17 @@ counted_live now (s ∷ slots) = go (is_live now s.value) (counted_live now slot
     go true again = ap (λ n. entry_octets s.value + n) again
     go false again = omega (arith, again)
 
-pub counted_within : (now : ℕ) (slots : Slots) (kept : Option ℕ) → IfSome kept (λ k. k ≡ sum_of (counted false now) slots)
-    → IfSome kept (λ k. kept_octets (slots_view slots) ≤ k)
-counted_within now slots None is = tt
-counted_within now slots (Some k) is = let same = counted_all now slots in omega (arith, same, is)
+each_counted : (slots : Slots) → sum_of (λ (s : Slot PeerKey ServerTransaction). entry_octets s.value) slots ≡ kept_octets (slots_view slots)
+each_counted [] = refl
+each_counted (s ∷ slots) = ap (λ n. entry_octets s.value + n) (each_counted slots)
 
-apart : (slots : Slots) → IsDistinct code_same_key slots → IsDistinct same_key (slots_view slots)
+pub counted_within : (slots : Slots) (kept : Option ℕ) → IfSome kept (λ k. k ≡ sum_of (λ (s : Slot PeerKey ServerTransaction). entry_octets s.value) slots)
+    → IsBounded kept slots
+counted_within slots None is = tt
+counted_within slots (Some k) is = let same = each_counted slots in omega (arith, same, is)
+
+pub apart : (slots : Slots) → IsDistinct code_same_key slots → IsDistinct same_key (slots_view slots)
 apart slots distinct = (orderly_viewed ServerTransaction slots (length slots) (length slots) distinct refl (omega arith)).distinct
-
-module _ (now : ℕ) (peer : PeerView) (a : Apdu) (room : ℕ) (slots : Slots) (capacity : ℕ) (restart : Option ℕ) (distinct : IsDistinct code_same_key slots) where
-  pub no_more : growth a ≡ 0 → StaysWithin now peer a room (end_of slots capacity restart)
-  no_more none = same_within now peer a room (end_of slots capacity restart) (apart slots distinct) none
-
-  pub room_for : (kept : Option ℕ) (len : ℕ) → IfSome kept (λ k. kept_octets (slots_view slots) ≤ k) → growth a ≡ len + 65539
-      → MatchOption kept ⊥ (λ k. k + (len + 65539) ≤ room) → StaysWithin now peer a room (end_of slots capacity restart)
-  room_for None len within grows there = absurd there
-  room_for (Some k) len within grows there =
-      grown_within now peer a room (end_of slots capacity restart) (apart slots distinct) (omega (arith, within, grows, there))
-
-  -- where it takes the place of the dead ones
-  pub room_instead : (key : PeerKey) → peer_key_view key ≡ key_of peer a → is_none_live now (value_at code_same_key key slots) ≡ true → (kept : Option ℕ) (len : ℕ)
-      → IfSome kept (λ k. k ≡ sum_of (counted true now) slots) → growth a ≡ len + 65539 → MatchOption kept ⊥ (λ k. k + (len + 65539) ≤ room)
-      → StaysWithin now peer a room (end_of slots capacity restart)
-  room_instead key is none None len within grows there = absurd there
-  room_instead key is none (Some k) len within grows there =
-      let seen : is_none_live now (value_at same_key (key_of peer a) (slots_view slots)) ≡ true =
-      ap (λ (q : keys.PeerKey). is_none_live now (value_at same_key q (slots_view slots))) (sym is)
-      ∙ ap (is_none_live now) (sym (value_viewed ServerTransaction key slots)) ∙ none in
-      let same = counted_live now slots in
-      begun_within now peer a room (end_of slots capacity restart) (apart slots distinct) seen (omega (arith, within, grows, there, same))
-
--- It makes no entry of the table keep more.
-
-module _ (now : ℕ) (peer : PeerView) (a : Apdu) (slots : Slots) (capacity : ℕ) (restart : Option ℕ) where
-  pub known_viewed : (key : PeerKey) → peer_key_view key ≡ key_of peer a
-      → is_known now (value_at code_same_key key slots) a ≡ knows now peer a (end_of slots capacity restart)
-  known_viewed key is =
-      ap (λ (o : Option ServerTransaction). is_known now o a) (value_viewed ServerTransaction key slots)
-      ∙ ap (λ (q : keys.PeerKey). is_known now (value_at same_key q (slots_view slots)) a) is
-
-  pub nothing_viewed : (remember : ℕ) (c : Settings) (service : Service) (key : PeerKey) → peer_key_view key ≡ key_of peer a
-      → adds_nothing (context_of c now (peer_key_view key)) service (entry_unless remember now (value_at code_same_key key slots) a) a
-      ≡ keeps_no_more remember c now service peer a (end_of slots capacity restart)
-  nothing_viewed remember c service key is =
-      ap (λ (o : Option ServerTransaction). adds_nothing (context_of c now (peer_key_view key)) service (entry_unless remember now o a) a)
-      (value_viewed ServerTransaction key slots)
-      ∙ ap (λ (q : keys.PeerKey). adds_nothing (context_of c now q) service (entry_unless remember now (value_at same_key q (slots_view slots)) a) a) is
-
-  module _ (distinct : IsDistinct code_same_key slots) (c : Settings) (s : Store) where
-    pub known_within : knows now peer a (end_of slots capacity restart) ≡ true → HasShortReplies s
-        → kept_octets (responder_on_apdu c now (service_of s) peer a (end_of slots capacity restart)).end.slots ≤ kept_octets (slots_view slots)
-    known_within is short = on_known 0 now (key_of peer a) a (end_of slots capacity restart) c s short (apart slots distinct) is
-
-    pub nothing_within : (remember : ℕ) → keeps_no_more remember c now (service_of s) peer a (end_of slots capacity restart) ≡ true → HasShortReplies s
-        → kept_octets (responder_remembering remember c now (service_of s) peer a (end_of slots capacity restart)).end.slots ≤ kept_octets (slots_view slots)
-    nothing_within remember is short = reusing_adds_nothing remember now (key_of peer a) a (end_of slots capacity restart) c s short (apart slots distinct) is
-
--- an answer that is one of two equal ones, and what follows where it is true
-
-pub ok_same : {E : Type 0} (r : Result Bool E) (x y : Bool) → x ≡ y → IfOk r (λ b. b ≡ x) → IfOk r (λ b. b ≡ y)
-ok_same (Ok b) x y same is = is ∙ same
-ok_same (Err e) x y same is = tt
-
-pub ok_then : {E : Type 0} (P : Type 0) (r : Result Bool E) (x : Bool) → IfOk r (λ b. b ≡ x) → (x ≡ true → P) → IfOk r (λ b. b ≡ true → P)
-ok_then P (Ok b) x is then_so = λ yes. then_so (sym is ∙ yes)
-ok_then P (Err e) x is then_so = tt
 
 -- An APDU was taken: what the table keeps more or less, the entry of its key does.
 
@@ -291,25 +237,16 @@ seen_moves key old new put is moves =
     let after = ap octets_of (value_viewed ServerTransaction key new ∙ ap (value_at same_key (peer_key_view key)) is) in
     omega (arith, moves, all, before, after)
 
-module _ (c : code.Context) (s : Store) (a : Apdu) (old new : Slots) (capacity room : ℕ) (restart : Option ℕ) (distinct : IsDistinct code_same_key old) where
-  abbrev e : ServerEnd
-  e = end_of old capacity restart
-
-  abbrev k : keys.PeerKey
-  k = peer_key_view c.key
-
-  pub on_moved : end_of new room restart ≡ (turn_of c s a (end_of old capacity restart)).end
-      → kept_octets (slots_view new) + octets_of (value_at code_same_key c.key old) ≤ kept_octets (slots_view old) + octets_of (value_at code_same_key c.key new)
-  on_moved is = seen_moves c.key old new _ (ap (λ (x : ServerEnd). x.slots) is)
-      (put_moves c.moment k (slots_view old) (apart old distinct)
-      (server_on_apdu (context_view c) (service_of s) (value_at same_key k (slots_view old)) (is_free c.moment e) a).entry)
-
-  pub reusing_moved : (remember : ℕ) → end_of new room restart ≡ (reusing_turn_of remember c s a (end_of old capacity restart)).end
-      → kept_octets (slots_view new) + octets_of (value_at code_same_key c.key old) ≤ kept_octets (slots_view old) + octets_of (value_at code_same_key c.key new)
-  reusing_moved remember is = seen_moves c.key old new _ (ap (λ (x : ServerEnd). x.slots) is)
-      (left_moves remember c.moment k a e (apart old distinct)
-      (left_on_apdu (context_view c) (service_of s) is_read (entry_unless remember c.moment (value_at same_key k (slots_view old)) a)
-      (is_free c.moment (end_unless remember c.moment k a e)) a).entry)
+pub turn_moves : (rules : ServerRules) (c : Settings) (now : ℕ) (s : Store) (key : PeerKey) (a : Apdu) (old new : Slots) (capacity room : ℕ) (restart : Option ℕ)
+    (short : Bool) → IsDistinct code_same_key old
+    → end_of new room restart ≡ (turn_at rules short c now s (peer_key_view key) a (end_of old capacity restart)).end
+    → kept_octets (slots_view new) + octets_of (value_at code_same_key key old) ≤ kept_octets (slots_view old) + octets_of (value_at code_same_key key new)
+turn_moves rules c now s key a old new capacity room restart short distinct is =
+    let e : ServerEnd = end_of old capacity restart in
+    let k : keys.PeerKey = peer_key_view key in
+    seen_moves key old new _ (ap (λ (x : ServerEnd). x.slots) is)
+    (left_moves rules now k a e (apart old distinct)
+    (server_hears (context_of c now k) (service_of s) rules (value_at same_key k e.slots) (decided short (place_for rules now k a e)) a).entry)
 
 -- A tick.
 

@@ -12,7 +12,7 @@ use Rattle.bac_protocol.specs.Context.{Context}
 use Rattle.bac_protocol.specs.Server.{ServerTransaction, Effect, Reaction, Service, is_live, is_none_live, live_on_apdu, idle_on_apdu, server_on_apdu}
 use Rattle.bac_protocol.specs.Server.{begins, request_segment_taken, rests, server_abort}
 use Rattle.bac_protocol.specs.Service.{OTHER}
-use Rattle.bac_responder.specs.Aging.{begins_request}
+use Rattle.bac_protocol.specs.Serving.{begins_request}
 use Rattle.bac_protocol.specs.Steps.{StaysIn}
 use Rattle.bac_protocol.proofs.Served.{live_stays_law}
 use Rattle.bac_transaction.specs.Keys.{PeerKey, same_key}

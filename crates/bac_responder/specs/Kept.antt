@@ -1,24 +1,17 @@
 -- How many octets of service data the server's end keeps, and by how many an APDU can make it keep more.
-use Rattle.std.specs.Prelude.{◌≤◌, ℕ, ◌+◌, ◌*◌, max, Bool, true, false, ◌&&◌, not, if◌then◌else◌, List, [], ◌∷◌, length, Option, Some, None}
+use Rattle.std.specs.Prelude.{◌≡◌, ◌⊎◌, ◌≤◌, IfSome, MatchOption, ℕ, ◌+◌, ◌*◌, max, Bool, true, false, if◌then◌else◌, List, [], ◌∷◌, length, Option, Some, None}
 use Rattle.bac_apdu.specs.Apdu.{Apdu}
 use Rattle.bac_apdu.specs.Apdu.Apdu.{ConfirmedRequest, ComplexAck}
-use Rattle.bac_npdu.specs.Peers.{PeerView}
 use Rattle.bac_segment.specs.Pieces.{join}
 use Rattle.bac_slots.specs.declared.slot.Slot.{Slot}
-use Rattle.bac_slots.specs.Slots.{value_at}
 use Rattle.bac_service.specs.Values.{Request}
 use Rattle.bac_store.specs.ReplyLengths.{DATA_LIMIT, reply_length}
 use Rattle.bac_store.specs.Replies.{reply_to}
 use Rattle.bac_store.specs.Stores.{Store}
-use Rattle.bac_protocol.specs.Context.{Context, Settings}
-use Rattle.bac_protocol.specs.Reuse.{has_transfer}
-use Rattle.bac_protocol.specs.Server.{ServerTransaction, Service, State, begins, is_live, is_none_live, performs}
+use Rattle.bac_protocol.specs.Server.{ServerTransaction, State, is_live}
 use Rattle.bac_protocol.specs.Service.{Octets}
-use Rattle.bac_transaction.specs.Ends.{ServerEnd, ServerSlot, context_of, key_of, responder_on_apdu}
-use Rattle.bac_transaction.specs.Keys.{same_key}
-use Rattle.bac_transaction.specs.Remembering.{entry_unless, responder_remembering}
-use Rattle.bac_transaction.specs.Reuse.{is_read}
-use Rattle.bac_transaction.specs.Services.{service_of}
+use Rattle.bac_transaction.specs.Ends.{ServerEnd, ServerSlot}
+use Rattle.bac_transaction.specs.Views.{slots_view}
 use Rattle.bac_transaction.specs.declared.peer_key.PeerKey.{PeerKey}
 
 -- of segments that were received: those of each, and four for its place
@@ -82,13 +75,21 @@ growth _ = 0
 abbrev pub HasShortReplies : Store → Type 0
 HasShortReplies s = (r : Request) → reply_length (reply_to s r) ≤ DATA_LIMIT
 
--- whatever that APDU makes of the end, in a node of either setting, it then keeps no more octets than before, or no more than there is room for
-pub record StaysWithin (now : ℕ) (peer : PeerView) (a : Apdu) (room : ℕ) (e : ServerEnd) : Type 0 where
-  pub on : (c : Settings) (s : Store) → HasShortReplies s → kept_octets (responder_on_apdu c now (service_of s) peer a e).end.slots ≤ max (kept_octets e.slots) room
-  pub on_reusing : (remember : ℕ) (c : Settings) (s : Store) → HasShortReplies s
-      → kept_octets (responder_remembering remember c now (service_of s) peer a e).end.slots ≤ max (kept_octets e.slots) room
+-- where there is a bound, memory has room for an APDU beside so much, if it is known how much that is
+abbrev pub HasRoom : (memory : Option ℕ) → (kept : Option ℕ) → Apdu → Type 0
+HasRoom None kept a = Unit {0}
+HasRoom (Some memory) kept a = (growth a ≡ 0) ⊎ MatchOption kept ⊥ (λ k. k + growth a ≤ memory)
 
--- What makes no end keep more, however little room there is.
+-- what is known of how many octets the slots of a table keep
+abbrev pub IsBounded : (kept : Option ℕ) → List (Slot PeerKey ServerTransaction) → Type 0
+IsBounded kept slots = IfSome kept (λ k. kept_octets (slots_view slots) ≤ k)
+
+-- a server's end keeps no more octets than before, or no more than the bound, if there is one
+abbrev pub IsWithin : (memory : Option ℕ) → Store → (old new : ServerEnd) → Type 0
+IsWithin None s old new = Unit {0}
+IsWithin (Some memory) s old new = HasShortReplies s → kept_octets new.slots ≤ max (kept_octets old.slots) memory
+
+-- What makes no entry keep more, however little room there is.
 
 -- a request without SEG
 abbrev pub is_whole : Apdu → Bool
@@ -108,30 +109,6 @@ grows_none (State.Done kept) a = is_request a
 grows_none (State.SegmentedResponse out transfer since) a = is_request a
 grows_none State.Dropped a = is_request a
 
--- there is an entry, and it makes that keep no more
-abbrev pub grows_none_at : Option ServerTransaction → Apdu → Bool
-grows_none_at None a = false
-grows_none_at (Some e) a = grows_none e.state a
-
--- a read without SEG whose reply is one APDU, or a Reject or an Abort
-abbrev pub is_read_in_one : Context → Service → Apdu → Bool
-is_read_in_one c service (ConfirmedRequest limits invoke_id None choice octets) =
-    is_read choice && not (has_transfer (performs c service (begins c choice limits (Some octets)) [] octets).entry)
-is_read_in_one c service (ConfirmedRequest limits invoke_id (Some segment) choice octets) = false
-is_read_in_one c service _ = false
-
--- a request whose entry is live, and without SEG where that receives segments: it gets the kept reply again, or an Abort, or sets a stopped transfer going
-abbrev pub is_known : (now : ℕ) → Option ServerTransaction → Apdu → Bool
-is_known now entry a = if is_none_live now entry then false else grows_none_at entry a
-
--- the same where invoke IDs may be used again, of the entry that is left; and where none is live, a read whose reply is one APDU begins none
-abbrev pub adds_nothing : Context → Service → Option ServerTransaction → Apdu → Bool
-adds_nothing c service left a = if is_none_live c.now left then is_read_in_one c service a else grows_none_at left a
-
--- an APDU comes from a peer
-abbrev pub knows : (now : ℕ) → PeerView → Apdu → ServerEnd → Bool
-knows now peer a e = is_known now (value_at same_key (key_of peer a) e.slots) a
-
-abbrev pub keeps_no_more : (remember : ℕ) → Settings → (now : ℕ) → Service → PeerView → Apdu → ServerEnd → Bool
-keeps_no_more remember c now service peer a e =
-    adds_nothing (context_of c now (key_of peer a)) service (entry_unless remember now (value_at same_key (key_of peer a) e.slots) a) a
+-- so it is, or memory has room for the APDU
+abbrev pub GoesOnWithin : (memory : Option ℕ) → (kept : Option ℕ) → ServerTransaction → Apdu → Type 0
+GoesOnWithin memory kept e a = (grows_none e.state a ≡ true) ⊎ HasRoom memory kept a

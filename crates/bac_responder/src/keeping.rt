@@ -82,35 +82,23 @@ fn len_of(kept: &Option<Vec<u8>>) -> usize
     }
 }
 
-/// How many octets the n-th slot in order of insertion keeps, if it is there, and of live ones alone if asked so.
-fn octets_at<S: SlotTable<PeerKey, ServerTransaction>>(
-    table: &S,
-    n: usize,
-    only_live: bool,
-    now: u64,
-) -> Option<usize>
-    ensures { IfSome result (λ k. (s : Slot PeerKey ServerTransaction) → slice_get (S.slots table.now) n ≡ Some s → k ≡ counted only_live now s) }
+/// How many octets the n-th slot in order of insertion keeps, if it is there; None where they are more than can be counted.
+fn octets_at<S: SlotTable<PeerKey, ServerTransaction>>(table: &S, n: usize) -> Option<usize>
+    ensures { IfSome result (λ k. (s : Slot PeerKey ServerTransaction) → slice_get (S.slots table.now) n ≡ Some s → k ≡ entry_octets s.value) }
 {
     let Some((_, _, entry)) = table.by_age(n) else {
         return Some(0);
     };
-    if only_live && !entry.is_live(now) {
-        return Some(0);
-    }
     entry.octets()
 }
 
-/// How many octets all slots keep, or those alone whose entries are live; None where they are more than can be counted. It looks at each slot.
-pub(crate) fn count_octets<S: SlotTable<PeerKey, ServerTransaction>>(
-    table: &S,
-    only_live: bool,
-    now: u64,
-) -> Option<usize>
-    ensures { IfSome result (λ k. k ≡ sum_of (counted only_live now) (S.slots table.now)) }
+/// How many octets all slots keep, whether their entries are live or not; None where they are more than can be counted. It looks at each slot.
+pub(crate) fn count_octets<S: SlotTable<PeerKey, ServerTransaction>>(table: &S) -> Option<usize>
+    ensures { IfSome result (λ k. k ≡ sum_of (λ s. entry_octets s.value) (S.slots table.now)) }
 {
     let mut octets: usize = 0;
     for n in 0..table.len() {
-        octets = octets.checked_add(octets_at(table, n, only_live, now)?)?;
+        octets = octets.checked_add(octets_at(table, n)?)?;
     }
     Some(octets)
 }

@@ -1,5 +1,6 @@
 //! What an APDU made of the server's end.
 use crate::Effect;
+use crate::turned_away::TurnedAway;
 use bac_transaction::{Datagram, PeerKey};
 
 /// A request was performed, for that transaction.
@@ -11,11 +12,13 @@ pub struct Act {
     pub effect: Effect,
 }
 
-/// What an APDU made of the server's end: what is sent, in order of sending, and what was performed.
+/// What an APDU made of the server's end: what is sent, in order of sending, what was performed, and what was turned away.
 #[derive(Drop)]
 pub struct Served {
     /// One datagram for each APDU that is sent, in order of sending.
     pub sends: Vec<Datagram>,
     /// The request that was performed, if any.
     pub act: Option<Act>,
+    /// Why a request was turned away, if it was: then the one APDU that is sent is its Abort.
+    pub turned_away: Option<TurnedAway>,
 }

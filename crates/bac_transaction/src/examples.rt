@@ -1,6 +1,7 @@
 //! Ends that are computed: they show that the definitions do what the protocol's tables say.
 ghost use Rattle.bac_transaction.specs.Examples.{LeastInvokeId, LeastAround, HeldFor, SlotHeldFor, TickOrder, KeptReply, FullTable, WaitsToAsk, WaitsToServe};
 ghost use Rattle.bac_transaction.specs.ReuseExamples.{InSegments, UsedAgain, WithoutRoom};
+ghost use Rattle.bac_transaction.specs.ServingExamples.{LastSlotIsForOthers, RemembersSoLong, WithoutMemory};
 
 /// Which invoke ID an ask takes, and how long a slot is held.
 #[tactic(auto, using(crate::proofs::Computed::least_invoke_id, crate::proofs::Computed::least_around, crate::proofs::Computed::held_for, crate::proofs::Computed::slot_held_for))]
@@ -37,4 +38,12 @@ pub fn invoke_ids_again()
     ensures again { UsedAgain }
     ensures room { WithoutRoom }
     ensures segments { InSegments }
+{}
+
+/// What a server's end remembers, who gets its last slots, and what becomes of a request that memory has no room for.
+#[tactic(auto, using(crate::proofs::ServingComputed::remembers_so_long, crate::proofs::ServingComputed::last_slot_is_for_others, crate::proofs::ServingComputed::without_memory))]
+pub fn ends_by_their_rules()
+    ensures remembers { RemembersSoLong }
+    ensures reserves { LastSlotIsForOthers }
+    ensures memory { WithoutMemory }
 {}

@@ -23,5 +23,5 @@ returns g c =
       made = record { timer = c.in-Some.timer; made = c.in-Some.ensures; is = refl };
       is = c.now-start.ensures.tells;
     })
-    (ap (λ (b : BoundNode). b.reuse) set) c.serve_kept_from-status.ensures.printed c.serve_kept_from-status.ensures.all c.serve_kept_from-status.ensures.honest
+    (ap (λ (b : BoundNode). b.rules) set) c.serve_kept_from-status.ensures.printed c.serve_kept_from-status.ensures.all c.serve_kept_from-status.ensures.honest
     c.serve_kept_from-status.ensures.base

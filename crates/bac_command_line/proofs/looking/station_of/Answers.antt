@@ -23,4 +23,4 @@ returns-clause-server g c =
       made = record { timer = c.in-Some.clock; made = c.in-Some.ensures; is = refl };
       is = c.now-start.ensures.tells;
     })
-    (ap (λ (b : BoundNode). b.reuse) set)
+    (ap (λ (b : BoundNode). b.rules) set)

@@ -10,13 +10,13 @@ returns g c =
     let first : IsHouseAt (OnPort g.M.Machine.is_bound g.M.Link.Link.failures g.M.Link.Link.calls) LOCAL_HOST 0 c.in-Ok-bound_house.bound_node = record {
       address = c.in-Ok.bound.1;
       node = c.in-Ok-bound_house.ensures.node;
-      reuse_is = c.in-Ok-bound_house.ensures.reuse;
+      rules_are = c.in-Ok-bound_house.ensures.rules;
       on = record { link = c.in-Ok.bound.0; bound = c.in-Ok.ensures; failed = c.in-Ok-bound_house.ensures.failures; made = c.in-Ok-bound_house.ensures.calls };
     } in
     let second : IsHouseAt (OnPort g.M.Machine.is_bound g.M.Link.Link.failures g.M.Link.Link.calls) LOCAL_HOST 0 c.in-Ok-bound_house-2.other = record {
       address = c.in-Ok-bind.other_bound.1;
       node = c.in-Ok-bound_house-2.ensures.node;
-      reuse_is = c.in-Ok-bound_house-2.ensures.reuse;
+      rules_are = c.in-Ok-bound_house-2.ensures.rules;
       on = record {
         link = c.in-Ok-bind.other_bound.0;
         bound = c.in-Ok-bind.ensures;

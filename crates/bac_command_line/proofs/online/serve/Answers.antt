@@ -22,4 +22,4 @@ returns g c =
       made = record { timer = c.in-Some.timer; made = c.in-Some.ensures; is = refl };
       is = c.now-start.ensures.tells;
     })
-    (ap (λ (b : BoundNode). b.reuse) set) c.serve_from.ensures
+    (ap (λ (b : BoundNode). b.rules) set) c.serve_from.ensures

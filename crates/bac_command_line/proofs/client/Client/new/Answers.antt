@@ -14,7 +14,7 @@ returns-clause-node g c =
                 record {
                   address = bound.address;
                   node = c.in-Ok-bound_client.ensures.node;
-                  reuse_is = c.in-Ok-bound_client.ensures.reuse;
+                  rules_are = c.in-Ok-bound_client.ensures.rules;
                   on =
                       record {
                         link = bound.link;

@@ -1,0 +1,11 @@
+-- The strict rules are those of a node that is told none.
+use Rattle.std.proofs.Common.{ap}
+use Rattle.bac_transaction.specs.Views.{rules_view}
+use Rattle.bac_transaction.specs.declared.rules.Rules.{Rules}
+use Rattle.bac_node.proofs.Rules.{as_returned}
+use Rattle.bac_node.proofs.node.Node.on.Goals as goal
+
+pub returns-clause-went : goal.returns-clause-went
+returns-clause-went c =
+    as_returned (rules_view c.strict.result) (ap rules_view c.strict.ensures) c.args.now c.args.from c.args.octets.now _ _ c.hear.result (c.hear.ensures.bound (ap (λ (r : Rules). r.memory) c.strict.ensures))
+    c.hear.ensures.went
