@@ -1,12 +1,11 @@
--- The server's machine by its rules: whether reads are performed anew and invoke IDs may be used again, for how long a request that is over is remembered, and
--- whether a request may begin. All that is not said here is as in Server and Reuse; under the strict rules everything is as in Server.
-use Rattle.std.specs.Prelude.{ℕ, Bool, true, false, ◌&&◌, ◌||◌, not, ◌-◌, [], ◌∷◌, Option, Some, None, if◌then◌else◌, nat_eq, nat_lt}
+-- The server's machine by its rules: whether reads are performed anew and invoke IDs may be used again, and for how long a request that is over is remembered.
+-- All that is not said here is as in Server and Reuse; under the strict rules everything is as in Server.
+use Rattle.std.specs.Prelude.{ℕ, Bool, true, false, ◌&&◌, ◌||◌, not, ◌-◌, [], Option, Some, None, if◌then◌else◌, nat_eq, nat_lt}
 use Rattle.bac_apdu.specs.Apdu.{Apdu}
 use Rattle.bac_apdu.specs.Apdu.Apdu.{ConfirmedRequest}
 use Rattle.bac_protocol.specs.Context.{Context}
-use Rattle.bac_protocol.specs.Service.{OTHER}
-use Rattle.bac_protocol.specs.Server.{Reaction, ServerTransaction, Service, begins, idle_on_apdu, is_live, is_none_live, live_on_apdu, performs, rests, server_abort}
-use Rattle.bac_protocol.specs.Reuse.{Reads, has_transfer, is_ended_by, is_over}
+use Rattle.bac_protocol.specs.Server.{Reaction, ServerTransaction, Service, begins, idle_on_apdu, is_live, is_none_live, live_on_apdu, performs}
+use Rattle.bac_protocol.specs.Reuse.{Reads, has_transfer, idle_reusing, is_ended_by, is_over}
 
 -- how reads are served
 pub data ReadRule : Type 0 where
@@ -19,25 +18,14 @@ pub data ReadRule : Type 0 where
 pub record ServerRules : Type 0 where
   pub reads : ReadRule
   pub remember : Option ℕ  -- for how many milliseconds, from its beginning on, a request that is over is remembered; None: as long as its entry lives
-  pub reserve : ℕ  -- how many sixteenths of its slots only addresses without a live entry get
 
 -- the rules that each server has where none are named
 abbrev pub STRICT : ServerRules
-STRICT = record { reads = Kept; remember = None; reserve = 0 }
+STRICT = record { reads = Kept; remember = None }
 
 -- reads are performed anew, and a request that is over is remembered so long
-abbrev pub fresh_rules : Reads → (remember : Option ℕ) → (reserve : ℕ) → ServerRules
-fresh_rules reads remember reserve = record { reads = Fresh reads; remember = remember; reserve = reserve }
-
--- whether a request may begin an entry, and where not, the reason of the Abort that it gets
-pub data Place : Type 0 where
-  Open : Place
-  Closed : (reason : ℕ) → Place
-
--- where all that counts is whether a slot is free
-abbrev pub place_if : (free : Bool) → Place
-place_if true = Open
-place_if false = Closed OTHER
+abbrev pub fresh_rules : Reads → (remember : Option ℕ) → ServerRules
+fresh_rules reads remember = record { reads = Fresh reads; remember = remember }
 
 -- an APDU that begins a request: one without SEG, or its segment 0
 abbrev pub begins_request : Apdu → Bool
@@ -45,37 +33,10 @@ begins_request (ConfirmedRequest limits invoke_id None choice octets) = true
 begins_request (ConfirmedRequest limits invoke_id (Some segment) choice octets) = nat_eq segment.number 0
 begins_request _ = false
 
--- Where no entry is live.
-
--- a request is turned away, and all else is dropped
-abbrev pub turns_away : Context → (reason : ℕ) → (dead : Option ServerTransaction) → Apdu → Reaction
-turns_away c reason dead a = rests dead (if begins_request a then server_abort c reason ∷ [] else [])
-
--- a request begins an entry, if one may begin
-abbrev pub idle_kept : Context → Service → (dead : Option ServerTransaction) → Place → Apdu → Reaction
-idle_kept c service dead Open a = idle_on_apdu c service dead true a
-idle_kept c service dead (Closed reason) a = turns_away c reason dead a
-
--- a reaction that begins an entry, if one may begin
-abbrev pub if_open : Context → (dead : Option ServerTransaction) → Place → Reaction → Reaction
-if_open c dead Open r = r
-if_open c dead (Closed reason) r = rests dead (server_abort c reason ∷ [])
-
--- a read whose reply is one APDU begins no entry, and needs no place; one whose reply goes in segments is as any request
-abbrev pub passes : Context → (dead : Option ServerTransaction) → Place → Reaction → Reaction
-passes c dead place r = if has_transfer r.entry then if_open c dead place r else record { entry = dead; sends = r.sends; effect = r.effect }
-
--- a read without SEG is performed
-abbrev pub idle_fresh : Context → Service → Reads → (dead : Option ServerTransaction) → Place → Apdu → Reaction
-idle_fresh c service reads dead place (ConfirmedRequest limits invoke_id None choice octets) =
-    if reads choice then passes c dead place (performs c service (begins c choice limits (Some octets)) [] octets)
-    else idle_kept c service dead place (ConfirmedRequest limits invoke_id None choice octets)
-idle_fresh c service reads dead place a = idle_kept c service dead place a
-
--- an APDU comes where no entry is live
-abbrev pub idle_by : Context → Service → ReadRule → (dead : Option ServerTransaction) → Place → Apdu → Reaction
-idle_by c service Kept dead place a = idle_kept c service dead place a
-idle_by c service (Fresh reads) dead place a = idle_fresh c service reads dead place a
+-- an APDU comes where no entry is live; free says whether an entry may begin
+abbrev pub idle_by : Context → Service → ReadRule → (dead : Option ServerTransaction) → (free : Bool) → Apdu → Reaction
+idle_by c service Kept dead free a = idle_on_apdu c service dead free a
+idle_by c service (Fresh reads) dead free a = idle_reusing c service reads dead free a
 
 -- Where an entry is live.
 
@@ -103,15 +64,15 @@ abbrev pub entry_left : ServerRules → (now : ℕ) → Option ServerTransaction
 entry_left rules now entry a = if ends_entry rules now entry a then None else entry
 
 -- an APDU comes for a live entry, which it ends or not
-abbrev pub live_by : Context → Service → ReadRule → ServerTransaction → (ends : Bool) → Place → Apdu → Reaction
-live_by c service reads e true place a = idle_by c service reads None place a
-live_by c service reads e false place a = live_on_apdu c service e e.state a
+abbrev pub live_by : Context → Service → ReadRule → ServerTransaction → (ends : Bool) → (free : Bool) → Apdu → Reaction
+live_by c service reads e true free a = idle_by c service reads None free a
+live_by c service reads e false free a = live_on_apdu c service e e.state a
 
--- an APDU comes for the entry's peer and invoke ID
-abbrev pub server_hears : Context → Service → ServerRules → Option ServerTransaction → Place → Apdu → Reaction
-server_hears c service rules None place a = idle_by c service rules.reads None place a
-server_hears c service rules (Some e) place a =
-    if is_live c.now e then live_by c service rules.reads e (is_ended rules c.now e a) place a else idle_by c service rules.reads (Some e) place a
+-- an APDU comes for the entry's peer and invoke ID; free says whether, without an entry that it ends, a slot of the reply table has no live one
+abbrev pub server_hears : Context → Service → ServerRules → Option ServerTransaction → (free : Bool) → Apdu → Reaction
+server_hears c service rules None free a = idle_by c service rules.reads None free a
+server_hears c service rules (Some e) free a =
+    if is_live c.now e then live_by c service rules.reads e (is_ended rules c.now e a) free a else idle_by c service rules.reads (Some e) free a
 
 -- Which requests are turned away.
 
@@ -123,20 +84,15 @@ is_read_in_one c service reads (ConfirmedRequest limits invoke_id (Some segment)
 is_read_in_one c service reads _ = false
 
 -- where no entry is live, the APDU is served though none may begin
-abbrev pub needs_no_place : Context → Service → ReadRule → Apdu → Bool
-needs_no_place c service Kept a = false
-needs_no_place c service (Fresh reads) a = is_read_in_one c service reads a
+abbrev pub needs_no_slot : Context → Service → ReadRule → Apdu → Bool
+needs_no_slot c service Kept a = false
+needs_no_slot c service (Fresh reads) a = is_read_in_one c service reads a
 
 -- where no entry is live, the APDU is a request for which one has to begin
-abbrev pub needs_place : Context → Service → ReadRule → Apdu → Bool
-needs_place c service reads a = begins_request a && not (needs_no_place c service reads a)
+abbrev pub needs_slot : Context → Service → ReadRule → Apdu → Bool
+needs_slot c service reads a = begins_request a && not (needs_no_slot c service reads a)
 
--- such a request is turned away where none may begin, with that reason
-abbrev pub refusal : Place → (needs : Bool) → Option ℕ
-refusal Open needs = None
-refusal (Closed reason) needs = if needs then Some reason else None
-
--- the reason with which an APDU for the entry is turned away, if it is
-abbrev pub turned_away : Context → Service → ServerRules → Option ServerTransaction → Place → Apdu → Option ℕ
-turned_away c service rules entry place a =
-    if is_none_live c.now (entry_left rules c.now entry a) then refusal place (needs_place c service rules.reads a) else None
+-- an APDU for the entry is turned away: no entry is live, or it ends the one that is, and one has to begin, but none may
+abbrev pub is_turned_away : Context → Service → ServerRules → Option ServerTransaction → (free : Bool) → Apdu → Bool
+is_turned_away c service rules entry free a =
+    is_none_live c.now (entry_left rules c.now entry a) && (needs_slot c service rules.reads a && not free)

@@ -46,7 +46,8 @@ pub fn reads_are_fresh()
     ensures { ReadsAreFresh }
 {}
 
-/// A request that is turned away gets an Abort, with the reason why, and nothing else is done; for all others it makes no difference whether an entry may begin.
+/// A request that is turned away gets an Abort with the reason 'other', and nothing else is done; for all others it makes no difference whether an entry may
+/// begin.
 pub fn requests_turned_away()
     ensures away { TurnsAway }
     ensures anyway { ServesAnyway }

@@ -1,10 +1,10 @@
 -- By how many octets an APDU makes one entry keep more.
-use Rattle.std.proofs.Common.{◌≡◌, ℕ, ◌+◌, ◌*◌, ◌-◌, ◌≤◌, Bool, true, false, not, List, [], ◌∷◌, ◌++◌, length, min, Option, Some, None}
-use Rattle.std.proofs.Common.{if◌then◌else◌, nat_eq, nat_lt, nat_le, refl, ap, arith, length-append}
+use Rattle.std.proofs.Common.{◌≡◌, ℕ, ◌+◌, ◌*◌, ◌-◌, ◌≤◌, Bool, true, false, not, ◌&&◌, List, [], ◌∷◌, ◌++◌, length, min, Option, Some, None}
+use Rattle.std.proofs.Common.{if◌then◌else◌, nat_eq, nat_lt, nat_le, refl, ap, sym, subst, ◌∙◌, arith, length-append}
 use Rattle.std.specs.Prelude.{is_some}
 use Rattle.std.proofs.lemmas.List.{length-take}
 use Rattle.bac_apdu.specs.Apdu.{Apdu, Limits, Segment}
-use Rattle.bac_apdu.specs.Apdu.Apdu.{Abort, ComplexAck, ConfirmedRequest, Error, Reject, SegmentAck, SimpleAck, UnconfirmedRequest}
+use Rattle.bac_apdu.specs.Apdu.Apdu.{ConfirmedRequest, SegmentAck, Abort}
 use Rattle.bac_segment.specs.Numbers.{ahead}
 use Rattle.bac_segment.specs.Pieces.{count_of, join, piece_at, pieces_of}
 use Rattle.bac_segment.specs.Limits.{N_RETRY}
@@ -14,15 +14,16 @@ use Rattle.bac_segment.proofs.Cut.{join-cut}
 use Rattle.bac_store.specs.ReplyLengths.{DATA_LIMIT}
 use Rattle.bac_protocol.specs.declared.times.TheConstants.{T_SEG, T_WAIT_FOR_SEG}
 use Rattle.bac_protocol.specs.Context.{Context, Settings}
-use Rattle.bac_protocol.specs.Reuse.{Reads, has_transfer}
-use Rattle.bac_protocol.specs.Serving.{Place, ReadRule, idle_by, idle_fresh, idle_kept, if_open, passes}
+use Rattle.bac_protocol.specs.Reuse.{Reads, has_transfer, idle_reusing, reads_so}
+use Rattle.bac_protocol.specs.Serving.{ReadRule, ServerRules, entry_left, idle_by, is_read_in_one, needs_no_slot, server_hears}
 use Rattle.bac_protocol.specs.Server.{Reaction, ServerTransaction, Service, State, Transfer, is_live, is_none_live, live_entry}
 use Rattle.bac_protocol.specs.Server as server
 use Rattle.bac_protocol.specs.Service.{BUFFER_OVERFLOW, OTHER, Octets, Outcome, Reply, SEGMENTATION_NOT_SUPPORTED}
 use Rattle.bac_protocol.specs.Service.Outcome.{Rejects, Replies}
 use Rattle.bac_protocol.specs.Sizes.{Way, allows_segments, reply_way_in_segments, reply_way_of, reply_way_of_size, transfer_size}
 use Rattle.bac_protocol.specs.Sizes.Way.{InOne, InSegments, Refused}
-use Rattle.bac_responder.specs.Kept.{entry_octets, grows_none, growth, kept_length, octets_of, parts_octets, reply_octets, request_octets, state_octets}
+use Rattle.bac_protocol.proofs.ByRules.{idle_left, on_left}
+use Rattle.bac_responder.specs.Kept.{adds_nothing, entry_octets, grows_none, grows_none_at, growth, kept_length, octets_of, parts_octets, reply_octets, request_octets, state_octets}
 
 -- Segments and pieces.
 
@@ -225,61 +226,31 @@ module _ (c : Context) (service : Service) (short : HasShort service) where
     idle_fits free (ConfirmedRequest limits i (Some g) choice octets) = segment_fits free choice limits g octets
     idle_fits free _ = dead_fits c.now _ dead none
 
-    kept_fits : (place : Place) (a : Apdu) → Fits c.now (growth a) (idle_kept c service dead place a).entry
-    kept_fits Place.Open a = idle_fits true a
-    kept_fits (Place.Closed reason) a = dead_fits c.now _ dead none
-
-    passes_fits : (place : Place) (bound : ℕ) (r : Reaction) → octets_of r.entry ≤ bound → Fits c.now bound (passes c dead place r).entry
-    passes_fits place bound r h = go (has_transfer r.entry) place
+    read_fits : (free : Bool) (bound : ℕ) (r : Reaction) → octets_of r.entry ≤ bound → Fits c.now bound (reads_so c dead free r).entry
+    read_fits free bound r h = go (has_transfer r.entry) free
       where
-        go : (b : Bool) (p : Place) → Fits c.now bound (if b then if_open c dead p r else record { entry = dead; sends = r.sends; effect = r.effect }).entry
-        go true Place.Open = fits_all c.now bound r.entry h
-        go true (Place.Closed reason) = dead_fits c.now bound dead none
-        go false p = dead_fits c.now bound dead none
+        go : (b d : Bool) → Fits c.now bound (if b then (if d then r else server.rests dead (server.server_abort c OTHER ∷ []))
+            else record { entry = dead; sends = r.sends; effect = r.effect }).entry
+        go true true = fits_all c.now bound r.entry h
+        go true false = dead_fits c.now bound dead none
+        go false d = dead_fits c.now bound dead none
 
-    fresh_fits : (reads : Reads) (place : Place) (a : Apdu) → Fits c.now (growth a) (idle_fresh c service reads dead place a).entry
-    fresh_fits reads place (ConfirmedRequest limits i None choice octets) = go (reads choice)
+    reusing_fits : (reads : Reads) (free : Bool) (a : Apdu) → Fits c.now (growth a) (idle_reusing c service reads dead free a).entry
+    reusing_fits reads free (ConfirmedRequest limits i None choice octets) = go (reads choice)
       where
-        go : (b : Bool) → Fits c.now (length octets + (DATA_LIMIT + 4)) (if b then passes c dead place (server.performs c service
-            (server.begins c choice limits (Some octets)) [] octets) else idle_kept c service dead place (ConfirmedRequest limits i None choice octets)).entry
+        go : (b : Bool) → Fits c.now (length octets + (DATA_LIMIT + 4)) (if b then reads_so c dead free (server.performs c service
+            (server.begins c choice limits (Some octets)) [] octets) else server.idle_on_request c service dead free choice limits octets).entry
         go true =
             let all = performs_octets (server.begins c choice limits (Some octets)) [] octets in
-            passes_fits place _ (server.performs c service (server.begins c choice limits (Some octets)) [] octets) (omega (arith, all))
-        go false = kept_fits place (ConfirmedRequest limits i None choice octets)
-    fresh_fits reads place (ConfirmedRequest limits i (Some g) choice octets) = kept_fits place (ConfirmedRequest limits i (Some g) choice octets)
-    fresh_fits reads place (UnconfirmedRequest choice octets) = kept_fits place (UnconfirmedRequest choice octets)
-    fresh_fits reads place (SimpleAck id choice) = kept_fits place (SimpleAck id choice)
-    fresh_fits reads place (ComplexAck id segment choice octets) = kept_fits place (ComplexAck id segment choice octets)
-    fresh_fits reads place (SegmentAck up id ack) = kept_fits place (SegmentAck up id ack)
-    fresh_fits reads place (Error id choice class code) = kept_fits place (Error id choice class code)
-    fresh_fits reads place (Reject id reason) = kept_fits place (Reject id reason)
-    fresh_fits reads place (Abort up id reason) = kept_fits place (Abort up id reason)
+            read_fits free _ (server.performs c service (server.begins c choice limits (Some octets)) [] octets) (omega (arith, all))
+        go false = request_fits free choice limits octets
+    reusing_fits reads free (ConfirmedRequest limits i (Some g) choice octets) = segment_fits free choice limits g octets
+    reusing_fits reads free _ = dead_fits c.now _ dead none
 
     -- what begins by the rules of an end
-    pub begun_fits : (reads : ReadRule) (place : Place) (a : Apdu) → Fits c.now (growth a) (idle_by c service reads dead place a).entry
-    begun_fits ReadRule.Kept place a = kept_fits place a
-    begun_fits (ReadRule.Fresh reads) place a = fresh_fits reads place a
-
-    -- where none may begin
-    fresh_closed : (reads : Reads) (reason : ℕ) (a : Apdu) → Fits c.now 0 (idle_fresh c service reads dead (Place.Closed reason) a).entry
-    fresh_closed reads reason (ConfirmedRequest limits i None choice octets) = go (reads choice) (has_transfer (server.performs c service
-        (server.begins c choice limits (Some octets)) [] octets).entry)
-      where
-        r : Reaction
-        r = server.performs c service (server.begins c choice limits (Some octets)) [] octets
-
-        go : (b h : Bool) → Fits c.now 0 (if b then (if h then server.rests dead (server.server_abort c reason ∷ [])
-            else record { entry = dead; sends = (server.performs c service (server.begins c choice limits (Some octets)) [] octets).sends; effect = (server.performs c service (server.begins c choice limits (Some octets)) [] octets).effect })
-            else server.rests dead (server.server_abort c reason ∷ [])).entry
-        go true true = dead_fits c.now 0 dead none
-        go true false = dead_fits c.now 0 dead none
-        go false h = dead_fits c.now 0 dead none
-    fresh_closed reads reason (ConfirmedRequest limits i (Some g) choice octets) = dead_fits c.now 0 dead none
-    fresh_closed reads reason _ = dead_fits c.now 0 dead none
-
-    pub closed_fits : (reads : ReadRule) (reason : ℕ) (a : Apdu) → Fits c.now 0 (idle_by c service reads dead (Place.Closed reason) a).entry
-    closed_fits ReadRule.Kept reason a = dead_fits c.now 0 dead none
-    closed_fits (ReadRule.Fresh reads) reason a = fresh_closed reads reason a
+    begun_fits : (reads : ReadRule) (free : Bool) (a : Apdu) → Fits c.now (growth a) (idle_by c service reads dead free a).entry
+    begun_fits ReadRule.Kept free a = idle_fits free a
+    begun_fits (ReadRule.Fresh reads) free a = reusing_fits reads free a
 
   -- An entry is live.
 
@@ -370,9 +341,31 @@ module _ (c : Context) (service : Service) (short : HasShort service) where
         let all = replying out transfer since is a in let same = ap state_octets is in omega (arith, all, same)
     live_octets State.Dropped a is = let all = dropped a is in let same = ap state_octets is in omega (arith, all, same)
 
-  -- a live entry goes on
-  pub live_fits : (e : ServerTransaction) (a : Apdu) → Fits c.now (octets_of (Some e) + growth a) (server.live_on_apdu c service e e.state a).entry
-  live_fits e a = fits_all c.now _ _ (live_octets e e.state a refl)
+  pub server_fits : (o : Option ServerTransaction) (free : Bool) (a : Apdu)
+      → Fits c.now (octets_of (live_entry c.now o) + growth a) (server.server_on_apdu c service o free a).entry
+  server_fits None free a = fits_more c.now (growth a) _ _ (omega arith) (idle_fits None refl free a)
+  server_fits (Some e) free a = go (is_live c.now e) refl
+    where
+      go : (b : Bool) → is_live c.now e ≡ b → Fits c.now (octets_of (if b then Some e else None) + growth a)
+          (if b then server.live_on_apdu c service e e.state a else server.idle_on_apdu c service (Some e) free a).entry
+      go true live = fits_all c.now _ _ (live_octets e e.state a refl)
+      go false gone = fits_more c.now (growth a) _ _ (omega arith) (idle_fits (Some e) (ap (λ (b : Bool). if b then false else true) gone) free a)
+
+  pub hears_fits : (rules : ServerRules) (o : Option ServerTransaction) (free : Bool) (a : Apdu)
+      → Fits c.now (octets_of (live_entry c.now (entry_left rules c.now o a)) + growth a) (server_hears c service rules o free a).entry
+  hears_fits rules o free a = go (is_none_live c.now left) refl
+    where
+      left : Option ServerTransaction
+      left = entry_left rules c.now o a
+
+      go : (b : Bool) → is_none_live c.now left ≡ b → Fits c.now (octets_of (live_entry c.now left) + growth a) (server_hears c service rules o free a).entry
+      go true none =
+          let no = none_kept c.now left none in
+          subst (λ (r : Reaction). Fits c.now (octets_of (live_entry c.now left) + growth a) r.entry) (sym (idle_left c service rules o free a none))
+          (fits_more c.now (growth a) _ _ (omega (arith, no)) (begun_fits left none rules.reads free a))
+      go false some =
+          subst (λ (r : Reaction). Fits c.now (octets_of (live_entry c.now left) + growth a) r.entry) (sym (on_left c service rules o free a some))
+          (server_fits left free a)
 
   -- It makes no entry keep more.
 
@@ -402,9 +395,59 @@ module _ (c : Context) (service : Service) (short : HasShort service) where
       omega (arith, all, same)
   none_octets e State.Dropped a is none = dropped_request e a none
 
-  pub none_fits : (e : ServerTransaction) (a : Apdu) → grows_none e.state a ≡ true
-      → Fits c.now (octets_of (Some e) + 0) (server.live_on_apdu c service e e.state a).entry
-  none_fits e a none = let same = none_octets e e.state a refl none in fits_all c.now _ _ (omega (arith, same))
+  none_fits : (o : Option ServerTransaction) (free : Bool) (a : Apdu) → is_none_live c.now o ≡ false → grows_none_at o a ≡ true
+      → Fits c.now (octets_of (live_entry c.now o) + 0) (server.server_on_apdu c service o free a).entry
+  none_fits None free a some none = absurd cc
+  none_fits (Some e) free a some none = go (is_live c.now e) some
+    where
+      go : (b : Bool) → (if b then false else true) ≡ false → Fits c.now (octets_of (if b then Some e else None) + 0)
+          (if b then server.live_on_apdu c service e e.state a else server.idle_on_apdu c service (Some e) free a).entry
+      go true live = let same = none_octets e e.state a refl none in fits_all c.now _ _ (omega (arith, same))
+      go false dead = absurd cc
+
+  read_in_one_fits : (reads : Reads) (o : Option ServerTransaction) → is_none_live c.now o ≡ true → (free : Bool) (a : Apdu)
+      → is_read_in_one c service reads a ≡ true → Fits c.now (octets_of (live_entry c.now o) + 0) (idle_reusing c service reads o free a).entry
+  read_in_one_fits reads o none free (ConfirmedRequest limits i None choice octets) one = go (reads choice) (has_transfer r.entry) one
+    where
+      r : Reaction
+      r = server.performs c service (server.begins c choice limits (Some octets)) [] octets
+
+      go : (x y : Bool) → x && not y ≡ true → Fits c.now (octets_of (live_entry c.now o) + 0)
+          (if x then (if y then (if free then server.performs c service (server.begins c choice limits (Some octets)) [] octets
+          else server.rests o (server.server_abort c OTHER ∷ []))
+          else record {
+            entry = o;
+            sends = (server.performs c service (server.begins c choice limits (Some octets)) [] octets).sends;
+            effect = (server.performs c service (server.begins c choice limits (Some octets)) [] octets).effect;
+          })
+          else server.idle_on_request c service o free choice limits octets).entry
+      go true false one = dead_fits c.now _ o none
+      go true true one = absurd cc
+      go false y one = absurd cc
+  read_in_one_fits reads o none free (ConfirmedRequest limits i (Some g) choice octets) one = absurd cc
+  read_in_one_fits reads o none free _ one = absurd cc
+
+  begins_none_fits : (reads : ReadRule) (o : Option ServerTransaction) → is_none_live c.now o ≡ true → (free : Bool) (a : Apdu)
+      → needs_no_slot c service reads a ≡ true → Fits c.now (octets_of (live_entry c.now o) + 0) (idle_by c service reads o free a).entry
+  begins_none_fits ReadRule.Kept o none free a one = absurd cc
+  begins_none_fits (ReadRule.Fresh reads) o none free a one = read_in_one_fits reads o none free a one
+
+  pub nothing_fits : (rules : ServerRules) (o : Option ServerTransaction) (free : Bool) (a : Apdu)
+      → adds_nothing c service rules.reads (entry_left rules c.now o a) a ≡ true
+      → Fits c.now (octets_of (live_entry c.now (entry_left rules c.now o a)) + 0) (server_hears c service rules o free a).entry
+  nothing_fits rules o free a is = go (is_none_live c.now left) refl is
+    where
+      left : Option ServerTransaction
+      left = entry_left rules c.now o a
+
+      go : (b : Bool) → is_none_live c.now left ≡ b → (if b then needs_no_slot c service rules.reads a else grows_none_at left a) ≡ true
+          → Fits c.now (octets_of (live_entry c.now left) + 0) (server_hears c service rules o free a).entry
+      go true none one =
+          subst (λ (r : Reaction). Fits c.now (octets_of (live_entry c.now left) + 0) r.entry) (sym (idle_left c service rules o free a none))
+          (begins_none_fits rules.reads left none free a one)
+      go false some small =
+          subst (λ (r : Reaction). Fits c.now (octets_of (live_entry c.now left) + 0) r.entry) (sym (on_left c service rules o free a some))
+          (none_fits left free a some small)
 
 -- A tick.
 

@@ -1,120 +1,57 @@
 -- A turn of the table is a turn of the server's end, by its rules.
-use Rattle.std.proofs.Common.{◌≡◌, ℕ, ◌<◌, Bool, true, false, ◌&&◌, not, List, count_by, nat_lt, Option, Some, None, Result}
+use Rattle.std.proofs.Common.{◌≡◌, ℕ, ◌+◌, ◌<◌, ◌≤◌, Bool, true, false, ◌&&◌, not, List, length, count_by, nat_lt, Option, Some, None, Result}
 use Rattle.std.proofs.Common.{if◌then◌else◌, refl, ap, sym, subst, ◌∙◌, arith}
 use Rattle.std.proofs.lemmas.Bool.Decides.{nat_tests}
-use Rattle.std.specs.Prelude.{OnOk, is_some}
+use Rattle.std.proofs.lemmas.List.Sums.{count_by-le-length}
 use Rattle.bac_apdu.specs.Apdu.{Apdu}
-use Rattle.bac_apdu.specs.Apdu.Apdu.{ConfirmedRequest}
-use Rattle.bac_npdu.specs.Peers.{PeerView}
 use Rattle.bac_slots.specs.declared.slot.Slot.{Slot}
-use Rattle.bac_slots.specs.Slots.{IsDistinct, value_at}
+use Rattle.bac_slots.specs.Slots.{value_at, without}
 use Rattle.bac_store.specs.Stores.{Store}
+use Rattle.bac_value.specs.declared.memory.NoMemory.{NoMemory}
 use Rattle.bac_protocol.specs.Context.{Context, Settings}
-use Rattle.bac_protocol.specs.Server.{Reaction, ServerTransaction, Service, is_live, is_none_live}
-use Rattle.bac_protocol.specs.Serving.{Place, ReadRule, ServerRules, begins_request, ends_entry, entry_left, idle_by, is_ended, needs_no_place, needs_place}
-use Rattle.bac_protocol.specs.Serving.{place_if, refusal, server_hears, turned_away}
-use Rattle.bac_protocol.proofs.ByRules.{anyway_at, idle_left}
-use Rattle.bac_transaction.specs.Ends.{ServerEnd, context_of, is_slot_live, server_goes}
+use Rattle.bac_protocol.specs.Server.{Reaction, ServerTransaction, Service, is_live, is_none_live, live_on_apdu}
+use Rattle.bac_protocol.specs.Serving.{ReadRule, ServerRules, begins_request, ends_entry, entry_left, idle_by, is_ended, is_turned_away, needs_no_slot, needs_slot}
+use Rattle.bac_protocol.specs.Serving.{server_hears}
+use Rattle.bac_protocol.specs.declared.times.TheConstants.{KEEP}
+use Rattle.bac_protocol.proofs.ByRules.{anyway_at, at_live, idle_left}
+use Rattle.bac_transaction.specs.Ends.{ServerEnd, context_of, first_after, is_free, is_slot_live, server_goes}
 use Rattle.bac_transaction.specs.Keys as keys
 use Rattle.bac_transaction.specs.Keys.{same_key}
 use Rattle.bac_transaction.specs.Reuse.{slots_left}
 use Rattle.bac_transaction.specs.Sends.{Datagram}
 use Rattle.bac_transaction.specs.Services.{Performed as Done, service_of, store_after}
-use Rattle.bac_transaction.specs.Serving.{address_of, decided, end_left, holds_entry, is_open, open_to}
+use Rattle.bac_transaction.specs.Serving.{end_left}
 use Rattle.bac_transaction.specs.Views.{code_same_key, peer_key_view, slots_view}
 use Rattle.bac_transaction.specs.declared.peer_key.PeerKey.{PeerKey}
 use Rattle.bac_transaction.proofs.Keyed.{value_viewed, without_viewed}
-use Rattle.bac_responder.specs.Hearing.{Hears, IsHeard, IsPassed, away_view, code_slots_left, is_short, place_view}
-use Rattle.bac_responder.specs.Kept.{HasRoom, IsBounded, IsWithin}
+use Rattle.bac_transaction.proofs.Viewed.{count_viewed}
+use Rattle.bac_responder.specs.Hearing.{HeedsRoom, HeedsRoomAt, Hears, IsHeard, IsPassed, code_slots_left}
+use Rattle.bac_responder.specs.Kept.{adds_nothing, adds_nothing_at, grows_none}
 use Rattle.bac_responder.specs.Turns.{Acted, IsServed, acted_of}
 use Rattle.bac_responder.specs.Views.{end_of}
 use Rattle.bac_responder.specs.declared.served.Served.{Served}
-use Rattle.bac_responder.specs.declared.turned_away.TurnedAway.{TurnedAway}
-use Rattle.bac_value.specs.declared.memory.NoMemory.{NoMemory}
-use Rattle.bac_responder.proofs.KeptWithin.{apart, begun_within}
-use Rattle.bac_responder.proofs.Openness.{viewed}
 use Rattle.bac_responder.proofs.Turned.{acted, after_acted, goes_still}
 
 abbrev Slots : Type 0
 Slots = List (Slot PeerKey ServerTransaction)
 
--- Whether one may begin, and what is turned away.
+-- Whether a slot is free is asked only where a request begins.
 
-none_refused : (p : Place) → refusal p false ≡ None
-none_refused Place.Open = refl
-none_refused (Place.Closed reason) = refl
-
-all_refused : (w : Option TurnedAway) → refusal (place_view w) true ≡ away_view w
-all_refused None = refl
-all_refused (Some why) = refl
-
-first_true : (b d : Bool) → b && d ≡ true → b ≡ true
-first_true true d is = refl
-first_true false d is = absurd cc
-
-module _ (c : Context) (service : Service) (reads : ReadRule) (left : Option ServerTransaction) (a : Apdu) (asked away : Option TurnedAway) (p : Place)
-    (decides : begins_request a ≡ true → place_view asked ≡ decided (is_short (away_view asked)) p)
-    (refused : away_view away ≡ refusal (place_view asked) (needs_place c service reads a)) where
-  -- where it needs a place, what was asked is what it was told
-  told : needs_place c service reads a ≡ true → away_view away ≡ away_view asked
-  told needs = refused ∙ ap (refusal (place_view asked)) needs ∙ all_refused asked
-
-  same_place : needs_place c service reads a ≡ true → decided (is_short (away_view away)) p ≡ place_view asked
-  same_place needs =
-      ap (λ (w : Option ℕ). decided (is_short w) p) (told needs) ∙ sym (decides (first_true (begins_request a) (not (needs_no_place c service reads a)) needs))
-
-  pub begins_same : idle_by c service reads left (decided (is_short (away_view away)) p) a ≡ idle_by c service reads left (place_view asked) a
-  begins_same = go (needs_place c service reads a) refl
+module _ (c : Context) (service : Service) (reads : ReadRule) (left : Option ServerTransaction) (a : Apdu) where
+  pub begins_same : (free : Bool) → idle_by c service reads left free a ≡ idle_by c service reads left (begins_request a && free) a
+  begins_same free = go (begins_request a) free refl
     where
-      go : (b : Bool) → needs_place c service reads a ≡ b
-          → idle_by c service reads left (decided (is_short (away_view away)) p) a ≡ idle_by c service reads left (place_view asked) a
-      go true needs = ap (λ (q : Place). idle_by c service reads left q a) (same_place needs)
-      go false needs =
-          anyway_at c service left reads (decided (is_short (away_view away)) p) a needs ∙ sym (anyway_at c service left reads (place_view asked) a needs)
+      go : (b f : Bool) → begins_request a ≡ b → idle_by c service reads left f a ≡ idle_by c service reads left (b && f) a
+      go true f begins = refl
+      go false false begins = refl
+      go false true begins = sym (anyway_at c service left reads a (ap (λ (x : Bool). x && not (needs_no_slot c service reads a)) begins))
 
-  pub refused_same : away_view away ≡ refusal (decided (is_short (away_view away)) p) (needs_place c service reads a)
-  refused_same = go (needs_place c service reads a) refl
+  pub away_same : (free : Bool) → needs_slot c service reads a && not (begins_request a && free) ≡ needs_slot c service reads a && not free
+  away_same free = go (begins_request a) (not (needs_no_slot c service reads a))
     where
-      go : (b : Bool) → needs_place c service reads a ≡ b
-          → away_view away ≡ refusal (decided (is_short (away_view away)) p) (needs_place c service reads a)
-      go true needs = refused ∙ ap (λ (q : Place). refusal q (needs_place c service reads a)) (sym (same_place needs))
-      go false needs =
-          refused ∙ ap (refusal (place_view asked)) needs ∙ none_refused (place_view asked)
-          ∙ sym (ap (refusal (decided (is_short (away_view away)) p)) needs ∙ none_refused (decided (is_short (away_view away)) p))
-
-  -- it is not short where what was asked is not
-  pub never_short : is_short (away_view asked) ≡ false → is_short (away_view away) ≡ false
-  never_short long = go (needs_place c service reads a) refl
-    where
-      go : (b : Bool) → needs_place c service reads a ≡ b → is_short (away_view away) ≡ false
-      go true needs = ap is_short (told needs) ∙ long
-      go false needs = ap is_short (refused ∙ ap (refusal (place_view asked)) needs ∙ none_refused (place_view asked))
-
-pub not_bound : (b : Bool) (memory : Option ℕ) → (b ≡ true → is_some memory ≡ true) → memory ≡ None → b ≡ false
-not_bound false memory bound none = refl
-not_bound true memory bound none = absurd (let no : true ≡ false = sym (bound refl) ∙ ap is_some none in cc)
-
--- an APDU that begins no request begins no entry
-pub no_begin : (c : Context) (service : Service) (reads : ReadRule) (place : Place) (a : Apdu) → begins_request a ≡ false
-    → (idle_by c service reads None place a).entry ≡ None
-no_begin c service reads place a no_request =
-    let needs : needs_place c service reads a ≡ false = ap (λ (b : Bool). b && not (needs_no_place c service reads a)) no_request in
-    ap (λ (r : Reaction). r.entry) (anyway_at c service None reads place a needs ∙ sym (anyway_at c service None reads (Place.Closed 0) a needs))
-    ∙ closed reads a no_request
-  where
-    closed : (reads : ReadRule) (a : Apdu) → begins_request a ≡ false → (idle_by c service reads None (Place.Closed 0) a).entry ≡ None
-    closed ReadRule.Kept a is = refl
-    closed (ReadRule.Fresh reads) (ConfirmedRequest limits id None choice octets) is = absurd cc
-    closed (ReadRule.Fresh reads) (ConfirmedRequest limits id (Some g) choice octets) is = refl
-    closed (ReadRule.Fresh reads) _ is = refl
-
-pub begins_if : (c : Context) (service : Service) (reads : ReadRule) (place : Place) (a : Apdu) (x : ServerTransaction)
-    → (idle_by c service reads None place a).entry ≡ Some x → begins_request a ≡ true
-begins_if c service reads place a x is = go (begins_request a) refl
-  where
-    go : (b : Bool) → begins_request a ≡ b → begins_request a ≡ true
-    go true begins = begins
-    go false begins = absurd (let no : None ≡ Some x = sym (no_begin c service reads place a begins) ∙ is in cc)
+      go : (b d : Bool) → (b && d) && not (b && free) ≡ (b && d) && not free
+      go true d = refl
+      go false d = refl
 
 -- The end that is left.
 
@@ -141,22 +78,25 @@ none_left rules now key a slots after false is left absent none =
     ap (λ (l : Slots). is_none_live now (value_at code_same_key key l)) left
     ∙ ap (λ (b : Bool). is_none_live now (if b then None else o)) is ∙ none
 
--- where a slot is open, one has no live entry
-pub open_room : (rules : ServerRules) (now : ℕ) (peer : PeerView) (slots : Slots) (capacity : ℕ) (restart : Option ℕ)
-    → is_open rules now peer (end_of slots capacity restart) ≡ true → count_by (λ (s : Slot PeerKey ServerTransaction). is_live now s.value) slots < capacity
-open_room rules now peer slots capacity restart opens =
-    let seen = viewed (is_slot_live now) slots in
-    let space = first_true (nat_lt (count_by (is_slot_live now) (slots_view slots)) (open_to rules (holds_entry now (address_of peer) (slots_view slots)) capacity)) _ opens in
-    let less = open_within rules (holds_entry now (address_of peer) (slots_view slots)) (count_by (is_slot_live now) (slots_view slots)) capacity space in
-    omega (arith, less, seen)
-  where
-    open_within : (rules : ServerRules) (holds : Bool) (live n : ℕ) → nat_lt live (open_to rules holds n) ≡ true → live < n
-    open_within rules true live n is = grind (arith, nat_tests, is)
-    open_within rules false live n is = grind (arith, nat_tests, is)
+-- Whether an entry may begin, where one ended.
 
-pub opened : (short b : Bool) → Place.Open ≡ decided short (place_if b) → b ≡ true
-opened short true is = refl
-opened short false is = absurd cc
+some_ended : (rules : ServerRules) (now : ℕ) (a : Apdu) (o : Option ServerTransaction) → ends_entry rules now o a ≡ true → (v : ServerTransaction) × (o ≡ Some v)
+some_ended rules now a None h = absurd cc
+some_ended rules now a (Some v) h = (v, refl)
+
+pub place_left_is : (rules : ServerRules) (now : ℕ) (key : PeerKey) (a : Apdu) (slots : Slots) (capacity : ℕ) (restart : Option ℕ)
+    → ends_entry rules now (value_at code_same_key key slots) a ≡ true → length slots ≤ capacity
+    → ((v : ServerTransaction) → value_at code_same_key key slots ≡ Some v → length (without code_same_key key slots) + 1 ≡ length slots)
+    → is_free now (end_of (without code_same_key key slots) capacity restart) ≡ not (nat_lt now (first_after KEEP restart))
+place_left_is rules now key a slots capacity restart ends within less =
+    let v = some_ended rules now a (value_at code_same_key key slots) ends in
+    let rest : Slots = without code_same_key key slots in
+    let one : length rest + 1 ≡ length slots = less v.0 v.1 in
+    let count : count_by (λ s. is_live now s.value) rest ≤ length rest = count_by-le-length (λ s. is_live now s.value) rest in
+    let seen : count_by (is_slot_live now) (slots_view rest) ≡ count_by (λ s. is_live now s.value) rest = count_viewed ServerTransaction (is_live now) rest in
+    let below : count_by (is_slot_live now) (slots_view rest) < capacity = omega (arith, one, count, seen, within) in
+    let space : nat_lt (count_by (is_slot_live now) (slots_view rest)) capacity ≡ true = grind (arith, nat_tests, below) in
+    ap (λ (b : Bool). b && not (nat_lt now (first_after KEEP restart))) space
 
 -- The turn, where none is live.
 
@@ -172,12 +112,8 @@ served_passed now e key v w s t o sent q same r dead =
     }
 
 module _ (rules : ServerRules) (c : Settings) (now : ℕ) (key : PeerKey) (a : Apdu) (slots : Slots) (capacity : ℕ) (restart : Option ℕ) (ends : Bool) (s : Store)
-    (asked away : Option TurnedAway)
     (ends_is : ends ≡ ends_entry rules now (value_at code_same_key key slots) a)
-    (none : is_none_live now (entry_left rules now (value_at code_same_key key slots) a) ≡ true)
-    (decides : begins_request a ≡ true → place_view asked ≡ decided (is_short (away_view asked)) (place_if (is_open rules now (peer_key_view key).peer
-    (end_of (code_slots_left ends key slots) capacity restart))))
-    (refused : away_view away ≡ refusal (place_view asked) (needs_place (context_of c now (peer_key_view key)) (service_of s) rules.reads a)) where
+    (none : is_none_live now (entry_left rules now (value_at code_same_key key slots) a) ≡ true) where
   abbrev k : keys.PeerKey
   k = peer_key_view key
 
@@ -196,48 +132,46 @@ module _ (rules : ServerRules) (c : Settings) (now : ℕ) (key : PeerKey) (a : A
   abbrev pub left : Option ServerTransaction
   left = entry_left rules now o a
 
-  abbrev place : ServerEnd → Place
-  place d = decided (is_short (away_view away)) (place_if (is_open rules now k.peer d))
-
   pub none_there : is_none_live now left ≡ true
   none_there = ap (λ (x : Option ServerTransaction). is_none_live now (entry_left rules now x a)) (sym (value_viewed ServerTransaction key slots)) ∙ none
 
-  pub hears_as : server_hears at (service_of s) rules o (place rest) a ≡ idle_by at (service_of s) rules.reads left (place_view asked) a
-  hears_as =
-      idle_left at (service_of s) rules o (place rest) a none_there
-      ∙ begins_same at (service_of s) rules.reads left a asked away (place_if (is_open rules now k.peer rest)) decides refused
+  -- what begins, in a slot that was asked for
+  pub hears_as : (free : Bool) → free ≡ (begins_request a && is_free now rest)
+      → server_hears at (service_of s) rules o (is_free now rest) a ≡ idle_by at (service_of s) rules.reads left free a
+  hears_as free asked =
+      idle_left at (service_of s) rules o (is_free now rest) a none_there
+      ∙ begins_same at (service_of s) rules.reads left a (is_free now rest)
+      ∙ ap (λ (b : Bool). idle_by at (service_of s) rules.reads left b a) (sym asked)
 
-  away_there : away_view away ≡ turned_away at (service_of s) rules o (place rest) a
-  away_there =
-      refused_same at (service_of s) rules.reads left a asked away (place_if (is_open rules now k.peer rest)) decides refused
-      ∙ sym (ap (λ (b : Bool). if b then refusal (place rest) (needs_place at (service_of s) rules.reads a) else None) none_there)
+  away_there : (free away : Bool) → free ≡ (begins_request a && is_free now rest) → away ≡ (needs_slot at (service_of s) rules.reads a && not free)
+      → away ≡ is_turned_away at (service_of s) rules o (is_free now rest) a
+  away_there free away asked told =
+      told ∙ ap (λ (b : Bool). needs_slot at (service_of s) rules.reads a && not b) asked
+      ∙ away_same at (service_of s) rules.reads left a (is_free now rest)
+      ∙ sym (ap (λ (b : Bool). b && (needs_slot at (service_of s) rules.reads a && not (is_free now rest))) none_there)
 
   -- as the end is left, so it was
-  pub heard : (sent : List Datagram) (x : Option Acted) (new : ServerEnd) (t : Store)
-      → IsServed (server_goes now rest k (server_hears at (service_of s) rules o (place rest) a)) s sent x new t
-      → IsHeard rules c now k a e s sent x (away_view away) new t
-  heard sent x new t did =
+  pub heard : (free away : Bool) → free ≡ (begins_request a && is_free now rest) → away ≡ (needs_slot at (service_of s) rules.reads a && not free)
+      → (sent : List Datagram) (x : Option Acted) (new : ServerEnd) (t : Store)
+      → IsServed (server_goes now rest k (server_hears at (service_of s) rules o (is_free now rest) a)) s sent x new t → IsHeard rules c now k a e s sent x away new t
+  heard free away asked told sent x new t did =
       let same : rest ≡ end_left rules now k a e = end_left_is rules now key a slots capacity restart ends ends_is in
       record {
-        turn = subst (λ (d : ServerEnd). IsServed (server_goes now d k (server_hears at (service_of s) rules o (place d) a)) s sent x new t) same did;
-        away = away_there ∙ ap (λ (d : ServerEnd). turned_away at (service_of s) rules o (place d) a) same;
+        turn = subst (λ (d : ServerEnd). IsServed (server_goes now d k (server_hears at (service_of s) rules o (is_free now d) a)) s sent x new t) same did;
+        away = away_there free away asked told ∙ ap (λ (d : ServerEnd). is_turned_away at (service_of s) rules o (is_free now d) a) same;
       }
 
-  pub passed : (sent : List Datagram) (q : Option Done) (t : Store)
-      → IsPassed (idle_by at (service_of s) rules.reads left (place_view asked) a) left k.peer s sent q t
-      → IsServed (server_goes now rest k (server_hears at (service_of s) rules o (place rest) a)) s sent (acted_of k q) rest t
-  passed sent q t did = served_passed now rest k _ _ s t left sent q hears_as did none_there
+  pub passed : (free : Bool) → free ≡ (begins_request a && is_free now rest) → (sent : List Datagram) (q : Option Done) (t : Store)
+      → IsPassed (idle_by at (service_of s) rules.reads left free a) left k.peer s sent q t
+      → IsServed (server_goes now rest k (server_hears at (service_of s) rules o (is_free now rest) a)) s sent (acted_of k q) rest t
+  passed free asked sent q t did = served_passed now rest k _ _ s t left sent q (hears_as free asked) did none_there
 
-  pub within : (memory kept : Option ℕ) → IsDistinct code_same_key slots → IsBounded kept slots → (begins_request a ≡ false → asked ≡ None)
-      → (begins_request a ≡ true → asked ≡ None → HasRoom memory kept a) → (sent : List Datagram) (x : Option Acted) (new : ServerEnd) (t : Store)
-      → IsHeard rules c now k a e s sent x (away_view away) new t → IsWithin memory s e new
-  within memory kept distinct bounded other room sent x new t did =
-      let same : rest ≡ end_left rules now k a e = end_left_is rules now key a slots capacity restart ends ends_is in
-      let is : server_hears at (service_of s) rules o (place (end_left rules now k a e)) a ≡ idle_by at (service_of s) rules.reads left (place_view asked) a =
-      ap (λ (d : ServerEnd). server_hears at (service_of s) rules o (place d) a) (sym same) ∙ hears_as in
-      subst (λ (y : ServerEnd). IsWithin memory s e y) (sym did.turn.end)
-      (begun_within rules now k a e c s memory kept (apart slots distinct) bounded none_there asked
-      (server_hears at (service_of s) rules o (place (end_left rules now k a e)) a) is other room)
+  -- what memory has room for
+  pub adds_as : adds_nothing_at rules c now (service_of s) k a e ≡ needs_no_slot at (service_of s) rules.reads a
+  adds_as = ap (λ (b : Bool). if b then needs_no_slot at (service_of s) rules.reads a else adds_live) none_there
+    where
+      adds_live : Bool
+      adds_live = adds_nothing at (service_of s) rules.reads left a
 
 -- The entry of the key is not live, or ends.
 
@@ -260,13 +194,59 @@ ended_left rules now d a live ended = ap (λ (b : Bool). is_none_live now (if b 
 
 -- An end that is the same hears as well.
 
-pub hears_still : (rules : ServerRules) (c : Settings) (now : ℕ) (key : keys.PeerKey) (a : Apdu) (e old : ServerEnd) (s : Store) (x : Result Served NoMemory)
+pub hears_still : (rules : ServerRules) (c : Settings) (now : ℕ) (key : keys.PeerKey) (a : Apdu) (e old : ServerEnd) (s : Store) (x : Result (Option Served) NoMemory)
     (new : ServerEnd) (t : Store) → e ≡ old → Hears rules c now key a e s x new t → Hears rules c now key a old s x new t
 hears_still rules c now key a e old s x new t same h = subst (λ (d : ServerEnd). Hears rules c now key a d s x new t) same h
 
-pub within_still : (memory : Option ℕ) (s : Store) (e old new : ServerEnd) (x : Result Served NoMemory) → e ≡ old → OnOk x (IsWithin memory s e new)
-    → OnOk x (IsWithin memory s old new)
-within_still memory s e old new x same h = subst (λ (d : ServerEnd). OnOk x (IsWithin memory s d new)) same h
+pub heeds_still : (room : Bool) (rules : ServerRules) (c : Settings) (now : ℕ) (key : keys.PeerKey) (a : Apdu) (e old : ServerEnd) (s : Store)
+    (x : Result (Option Served) NoMemory) → e ≡ old → HeedsRoomAt room rules c now key a e s x → HeedsRoomAt room rules c now key a old s x
+heeds_still room rules c now key a e old s x same h = subst (λ (d : ServerEnd). HeedsRoomAt room rules c now key a d s x) same h
 
-pub bounded_still : (kept : Option ℕ) (slots old : Slots) → slots ≡ old → IsBounded kept old → IsBounded kept slots
-bounded_still kept slots old same h = subst (λ (l : Slots). IsBounded kept l) (sym same) h
+-- A live entry goes on.
+
+module _ (rules : ServerRules) (c : Settings) (now : ℕ) (key : PeerKey) (a : Apdu) (slots : Slots) (capacity : ℕ) (restart : Option ℕ) (s : Store)
+    (d : ServerTransaction) (there : value_at same_key (peer_key_view key) (slots_view slots) ≡ Some d) (live : is_live now d ≡ true)
+    (stays : is_ended rules now d a ≡ false) where
+  abbrev live_key : keys.PeerKey
+  live_key = peer_key_view key
+
+  abbrev live_end : ServerEnd
+  live_end = end_of slots capacity restart
+
+  abbrev live_at : Context
+  live_at = context_of c now live_key
+
+  abbrev present : Option ServerTransaction
+  present = value_at same_key live_key (slots_view slots)
+
+  ends_not : ends_entry rules now present a ≡ false
+  ends_not = ap (λ (x : Option ServerTransaction). ends_entry rules now x a) there ∙ ap (λ (b : Bool). b && is_ended rules now d a) live ∙ stays
+
+  stays_there : entry_left rules now present a ≡ Some d
+  stays_there = ap (λ (b : Bool). if b then None else present) ends_not ∙ there
+
+  one_there : is_none_live now (entry_left rules now present a) ≡ false
+  one_there = ap (is_none_live now) stays_there ∙ ap (λ (b : Bool). if b then false else true) live
+
+  all_left : live_end ≡ end_left rules now live_key a live_end
+  all_left = sym (ap (λ (b : Bool). record live_end { slots = slots_left b live_key (slots_view slots) }) ends_not)
+
+  goes_on : (free : Bool) → server_hears live_at (service_of s) rules present free a ≡ live_on_apdu live_at (service_of s) d d.state a
+  goes_on free =
+      ap (λ (x : Option ServerTransaction). server_hears live_at (service_of s) rules x free a) there ∙ at_live live_at (service_of s) rules d free a false live stays
+
+  pub heard_live : (sent : List Datagram) (x : Option Acted) (away : Bool) (new : ServerEnd) (t : Store) → away ≡ false
+      → IsServed (server_goes now live_end live_key (live_on_apdu live_at (service_of s) d d.state a)) s sent x new t
+      → IsHeard rules c now live_key a live_end s sent x away new t
+  heard_live sent x away new t none did =
+      let free : Bool = is_free now (end_left rules now live_key a live_end) in
+      record {
+        turn = subst (λ (l : ServerEnd). IsServed (server_goes now l live_key (server_hears live_at (service_of s) rules present free a)) s sent x new t) all_left
+            (subst (λ (r : Reaction). IsServed (server_goes now live_end live_key r) s sent x new t) (sym (goes_on free)) did);
+        away = none ∙ sym (ap (λ (b : Bool). b && (needs_slot live_at (service_of s) rules.reads a && not free)) one_there);
+      }
+
+  pub adds_live_as : adds_nothing_at rules c now (service_of s) live_key a live_end ≡ grows_none d.state a
+  adds_live_as =
+      ap (λ (x : Option ServerTransaction). adds_nothing live_at (service_of s) rules.reads x a) stays_there
+      ∙ ap (λ (b : Bool). if (if b then false else true) then needs_no_slot live_at (service_of s) rules.reads a else grows_none d.state a) live

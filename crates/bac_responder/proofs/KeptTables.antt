@@ -1,5 +1,5 @@
 -- How many octets a reply table keeps after each call.
-use Rattle.std.proofs.Common.{◌≡◌, ℕ, ◌+◌, ◌≤◌, Bool, true, false, List, [], ◌∷◌, ◌++◌, filter, map, Option, Some, None}
+use Rattle.std.proofs.Common.{◌≡◌, ℕ, ◌+◌, ◌≤◌, Bool, true, false, ◌&&◌, List, [], ◌∷◌, ◌++◌, filter, max, map, Option, Some, None}
 use Rattle.std.proofs.Common.{if◌then◌else◌, refl, ap, sym, ◌∙◌, arith}
 use Rattle.bac_slots.specs.Slots.{IsDistinct, value_at, with_value, without}
 use Rattle.bac_protocol.specs.Context.{Settings}
@@ -99,6 +99,29 @@ module _ (now : ℕ) (key : PeerKey) (slots : Slots) where
 
       go : (b : Bool) → is_live now d ≡ b
           → kept_octets (if b then set_or_put now key d slots (is_none_live now old) else slots) ≤ kept_octets slots + n
+      go true live = put (is_none_live now old) refl live
+      go false dead = omega arith
+
+  -- where none is live, it takes the place of the dead ones
+  pub put_begins : (n : ℕ) (o : Option ServerTransaction) → is_none_live now old ≡ true → Fits now (octets_of (live_entry now old) + n) o
+      → kept_octets (put_entry now key o slots) ≤ max (kept_octets slots) (kept_octets (live_slots now slots) + n)
+  put_begins n None none fits = omega arith
+  put_begins n (Some d) none fits = go (is_live now d) refl
+    where
+      put : (b : Bool) → is_none_live now old ≡ b → is_live now d ≡ true
+          → kept_octets (set_or_put now key d slots b) ≤ max (kept_octets slots) (kept_octets (live_slots now slots) + n)
+      put true is live =
+          let sum = put_octets (live_slots now slots) (record { key = key; begin = d.begin; value = d }) in
+          let no = none_kept now old none in
+          let new = fits live in
+          omega (arith, sum, no, new)
+      put false is live = absurd (other (sym none ∙ is))
+        where
+          other : true ≡ false → ⊥
+          other e = cc
+
+      go : (b : Bool) → is_live now d ≡ b
+          → kept_octets (if b then set_or_put now key d slots (is_none_live now old) else slots) ≤ max (kept_octets slots) (kept_octets (live_slots now slots) + n)
       go true live = put (is_none_live now old) refl live
       go false dead = omega arith
 

@@ -1,8 +1,9 @@
 -- What the server's end keeps after a call, in its own terms and in those of its table.
 use Rattle.std.proofs.Common.{◌≡◌, ℕ, zero, suc, ◌+◌, ◌≤◌, Bool, true, false, ◌&&◌, List, [], ◌∷◌, filter, length, max, map, take, Option, Some, None}
-use Rattle.std.proofs.Common.{not, inl, inr, Result, Ok, Err, if◌then◌else◌, refl, ap, sym, subst, ◌∙◌, arith}
-use Rattle.std.specs.Prelude.{IfSome}
+use Rattle.std.proofs.Common.{Result, Ok, Err, if◌then◌else◌, refl, ap, sym, subst, ◌∙◌, arith}
+use Rattle.std.specs.Prelude.{IfSome, MatchOption}
 use Rattle.bac_apdu.specs.Apdu.{Apdu}
+use Rattle.bac_npdu.specs.Peers.{PeerView}
 use Rattle.bac_service.specs.Replies as plain
 use Rattle.bac_service.specs.Services.{request_at}
 use Rattle.bac_service.specs.Values.{Request}
@@ -15,16 +16,15 @@ use Rattle.bac_slots.proofs.Values.{removed_none}
 use Rattle.bac_store.specs.ReplyLengths.{DATA_LIMIT, reply_length}
 use Rattle.bac_store.specs.Replies.{reply_to}
 use Rattle.bac_store.specs.Stores.{Store}
-use Rattle.bac_protocol.specs.Context.{Context, Settings}
-use Rattle.bac_protocol.specs.Serving.{Place, ServerRules, begins_request, ends_entry, entry_left, idle_by, is_ended, needs_no_place, needs_place, server_hears}
-use Rattle.bac_protocol.proofs.ByRules.{anyway_at}
-use Rattle.bac_protocol.specs.Server.{Reaction, ServerTransaction, is_live, is_none_live, live_entry, live_on_apdu}
+use Rattle.bac_protocol.specs.Context.{Settings}
+use Rattle.bac_protocol.specs.Server.{ServerTransaction, is_live, is_none_live, live_entry}
+use Rattle.bac_protocol.specs.Serving.{ServerRules, ends_entry, entry_left, is_ended, server_hears}
 use Rattle.bac_protocol.specs.Service.{Octets}
-use Rattle.bac_transaction.specs.Ends.{ServerEnd, ServerSlot, context_of, put_entry, server_goes}
+use Rattle.bac_transaction.specs.Ends.{ServerEnd, ServerSlot, context_of, is_free, key_of, put_entry}
 use Rattle.bac_transaction.specs.Keys as keys
 use Rattle.bac_transaction.specs.Keys.{same_key}
 use Rattle.bac_transaction.specs.Reuse.{slots_left}
-use Rattle.bac_transaction.specs.Serving.{decided, end_left, place_for}
+use Rattle.bac_transaction.specs.Serving.{end_left, responder_by, turn_at}
 use Rattle.bac_transaction.specs.Services.{outcome_by, outcome_of, service_of}
 use Rattle.bac_transaction.specs.Views.{code_same_key, peer_key_view, settings_view, slot_view, slots_view}
 use Rattle.bac_transaction.specs.declared.settings.Settings.{Settings as CodeSettings}
@@ -33,12 +33,10 @@ use Rattle.bac_transaction.proofs.Keyed.{value_viewed}
 use Rattle.bac_transaction.proofs.KeyedSlots.{keys_equivalent}
 use Rattle.bac_transaction.proofs.Viewed.{orderly_viewed}
 use Rattle.bac_responder.specs.Aging.{entry_ticked}
-use Rattle.bac_responder.specs.Kept.{GoesOnWithin, HasRoom, HasShortReplies, IsBounded, IsWithin, counted, entry_octets, given_back, growth, kept_octets, octets_of, sum_of}
-use Rattle.bac_responder.specs.Hearing.{place_view, reason_of, turn_at}
+use Rattle.bac_responder.specs.Kept.{HasShortReplies, StaysWithin, adds_nothing, counted, entry_octets, given_back, growth, keeps_no_more, kept_octets, octets_of, sum_of}
 use Rattle.bac_responder.specs.Views.{end_of}
-use Rattle.bac_responder.specs.declared.turned_away.TurnedAway.{TurnedAway}
-use Rattle.bac_responder.proofs.Growth.{Fits, begun_fits, closed_fits, fits_more, live_fits, none_fits, outcome_octets}
-use Rattle.bac_responder.proofs.KeptTables.{live_slots, put_grows, put_moves, ticked_octets, without_octets}
+use Rattle.bac_responder.proofs.Growth.{Fits, hears_fits, nothing_fits, outcome_octets}
+use Rattle.bac_responder.proofs.KeptTables.{live_slots, put_begins, put_grows, put_moves, ticked_octets, without_octets}
 use Rattle.bac_responder.proofs.Ticks.{left_viewed, ticked_viewed}
 
 -- The replies of a store are short.
@@ -94,6 +92,18 @@ module _ (rules : ServerRules) (now : ℕ) (key : keys.PeerKey) (a : Apdu) (e : 
       go true = removed_none keys.PeerKey ServerTransaction same_key keys_equivalent key e.slots distinct
       go false = refl
 
+  -- where none is live, none ends
+  none_ends : is_none_live now present ≡ true → ends_entry rules now present a ≡ false
+  none_ends none = go present none
+    where
+      dead : (b d : Bool) → (if b then false else true) ≡ true → b && d ≡ false
+      dead true d none = absurd cc
+      dead false d none = refl
+
+      go : (o : Option ServerTransaction) → is_none_live now o ≡ true → ends_entry rules now o a ≡ false
+      go None none = refl
+      go (Some d) none = dead (is_live now d) (is_ended rules now d a) none
+
   -- what the entry of the key keeps more or less, all keep
   pub left_moves : IsDistinct same_key e.slots → (o : Option ServerTransaction)
       → kept_octets (put_entry now key o remaining) + octets_of present ≤ kept_octets e.slots + octets_of (value_at same_key key (put_entry now key o remaining))
@@ -102,97 +112,58 @@ module _ (rules : ServerRules) (now : ℕ) (key : keys.PeerKey) (a : Apdu) (e : 
       let sum = put_moves now key remaining (rest_distinct distinct) o in
       omega (arith, less, sum)
 
-  -- an entry that keeps so many octets more is put
-  left_grows : IsDistinct same_key e.slots → (n : ℕ) (o : Option ServerTransaction) → Fits now (octets_of (live_entry now (entry_left rules now present a)) + n) o
-      → kept_octets (put_entry now key o remaining) ≤ kept_octets e.slots + n
-  left_grows distinct n o fit =
-      let less = rest_within in
-      let sum = put_grows now key remaining n o
-      (subst (λ (x : Option ServerTransaction). Fits now (octets_of (live_entry now x) + n) o) (sym (left_there distinct)) fit) in
-      omega (arith, less, sum)
+  module _ (c : Settings) (s : Store) (short : HasShortReplies s) (distinct : IsDistinct same_key e.slots) where
+    abbrev left_after : Option ServerTransaction
+    left_after = (server_hears (context_of c now key) (service_of s) rules present (is_free now (end_left rules now key a e)) a).entry
 
-  module _ (c : Settings) (s : Store) (memory kept : Option ℕ) (distinct : IsDistinct same_key e.slots) (bounded : IfSome kept (λ k. kept_octets e.slots ≤ k)) where
-    abbrev at : Context
-    at = context_of c now key
+    left_fit : Fits now (octets_of (live_entry now (value_at same_key key remaining)) + growth a) left_after
+    left_fit = subst (λ (o : Option ServerTransaction). Fits now (octets_of (live_entry now o) + growth a) left_after) (sym (left_there distinct))
+        (hears_fits (context_of c now key) (service_of s) (short_service s short) rules present (is_free now (end_left rules now key a e)) a)
 
-    abbrev left : Option ServerTransaction
-    left = entry_left rules now present a
+    pub turn_grows : kept_octets (put_entry now key left_after remaining) ≤ kept_octets e.slots + growth a
+    turn_grows =
+        let less = rest_within in
+        let sum = put_grows now key remaining (growth a) left_after left_fit in
+        omega (arith, less, sum)
 
-    -- where memory has room for it
-    roomy : (m : ℕ) (old new grown : ℕ) → new ≤ old + growth a → (k : Option ℕ) → IfSome k (λ n. old ≤ n) → HasRoom (Some m) k a → new ≤ max old m
-    roomy m old new grown more k is (inl none) = omega (arith, more, none)
-    roomy m old new grown more None is (inr there) = absurd there
-    roomy m old new grown more (Some n) is (inr there) = omega (arith, more, is, there)
+    pub turn_begins : is_none_live now present ≡ true
+        → kept_octets (put_entry now key left_after remaining) ≤ max (kept_octets e.slots) (kept_octets (live_slots now e.slots) + growth a)
+    turn_begins none =
+        let same : remaining ≡ e.slots = ap (λ (b : Bool). slots_left b key e.slots) (none_ends none) in
+        let all = ap kept_octets same in
+        let live = ap (λ (l : List ServerSlot). kept_octets (live_slots now l)) same in
+        let there : is_none_live now (value_at same_key key remaining) ≡ true = ap (λ (l : List ServerSlot). is_none_live now (value_at same_key key l)) same ∙ none in
+        let sum = put_begins now key remaining (growth a) left_after there left_fit in
+        omega (arith, all, live, sum)
 
-    -- none is live, and one begins, or none does
-    pub begun_within : is_none_live now left ≡ true → (place : Option TurnedAway) (r : Reaction)
-        → r ≡ idle_by at (service_of s) rules.reads left (place_view place) a → (begins_request a ≡ false → place ≡ None)
-        → (begins_request a ≡ true → place ≡ None → HasRoom memory kept a) → IsWithin memory s e (server_goes now (end_left rules now key a e) key r).end
-    begun_within none place r is other room = go memory room
-      where
-        grows : HasShortReplies s → (n : ℕ) → Fits now n r.entry → kept_octets (put_entry now key r.entry remaining) ≤ kept_octets e.slots + n
-        grows short n fit =
-            left_grows distinct n r.entry (fits_more now n (octets_of (live_entry now left) + n) r.entry (omega arith) fit)
+    -- it makes no entry keep more
 
-        here : HasShortReplies s → (p : Option TurnedAway) → place ≡ p → Fits now (growth a) r.entry
-        here short p same =
-            subst (λ (x : Reaction). Fits now (growth a) x.entry) (sym is)
-            (begun_fits at (service_of s) (short_service s short) left none rules.reads (place_view place) a)
+    pub turn_adds_nothing : adds_nothing (context_of c now key) (service_of s) rules.reads (entry_left rules now present a) a ≡ true
+        → kept_octets (put_entry now key left_after remaining) ≤ kept_octets e.slots
+    turn_adds_nothing is =
+        let fit : Fits now (octets_of (live_entry now (value_at same_key key remaining)) + 0) left_after =
+        subst (λ (o : Option ServerTransaction). Fits now (octets_of (live_entry now o) + 0) left_after) (sym (left_there distinct))
+        (nothing_fits (context_of c now key) (service_of s) (short_service s short) rules present (is_free now (end_left rules now key a e)) a is) in
+        let less = rest_within in
+        let sum = put_grows now key remaining 0 left_after fit in
+        omega (arith, less, sum)
 
-        closed : HasShortReplies s → (w : TurnedAway) → place ≡ Some w → Fits now 0 r.entry
-        closed short w same =
-            subst (λ (x : Reaction). Fits now 0 x.entry)
-            (sym (is ∙ ap (λ (p : Option TurnedAway). idle_by at (service_of s) rules.reads left (place_view p) a) same))
-            (closed_fits at (service_of s) (short_service s short) left none rules.reads (reason_of w) a)
+-- Whether there is room for it.
 
-        no_request : HasShortReplies s → begins_request a ≡ false → Fits now 0 r.entry
-        no_request short none_begins =
-            let needs : needs_place at (service_of s) rules.reads a ≡ false = ap (λ (b : Bool). b && not (needs_no_place at (service_of s) rules.reads a)) none_begins in
-            subst (λ (x : Reaction). Fits now 0 x.entry)
-            (sym (is ∙ anyway_at at (service_of s) left rules.reads (place_view place) a needs
-            ∙ sym (anyway_at at (service_of s) left rules.reads (Place.Closed 0) a needs)))
-            (closed_fits at (service_of s) (short_service s short) left none rules.reads 0 a)
+module _ (now : ℕ) (peer : PeerView) (a : Apdu) (memory : ℕ) (e : ServerEnd) (distinct : IsDistinct same_key e.slots) where
+  -- it grows by no more, and there is room for that
+  grown_within : kept_octets e.slots + growth a ≤ memory → StaysWithin (Some memory) now peer a e
+  grown_within there = λ rules c s short. let sum = turn_grows rules now (key_of peer a) a e c s short distinct in omega (arith, sum, there)
 
-        go : (m : Option ℕ) → (begins_request a ≡ true → place ≡ None → HasRoom m kept a)
-            → IsWithin m s e (server_goes now (end_left rules now key a e) key r).end
-        go None room = tt
-        go (Some m) room = λ short. by_place short place refl (begins_request a) refl
-          where
-            by_place : HasShortReplies s → (p : Option TurnedAway) → place ≡ p → (b : Bool) → begins_request a ≡ b
-                → kept_octets (put_entry now key r.entry remaining) ≤ max (kept_octets e.slots) m
-            by_place short (Some w) same b begins = let sum = grows short 0 (closed short w same) in omega (arith, sum)
-            by_place short None same false begins = let sum = grows short 0 (no_request short begins) in omega (arith, sum)
-            by_place short None same true begins =
-                roomy m (kept_octets e.slots) (kept_octets (put_entry now key r.entry remaining)) 0 (grows short (growth a) (here short None same)) kept bounded
-                (room begins same)
+  -- it does not grow
+  same_within : growth a ≡ 0 → StaysWithin (Some memory) now peer a e
+  same_within none = λ rules c s short. let sum = turn_grows rules now (key_of peer a) a e c s short distinct in omega (arith, sum, none)
 
-    -- one is live, and goes on
-    pub live_within : (d : ServerTransaction) (r : Reaction) → present ≡ Some d → is_live now d ≡ true → is_ended rules now d a ≡ false
-        → r ≡ live_on_apdu at (service_of s) d d.state a → GoesOnWithin memory kept d a
-        → IsWithin memory s e (server_goes now (end_left rules now key a e) key r).end
-    live_within d r there live stays is within = go memory within
-      where
-        stays_left : left ≡ Some d
-        stays_left =
-            ap (λ (o : Option ServerTransaction). entry_left rules now o a) there
-            ∙ ap (λ (b : Bool). if b && is_ended rules now d a then None else Some d) live ∙ ap (λ (b : Bool). if b then None else Some d) stays
-
-        alive : live_entry now left ≡ Some d
-        alive = ap (live_entry now) stays_left ∙ ap (λ (b : Bool). if b then Some d else None) live
-
-        grows : (n : ℕ) → Fits now (octets_of (Some d) + n) r.entry → kept_octets (put_entry now key r.entry remaining) ≤ kept_octets e.slots + n
-        grows n fit = left_grows distinct n r.entry (subst (λ (o : Option ServerTransaction). Fits now (octets_of o + n) r.entry) (sym alive) fit)
-
-        go : (m : Option ℕ) → GoesOnWithin m kept d a → IsWithin m s e (server_goes now (end_left rules now key a e) key r).end
-        go None within = tt
-        go (Some m) (inl none) = λ short.
-            let sum = grows 0 (subst (λ (x : Reaction). Fits now (octets_of (Some d) + 0) x.entry) (sym is)
-            (none_fits at (service_of s) (short_service s short) d a none)) in
-            omega (arith, sum)
-        go (Some m) (inr room) = λ short.
-            roomy m (kept_octets e.slots) (kept_octets (put_entry now key r.entry remaining)) 0
-            (grows (growth a) (subst (λ (x : Reaction). Fits now (octets_of (Some d) + growth a) x.entry) (sym is)
-            (live_fits at (service_of s) (short_service s short) d a))) kept bounded room
+  -- no entry of its key is live, and beside the live ones there is room
+  begun_within : is_none_live now (value_at same_key (key_of peer a) e.slots) ≡ true → kept_octets (live_slots now e.slots) + growth a ≤ memory
+      → StaysWithin (Some memory) now peer a e
+  begun_within none there = λ rules c s short.
+      let sum = turn_begins rules now (key_of peer a) a e c s short distinct none in omega (arith, sum, there)
 
 -- The table.
 
@@ -213,17 +184,44 @@ counted_live now (s ∷ slots) = go (is_live now s.value) (counted_live now slot
     go true again = ap (λ n. entry_octets s.value + n) again
     go false again = omega (arith, again)
 
-each_counted : (slots : Slots) → sum_of (λ (s : Slot PeerKey ServerTransaction). entry_octets s.value) slots ≡ kept_octets (slots_view slots)
-each_counted [] = refl
-each_counted (s ∷ slots) = ap (λ n. entry_octets s.value + n) (each_counted slots)
-
-pub counted_within : (slots : Slots) (kept : Option ℕ) → IfSome kept (λ k. k ≡ sum_of (λ (s : Slot PeerKey ServerTransaction). entry_octets s.value) slots)
-    → IsBounded kept slots
-counted_within slots None is = tt
-counted_within slots (Some k) is = let same = each_counted slots in omega (arith, same, is)
+pub counted_within : (now : ℕ) (slots : Slots) (kept : Option ℕ) → IfSome kept (λ k. k ≡ sum_of (counted false now) slots)
+    → IfSome kept (λ k. kept_octets (slots_view slots) ≤ k)
+counted_within now slots None is = tt
+counted_within now slots (Some k) is = let same = counted_all now slots in omega (arith, same, is)
 
 pub apart : (slots : Slots) → IsDistinct code_same_key slots → IsDistinct same_key (slots_view slots)
 apart slots distinct = (orderly_viewed ServerTransaction slots (length slots) (length slots) distinct refl (omega arith)).distinct
+
+module _ (now : ℕ) (peer : PeerView) (a : Apdu) (memory : ℕ) (slots : Slots) (capacity : ℕ) (restart : Option ℕ) (distinct : IsDistinct code_same_key slots) where
+  pub no_more : growth a ≡ 0 → StaysWithin (Some memory) now peer a (end_of slots capacity restart)
+  no_more none = same_within now peer a memory (end_of slots capacity restart) (apart slots distinct) none
+
+  pub room_for : (kept : Option ℕ) (len : ℕ) → IfSome kept (λ k. kept_octets (slots_view slots) ≤ k) → growth a ≡ len + 65539
+      → MatchOption kept ⊥ (λ k. k + (len + 65539) ≤ memory) → StaysWithin (Some memory) now peer a (end_of slots capacity restart)
+  room_for None len within grows there = absurd there
+  room_for (Some k) len within grows there =
+      grown_within now peer a memory (end_of slots capacity restart) (apart slots distinct) (omega (arith, within, grows, there))
+
+  -- where it takes the place of the dead ones
+  pub room_instead : (key : PeerKey) → peer_key_view key ≡ key_of peer a → is_none_live now (value_at code_same_key key slots) ≡ true → (kept : Option ℕ) (len : ℕ)
+      → IfSome kept (λ k. k ≡ sum_of (counted true now) slots) → growth a ≡ len + 65539 → MatchOption kept ⊥ (λ k. k + (len + 65539) ≤ memory)
+      → StaysWithin (Some memory) now peer a (end_of slots capacity restart)
+  room_instead key is none None len within grows there = absurd there
+  room_instead key is none (Some k) len within grows there =
+      let seen : is_none_live now (value_at same_key (key_of peer a) (slots_view slots)) ≡ true =
+      ap (λ (q : keys.PeerKey). is_none_live now (value_at same_key q (slots_view slots))) (sym is)
+      ∙ ap (is_none_live now) (sym (value_viewed ServerTransaction key slots)) ∙ none in
+      let same = counted_live now slots in
+      begun_within now peer a memory (end_of slots capacity restart) (apart slots distinct) seen (omega (arith, within, grows, there, same))
+
+-- It makes no entry of the table keep more.
+
+pub nothing_within : (rules : ServerRules) (now : ℕ) (peer : PeerView) (a : Apdu) (slots : Slots) (capacity : ℕ) (restart : Option ℕ)
+    → IsDistinct code_same_key slots → (c : Settings) (s : Store) → keeps_no_more rules c now (service_of s) peer a (end_of slots capacity restart) ≡ true
+    → HasShortReplies s
+    → kept_octets (responder_by rules c now (service_of s) peer a (end_of slots capacity restart)).end.slots ≤ kept_octets (slots_view slots)
+nothing_within rules now peer a slots capacity restart distinct c s is short =
+    turn_adds_nothing rules now (key_of peer a) a (end_of slots capacity restart) c s short (apart slots distinct) is
 
 -- An APDU was taken: what the table keeps more or less, the entry of its key does.
 
@@ -237,16 +235,15 @@ seen_moves key old new put is moves =
     let after = ap octets_of (value_viewed ServerTransaction key new ∙ ap (value_at same_key (peer_key_view key)) is) in
     omega (arith, moves, all, before, after)
 
-pub turn_moves : (rules : ServerRules) (c : Settings) (now : ℕ) (s : Store) (key : PeerKey) (a : Apdu) (old new : Slots) (capacity room : ℕ) (restart : Option ℕ)
-    (short : Bool) → IsDistinct code_same_key old
-    → end_of new room restart ≡ (turn_at rules short c now s (peer_key_view key) a (end_of old capacity restart)).end
+pub turn_moved : (rules : ServerRules) (c : Settings) (now : ℕ) (s : Store) (key : PeerKey) (a : Apdu) (old new : Slots) (capacity room : ℕ) (restart : Option ℕ)
+    → IsDistinct code_same_key old → end_of new room restart ≡ (turn_at rules c now (service_of s) (peer_key_view key) a (end_of old capacity restart)).end
     → kept_octets (slots_view new) + octets_of (value_at code_same_key key old) ≤ kept_octets (slots_view old) + octets_of (value_at code_same_key key new)
-turn_moves rules c now s key a old new capacity room restart short distinct is =
+turn_moved rules c now s key a old new capacity room restart distinct is =
     let e : ServerEnd = end_of old capacity restart in
     let k : keys.PeerKey = peer_key_view key in
     seen_moves key old new _ (ap (λ (x : ServerEnd). x.slots) is)
     (left_moves rules now k a e (apart old distinct)
-    (server_hears (context_of c now k) (service_of s) rules (value_at same_key k e.slots) (decided short (place_for rules now k a e)) a).entry)
+    (server_hears (context_of c now k) (service_of s) rules (value_at same_key k (slots_view old)) (is_free now (end_left rules now k a e)) a).entry)
 
 -- A tick.
 

@@ -12,10 +12,8 @@ pub mod Begun
 pub mod Rests
 pub mod Begins
 pub mod Sums
-pub mod Openness
 pub mod Growth
 pub mod KeptTables
 pub mod KeptWithin
 pub mod Hearings
-pub mod GoingOn
 pub mod NextFree

@@ -1,17 +1,24 @@
 -- How many octets of service data the server's end keeps, and by how many an APDU can make it keep more.
-use Rattle.std.specs.Prelude.{◌≡◌, ◌⊎◌, ◌≤◌, IfSome, MatchOption, ℕ, ◌+◌, ◌*◌, max, Bool, true, false, if◌then◌else◌, List, [], ◌∷◌, length, Option, Some, None}
+use Rattle.std.specs.Prelude.{◌≡◌, ◌≤◌, ℕ, ◌+◌, ◌*◌, max, Bool, true, false, is_some, if◌then◌else◌, List, [], ◌∷◌, length, Option, Some, None}
 use Rattle.bac_apdu.specs.Apdu.{Apdu}
 use Rattle.bac_apdu.specs.Apdu.Apdu.{ConfirmedRequest, ComplexAck}
+use Rattle.bac_npdu.specs.Peers.{PeerView}
 use Rattle.bac_segment.specs.Pieces.{join}
 use Rattle.bac_slots.specs.declared.slot.Slot.{Slot}
+use Rattle.bac_slots.specs.Slots.{value_at}
 use Rattle.bac_service.specs.Values.{Request}
 use Rattle.bac_store.specs.ReplyLengths.{DATA_LIMIT, reply_length}
 use Rattle.bac_store.specs.Replies.{reply_to}
 use Rattle.bac_store.specs.Stores.{Store}
-use Rattle.bac_protocol.specs.Server.{ServerTransaction, State, is_live}
+use Rattle.bac_protocol.specs.Context.{Context, Settings}
+use Rattle.bac_protocol.specs.Server.{ServerTransaction, Service, State, is_live, is_none_live}
 use Rattle.bac_protocol.specs.Service.{Octets}
-use Rattle.bac_transaction.specs.Ends.{ServerEnd, ServerSlot}
-use Rattle.bac_transaction.specs.Views.{slots_view}
+use Rattle.bac_protocol.specs.Serving.{ReadRule, ServerRules, entry_left, needs_no_slot}
+use Rattle.bac_transaction.specs.Ends.{ServerEnd, ServerSlot, context_of, key_of}
+use Rattle.bac_transaction.specs.Keys as keys
+use Rattle.bac_transaction.specs.Keys.{same_key}
+use Rattle.bac_transaction.specs.Services.{service_of}
+use Rattle.bac_transaction.specs.Serving.{responder_by}
 use Rattle.bac_transaction.specs.declared.peer_key.PeerKey.{PeerKey}
 
 -- of segments that were received: those of each, and four for its place
@@ -75,21 +82,19 @@ growth _ = 0
 abbrev pub HasShortReplies : Store → Type 0
 HasShortReplies s = (r : Request) → reply_length (reply_to s r) ≤ DATA_LIMIT
 
--- where there is a bound, memory has room for an APDU beside so much, if it is known how much that is
-abbrev pub HasRoom : (memory : Option ℕ) → (kept : Option ℕ) → Apdu → Type 0
-HasRoom None kept a = Unit {0}
-HasRoom (Some memory) kept a = (growth a ≡ 0) ⊎ MatchOption kept ⊥ (λ k. k + growth a ≤ memory)
+-- whatever that APDU makes of the end, by any rules, it then keeps no more octets than before, or no more than the bound, if there is one
+abbrev pub StaysWithin : (memory : Option ℕ) → (now : ℕ) → PeerView → Apdu → ServerEnd → Type 0
+StaysWithin None now peer a e = Unit {0}
+StaysWithin (Some memory) now peer a e =
+    (rules : ServerRules) (c : Settings) (s : Store) → HasShortReplies s
+    → kept_octets (responder_by rules c now (service_of s) peer a e).end.slots ≤ max (kept_octets e.slots) memory
 
--- what is known of how many octets the slots of a table keep
-abbrev pub IsBounded : (kept : Option ℕ) → List (Slot PeerKey ServerTransaction) → Type 0
-IsBounded kept slots = IfSome kept (λ k. kept_octets (slots_view slots) ≤ k)
-
--- a server's end keeps no more octets than before, or no more than the bound, if there is one
+-- an end keeps no more octets than before, or no more than the bound, if there is one
 abbrev pub IsWithin : (memory : Option ℕ) → Store → (old new : ServerEnd) → Type 0
 IsWithin None s old new = Unit {0}
 IsWithin (Some memory) s old new = HasShortReplies s → kept_octets new.slots ≤ max (kept_octets old.slots) memory
 
--- What makes no entry keep more, however little room there is.
+-- What makes no end keep more, however little room there is.
 
 -- a request without SEG
 abbrev pub is_whole : Apdu → Bool
@@ -109,6 +114,26 @@ grows_none (State.Done kept) a = is_request a
 grows_none (State.SegmentedResponse out transfer since) a = is_request a
 grows_none State.Dropped a = is_request a
 
--- so it is, or memory has room for the APDU
-abbrev pub GoesOnWithin : (memory : Option ℕ) → (kept : Option ℕ) → ServerTransaction → Apdu → Type 0
-GoesOnWithin memory kept e a = (grows_none e.state a ≡ true) ⊎ HasRoom memory kept a
+-- there is an entry, and it makes that keep no more
+abbrev pub grows_none_at : Option ServerTransaction → Apdu → Bool
+grows_none_at None a = false
+grows_none_at (Some e) a = grows_none e.state a
+
+-- the entry that is left goes on and keeps no more; where none is live, an APDU that needs no slot begins none: a read whose reply is one APDU
+abbrev pub adds_nothing : Context → Service → ReadRule → (left : Option ServerTransaction) → Apdu → Bool
+adds_nothing c service reads left a = if is_none_live c.now left then needs_no_slot c service reads a else grows_none_at left a
+
+-- an APDU comes for that key
+abbrev pub adds_nothing_at : ServerRules → Settings → (now : ℕ) → Service → keys.PeerKey → Apdu → ServerEnd → Bool
+adds_nothing_at rules c now service key a e =
+    adds_nothing (context_of c now key) service rules.reads (entry_left rules now (value_at same_key key e.slots) a) a
+
+-- an APDU comes from a peer
+abbrev pub keeps_no_more : ServerRules → Settings → (now : ℕ) → Service → PeerView → Apdu → ServerEnd → Bool
+keeps_no_more rules c now service peer a e = adds_nothing_at rules c now service (key_of peer a) a e
+
+-- only such an APDU finds no room: it is a request, it can make the end keep more, and there is a bound
+pub record NeedsRoom (rules : ServerRules) (memory : Option ℕ) (c : Settings) (now : ℕ) (service : Service) (peer : PeerView) (a : Apdu) (e : ServerEnd) : Type 0 where
+  pub request : is_request a ≡ true
+  pub more : keeps_no_more rules c now service peer a e ≡ false
+  pub bound : is_some memory ≡ true

@@ -1,30 +1,30 @@
 //! An APDU comes for one transaction, by the rules of its end: its entry goes on, or ends, or none is live. `Responder::on` calls `on_apdu`.
-ghost use Rattle.std.specs.Prelude.{◌≡◌, true, false, None, IfOk, OnOk};
+ghost use Rattle.std.specs.Prelude.{◌≡◌, ◌&&◌, true, None};
 ghost use Rattle.bac_apdu.specs.Views.{apdu_view};
 ghost use Rattle.bac_slots.specs.Slots.{value_at};
 ghost use Rattle.bac_slots.specs.Ages.{IsKnownBy};
 ghost use Rattle.bac_protocol.specs.Server.{is_none_live, live_on_apdu};
-ghost use Rattle.bac_protocol.specs.Serving.{ends_entry, entry_left};
+ghost use Rattle.bac_protocol.specs.Serving.{begins_request, ends_entry, entry_left};
+ghost use Rattle.bac_transaction.specs.Ends.{is_free};
 ghost use Rattle.bac_transaction.specs.Views.{code_same_key, context_view, peer_key_view, peer_of, rules_view, settings_view};
 ghost use Rattle.bac_transaction.specs.Services.{service_of};
-ghost use Rattle.bac_responder.specs.Reactions.{Answers};
 ghost use Rattle.bac_responder.specs.Aging.{AreAged};
-ghost use Rattle.bac_responder.specs.Hearing.{Hears, away_view, code_slots_left, is_short};
-ghost use Rattle.bac_responder.specs.Kept.{GoesOnWithin, IsBounded, IsWithin};
+ghost use Rattle.bac_responder.specs.Hearing.{GoesOn, HeedsRoom, HeedsRoomAt, Hears, code_slots_left};
+ghost use Rattle.bac_responder.specs.Kept.{grows_none};
 ghost use Rattle.bac_responder.specs.TransactionViews.{performed_view};
 ghost use Rattle.bac_responder.specs.Turns.{acted_of};
 ghost use Rattle.bac_responder.specs.Views.{acted_view, end_of};
 
-use crate::aging::ServerRules;
-use crate::beginning::{Begun, idle_by};
-use crate::place::{has_room, place};
+use crate::aging::ServerAging;
+use crate::beginning::{Begun, Space, idle_by};
+use crate::ending::begins_request;
 use crate::served::{Act, Served};
-use crate::turned_away::TurnedAway;
 use crate::{Performed, ServerTransaction};
 use bac_apdu::Apdu;
-use bac_slots::{AgedTable, SlotTable, enter, remove};
+use bac_protocol::times::KEEP;
+use bac_slots::{AgedTable, SlotTable, enter, has_room, remove, removing_a_slot};
 use bac_store::Store;
-use bac_transaction::{Context, PeerKey, Rules};
+use bac_transaction::{Context, PeerKey, Rules, is_waiting};
 use bac_value::NoMemory;
 use std::alloc::Global;
 
@@ -34,12 +34,12 @@ pub(crate) struct Told {
     pub(crate) context: Context,
     pub(crate) rules: Rules,
     pub(crate) restart: Option<u64>,
-    /// How many octets the end keeps at the most; None where that is not known.
-    pub(crate) kept: Option<usize>,
+    /// Whether memory has room for whatever the APDU makes of the end.
+    pub(crate) room: bool,
 }
 
-/// What was sent, what was performed for that transaction, and why it was turned away, if it was.
-fn served(key: PeerKey, performed: Performed, turned_away: Option<TurnedAway>) -> Served
+/// What was sent, what was performed for that transaction, and whether it was turned away.
+fn served(key: PeerKey, performed: Performed, turned_away: bool) -> Served
     ensures sends { result.sends.items ≡ performed.sends.items }
     ensures act { acted_view result.act ≡ acted_of (peer_key_view key) (performed_view performed.effect) }
     ensures away { result.turned_away ≡ turned_away }
@@ -60,28 +60,54 @@ fn served(key: PeerKey, performed: Performed, turned_away: Option<TurnedAway>) -
 }
 
 impl ServerTransaction {
-    /// An APDU comes for the entry, which must be live and not end. An Err says also that a segment of its request has no room in memory.
+    /// An APDU comes for the entry, which must be live and not end. None where memory has no room for what it adds.
     fn goes_on(
         &mut self,
         alloc: Global,
         told: &Told,
         apdu: &Apdu<'_>,
         store: &mut Store,
-    ) -> Result<Performed, NoMemory>
-        ensures answers { Answers (live_on_apdu (context_view told.now.context) (service_of store.old) self.old self.old.state (apdu_view apdu.now))
+    ) -> Result<Option<Performed>, NoMemory>
+        ensures does { GoesOn (live_on_apdu (context_view told.now.context) (service_of store.old) self.old self.old.state (apdu_view apdu.now))
             (peer_of told.now.context) self.old self.new store.old result store.new }
-        ensures room { OnOk result (GoesOnWithin told.now.rules.memory told.now.kept self.old (apdu_view apdu.now)) }
+        ensures room { HeedsRoom told.now.room (grows_none self.old.state (apdu_view apdu.now)) result }
     {
-        if !self.state.grows_none(apdu) && !has_room(told, apdu, true) {
-            return Err(NoMemory);
+        if !told.room && !self.state.grows_none(apdu) {
+            return Ok(None);
         }
-        self.on_apdu(alloc, &told.context, apdu, store)
+        let performed = self.on_apdu(alloc, &told.context, apdu, store)?;
+        Ok(Some(performed))
     }
+}
+
+/// Whether an APDU begins a request, and a slot is free, once the entry of the key has ended, if it does. For any other APDU no entry is looked at.
+fn has_place_left<S: SlotTable<PeerKey, ServerTransaction>>(
+    aged: &AgedTable<ServerAging, S>,
+    told: &Told,
+    ends: bool,
+    apdu: &Apdu<'_>,
+) -> bool
+    requires aged { AreAged aged.now.ages (S.slots aged.now.table) }
+    requires ends { ends ≡ ends_entry (rules_view told.now.rules) told.now.context.moment (value_at code_same_key told.now.context.key (S.slots aged.now.table))
+        (apdu_view apdu.now) }
+    ensures { result ≡ (begins_request (apdu_view apdu.now) && is_free told.now.context.moment
+        (end_of (code_slots_left ends told.now.context.key (S.slots aged.now.table)) (S.capacity aged.now.table) told.now.restart)) }
+{
+    let now = told.context.moment;
+    if !ends {
+        return begins_request(apdu)
+            && has_room(aged, now)
+            && !is_waiting(told.restart, KEEP, now);
+    }
+    // its own slot gets free: no more entries are live than there are slots
+    let _len = aged.table.len();
+    removing_a_slot::<PeerKey, ServerTransaction>();
+    begins_request(apdu) && !is_waiting(told.restart, KEEP, now)
 }
 
 /// The entry of the key ends, if it does.
 fn end_entry<S: SlotTable<PeerKey, ServerTransaction>>(
-    aged: &mut AgedTable<ServerRules, S>,
+    aged: &mut AgedTable<ServerAging, S>,
     key: &PeerKey,
     ends: bool,
 )
@@ -97,15 +123,15 @@ fn end_entry<S: SlotTable<PeerKey, ServerTransaction>>(
     }
 }
 
-/// No entry of the key is live, or the APDU ends the one that is.
+/// No entry of the key is live, or the APDU ends the one that is. None where memory has no room.
 fn begin<S: SlotTable<PeerKey, ServerTransaction>>(
     alloc: Global,
     told: &Told,
-    aged: &mut AgedTable<ServerRules, S>,
+    aged: &mut AgedTable<ServerAging, S>,
     ends: bool,
     apdu: &Apdu<'_>,
     store: &mut Store,
-) -> Result<Served, NoMemory>
+) -> Result<Option<Served>, NoMemory>
     requires ends { ends ≡ ends_entry (rules_view told.now.rules) told.now.context.moment (value_at code_same_key told.now.context.key (S.slots aged.old.table))
         (apdu_view apdu.now) }
     requires none { is_none_live told.now.context.moment (entry_left (rules_view told.now.rules) told.now.context.moment
@@ -116,46 +142,49 @@ fn begin<S: SlotTable<PeerKey, ServerTransaction>>(
         (end_of (S.slots aged.new.table) (S.capacity aged.new.table) told.now.restart) store.new }
     ensures aged { AreAged aged.new.ages (S.slots aged.new.table) }
     ensures known { IsKnownBy told.now.context.moment aged.old.ages.latest → IsKnownBy told.now.context.moment aged.new.ages.latest }
-    ensures within { IsBounded told.now.kept (S.slots aged.old.table) → OnOk result (IsWithin told.now.rules.memory store.old
-        (end_of (S.slots aged.old.table) (S.capacity aged.old.table) told.now.restart) (end_of (S.slots aged.new.table) (S.capacity aged.new.table) told.now.restart)) }
-    ensures bound { told.now.rules.memory ≡ None → IfOk result (λ x. is_short (away_view x.turned_away) ≡ false) }
+    ensures room { HeedsRoomAt told.now.room (rules_view told.now.rules) (settings_view told.now.context.settings) told.now.context.moment
+        (peer_key_view told.now.context.key) (apdu_view apdu.now) (end_of (S.slots aged.old.table) (S.capacity aged.old.table) told.now.restart) store.old result }
 {
     let key = told.context.key;
-    // that no two entries have one key
-    let _entries = aged.table.len();
-    let place = place(aged, told, ends, apdu);
-    let Begun {
+    let space = Space {
+        free: has_place_left(aged, told, ends, apdu),
+        room: told.room,
+    };
+    let begun = idle_by(alloc, &told.context, told.rules.reads, space, apdu, store)?;
+    let Some(Begun {
         performed,
         entry,
         turned_away,
-    } = idle_by(alloc, &told.context, told.rules.reads, place, apdu, store)?;
+    }) = begun
+    else {
+        return Ok(None);
+    };
     end_entry(aged, &key, ends);
     match entry {
-        None => Ok(served(key, performed, turned_away)),
+        None => Ok(Some(served(key, performed, turned_away))),
         Some(transaction) => {
             enter(aged, key, told.context.moment, transaction);
-            Ok(served(key, performed, turned_away))
+            Ok(Some(served(key, performed, turned_away)))
         }
     }
 }
 
-/// An APDU comes for the told key. Its entry is looked up once; one that is live and does not end goes on in its slot.
+/// An APDU comes for the told key. Its entry is looked up once; one that is live and does not end goes on in its slot. None where memory has no room.
 pub(crate) fn on_apdu<S: SlotTable<PeerKey, ServerTransaction>>(
     alloc: Global,
     told: &Told,
-    aged: &mut AgedTable<ServerRules, S>,
+    aged: &mut AgedTable<ServerAging, S>,
     apdu: &Apdu<'_>,
     store: &mut Store,
-) -> Result<Served, NoMemory>
+) -> Result<Option<Served>, NoMemory>
     requires aged { AreAged aged.old.ages (S.slots aged.old.table) }
     ensures hears { Hears (rules_view told.now.rules) (settings_view told.now.context.settings) told.now.context.moment (peer_key_view told.now.context.key) (apdu_view apdu.now)
         (end_of (S.slots aged.old.table) (S.capacity aged.old.table) told.now.restart) store.old result
         (end_of (S.slots aged.new.table) (S.capacity aged.new.table) told.now.restart) store.new }
     ensures aged { AreAged aged.new.ages (S.slots aged.new.table) }
     ensures known { IsKnownBy told.now.context.moment aged.old.ages.latest → IsKnownBy told.now.context.moment aged.new.ages.latest }
-    ensures within { IsBounded told.now.kept (S.slots aged.old.table) → OnOk result (IsWithin told.now.rules.memory store.old
-        (end_of (S.slots aged.old.table) (S.capacity aged.old.table) told.now.restart) (end_of (S.slots aged.new.table) (S.capacity aged.new.table) told.now.restart)) }
-    ensures bound { told.now.rules.memory ≡ None → IfOk result (λ x. is_short (away_view x.turned_away) ≡ false) }
+    ensures room { HeedsRoomAt told.now.room (rules_view told.now.rules) (settings_view told.now.context.settings) told.now.context.moment
+        (peer_key_view told.now.context.key) (apdu_view apdu.now) (end_of (S.slots aged.old.table) (S.capacity aged.old.table) told.now.restart) store.old result }
 {
     let now = told.context.moment;
     // that no two entries have one key
@@ -171,11 +200,12 @@ pub(crate) fn on_apdu<S: SlotTable<PeerKey, ServerTransaction>>(
         return begin(alloc, told, aged, true, apdu, store);
     }
     match slot.goes_on(alloc, told, apdu, store) {
-        Ok(performed) => {
+        Ok(Some(performed)) => {
             let due = slot.due(from);
             aged.ages.comes_due(due);
-            Ok(served(told.context.key, performed, None))
+            Ok(Some(served(told.context.key, performed, false)))
         }
+        Ok(None) => Ok(None),
         Err(_) => Err(NoMemory),
     }
 }

@@ -1,9 +1,10 @@
 //! How many octets of service data the entries of the reply table keep, and whether there is room for more. `Responder` calls it.
-ghost use Rattle.std.specs.Prelude.{◌≡◌, ℕ, ◌+◌, ◌≤◌, true, IfSome, IsTrue, MatchOption, Some, false, slice_get};
+ghost use Rattle.std.specs.Prelude.{◌≡◌, ◌↔◌, ℕ, ◌+◌, ◌≤◌, true, IfSome, IsTrue, MatchOption, Some, false, slice_get};
 ghost use Rattle.std.specs.Option.{option_map};
 ghost use Rattle.bac_apdu.specs.Views.{apdu_view};
 ghost use Rattle.bac_slots.specs.declared.slot.Slot.{Slot};
 ghost use Rattle.bac_slots.specs.Slots.{value_at};
+ghost use Rattle.bac_protocol.specs.Server.{is_none_live};
 ghost use Rattle.bac_transaction.specs.Views.{code_same_key};
 ghost use Rattle.bac_responder.specs.Kept.{counted, entry_octets, given_back, grows_none, growth, is_request, is_whole, kept_length, octets_of, reply_octets, state_octets, sum_of};
 ghost use Rattle.bac_responder.specs.TransactionViews.{kept_reply_view, state_view};
@@ -82,23 +83,35 @@ fn len_of(kept: &Option<Vec<u8>>) -> usize
     }
 }
 
-/// How many octets the n-th slot in order of insertion keeps, if it is there; None where they are more than can be counted.
-fn octets_at<S: SlotTable<PeerKey, ServerTransaction>>(table: &S, n: usize) -> Option<usize>
-    ensures { IfSome result (λ k. (s : Slot PeerKey ServerTransaction) → slice_get (S.slots table.now) n ≡ Some s → k ≡ entry_octets s.value) }
+/// How many octets the n-th slot in order of insertion keeps, if it is there, and of live ones alone if asked so.
+fn octets_at<S: SlotTable<PeerKey, ServerTransaction>>(
+    table: &S,
+    n: usize,
+    only_live: bool,
+    now: u64,
+) -> Option<usize>
+    ensures { IfSome result (λ k. (s : Slot PeerKey ServerTransaction) → slice_get (S.slots table.now) n ≡ Some s → k ≡ counted only_live now s) }
 {
     let Some((_, _, entry)) = table.by_age(n) else {
         return Some(0);
     };
+    if only_live && !entry.is_live(now) {
+        return Some(0);
+    }
     entry.octets()
 }
 
-/// How many octets all slots keep, whether their entries are live or not; None where they are more than can be counted. It looks at each slot.
-pub(crate) fn count_octets<S: SlotTable<PeerKey, ServerTransaction>>(table: &S) -> Option<usize>
-    ensures { IfSome result (λ k. k ≡ sum_of (λ s. entry_octets s.value) (S.slots table.now)) }
+/// How many octets all slots keep, or those alone whose entries are live; None where they are more than can be counted. It looks at each slot.
+pub(crate) fn count_octets<S: SlotTable<PeerKey, ServerTransaction>>(
+    table: &S,
+    only_live: bool,
+    now: u64,
+) -> Option<usize>
+    ensures { IfSome result (λ k. k ≡ sum_of (counted only_live now) (S.slots table.now)) }
 {
     let mut octets: usize = 0;
     for n in 0..table.len() {
-        octets = octets.checked_add(octets_at(table, n)?)?;
+        octets = octets.checked_add(octets_at(table, n, only_live, now)?)?;
     }
     Some(octets)
 }
@@ -113,6 +126,20 @@ pub(crate) fn key_octets<S: SlotTable<PeerKey, ServerTransaction>>(
     match table.get(key) {
         None => Some(0),
         Some(entry) => entry.octets(),
+    }
+}
+
+/// Whether no entry of a key is live.
+pub(crate) fn is_none_live<S: SlotTable<PeerKey, ServerTransaction>>(
+    table: &S,
+    key: &PeerKey,
+    now: u64,
+) -> bool
+    ensures { result ≡ is_none_live now (value_at code_same_key key.now (S.slots table.now)) }
+{
+    match table.get(key) {
+        None => true,
+        Some(entry) => !entry.is_live(now),
     }
 }
 
@@ -142,7 +169,7 @@ fn is_request(apdu: &Apdu<'_>) -> bool
 
 /// Whether there is room for a request with so much service data, where so many octets are kept.
 pub(crate) fn fits(kept: Option<usize>, len: usize, room: usize) -> bool
-    ensures { IsTrue result → MatchOption kept ⊥ (λ k. k + (len + 65539) ≤ room) }
+    ensures { IsTrue result ↔ MatchOption kept ⊥ (λ k. k + (len + 65539) ≤ room) }
 {
     match kept {
         None => false,

@@ -13,14 +13,17 @@ ghost use Rattle.bac_transaction.specs.Keys.{same_key};
 ghost use Rattle.bac_transaction.specs.Views.{peer_key_view, rules_view, settings_view};
 ghost use Rattle.bac_responder.specs.Timers.{LAST_MOMENT};
 ghost use Rattle.bac_responder.specs.Short.{AreRequestsShort};
-ghost use Rattle.bac_responder.specs.Hearing.{Hears, away_view, is_short};
-ghost use Rattle.bac_responder.specs.Kept.{IsWithin, kept_octets};
+ghost use Rattle.bac_transaction.specs.Services.{service_of};
+ghost use Rattle.bac_responder.specs.Hearing.{Hears};
+ghost use Rattle.bac_responder.specs.Kept.{IsWithin, NeedsRoom, StaysWithin, growth, kept_octets};
 
 use crate::ServerTransaction;
-use crate::aging::{ServerRules, ShortRequests};
+use crate::aging::{ServerAging, ShortRequests};
 use crate::freeing::first_dead;
 use crate::hearing::{Told, on_apdu};
-use crate::keeping::{count_octets, fits, given_back, key_octets, moved, service_len, without};
+use crate::keeping::{
+    count_octets, fits, given_back, is_none_live, key_octets, moved, service_len, without,
+};
 use crate::moments::{first_end, first_timer};
 use crate::served::Served;
 use crate::ticking::{nothing_due, prepare};
@@ -48,7 +51,7 @@ pub struct Serving {
 /// The server's end of a node: the reply table.
 #[derive(Drop)]
 pub struct Responder<S: SlotTable<PeerKey, ServerTransaction> + Drop> {
-    aged: AgedTable<ServerRules, S>,
+    aged: AgedTable<ServerAging, S>,
     restart: Option<u64>,
     // how many octets the entries keep at the most; None where that is not known
     kept: Option<usize>,
@@ -156,32 +159,51 @@ impl<S: SlotTable<PeerKey, ServerTransaction> + Drop> Responder<S> {
         self.restart == other.restart && same_tables(&self.aged.table, &other.aged.table)
     }
 
-    /// Counts what the entries keep, where there seems to be no room for an APDU; once there was none, not again for 1,000 ms.
-    fn count_again(&mut self, now: u64, rules: &Rules, apdu: &Apdu<'_>)
-        ensures { self.new ≡ self.old }
+    /// Whether what the entries keep stays within the bound on memory, or does not grow, whatever an APDU makes of them; true where there is no bound. What
+    /// contracts see of the end does not change.
+    fn has_room(&mut self, memory: Option<usize>, now: u64, peer: &Peer, apdu: &Apdu<'_>) -> bool
+        ensures same { self.new ≡ self.old }
+        ensures within { IsTrue result → StaysWithin memory now (peer_view peer.now) (apdu_view apdu.now) self.old }
+        ensures needless { growth (apdu_view apdu.now) ≡ 0 → IsTrue result }
+        ensures bound { memory ≡ None → IsTrue result }
     {
-        let Some(memory) = rules.memory else {
-            return;
+        // that no two entries have one key
+        let _entries = self.aged.table.len();
+        let Some(memory) = memory else {
+            return true;
         };
         let Some(len) = service_len(apdu) else {
-            return;
+            return true;
         };
-        let shared = rules.open_to(true, memory);
-        if fits(self.kept, len, shared) || now < self.counts_from {
-            return;
+        if fits(self.kept, len, memory) {
+            return true;
         }
-        self.kept = count_octets(&self.aged.table);
-        if !fits(self.kept, len, shared) {
-            self.counts_from = now.saturating_add(PAUSE);
+        if now < self.counts_from {
+            return false;
         }
+        self.kept = count_octets(&self.aged.table, false, now);
+        if fits(self.kept, len, memory) {
+            return true;
+        }
+        let key = PeerKey {
+            peer: *peer,
+            invoke_id: invoke_id_of(apdu),
+        };
+        if is_none_live(&self.aged.table, &key, now)
+            && fits(count_octets(&self.aged.table, true, now), len, memory)
+        {
+            return true;
+        }
+        self.counts_from = now.saturating_add(PAUSE);
+        false
     }
 
     /// An APDU comes from a peer, at that moment in milliseconds: call it for each APDU that a client can send, and then send all of `sends`, in their order.
     /// `act` is the request that was performed, if any; the store has changed by it already. Call it with the same rules for all APDUs.
     ///
     /// A new request is performed, or begins to be received, where a slot is free; a copy of one with a live entry is answered from the entry, and not
-    /// performed again. A live entry is never evicted: where no slot is open to the peer's IP address, or while the end waits after a restart, a new request gets an
-    /// Abort with reason 0. All slots are open to an address that holds no live entry; one that holds some does not get those that `reserve` keeps.
+    /// performed again. A live entry is never evicted: where no slot is free, or while the end waits after a restart, a new request is turned away, with an
+    /// Abort of reason 0.
     ///
     /// Where reads are performed anew, the entry of a read that came without segments ends at the SegmentACK that finishes its reply in segments, and at an Abort of
     /// its client. Another entry is over once its reply of one APDU was sent, its reply in segments was acknowledged or aborted by its client, or its request was
@@ -192,12 +214,13 @@ impl<S: SlotTable<PeerKey, ServerTransaction> + Drop> Responder<S> {
     /// An entry that is over ends also, whatever request begins, where it began more than `remember` milliseconds ago: an equal one is then performed again.
     ///
     /// `memory` bounds the octets of service data that entries keep: of requests and replies, and of the segments of requests that are received, each with four
-    /// more. A new request is taken to need room for its own, and for the longest reply and the place of a segment, 65,539 octets. Where a slot is open, but memory
-    /// has no such room, it gets an Abort with reason 9. Entries that are not live count until the next tick. What is kept is counted one by one only where there
-    /// seems to be no room, and once there was none, not again for 1,000 ms.
+    /// more. None is returned where memory has no room, and nothing is done: drop the APDU as where memory ran out. A request is taken to need room for its own
+    /// octets, and for the longest reply and the place of a segment, 65,539 octets; any other APDU needs none. Nor does a request with a live entry that goes on,
+    /// unless it is a segment where segments are received; nor a read without segments whose reply is one APDU, where reads are performed anew. Entries
+    /// that are not live count, but not where the request takes their place. Entries are counted one by one only where there seems to be no room, and once there
+    /// was none, not again for 1,000 ms.
     ///
-    /// An Err says that an allocation failed, or that memory has no room for a segment of a request that is received; the server's end and the store are then as
-    /// before, and the same APDU can be handed in again.
+    /// An Err says that an allocation failed. The server's end and the store are then as before, and the same APDU can be handed in again.
     pub fn on(
         &mut self,
         alloc: Global,
@@ -206,13 +229,14 @@ impl<S: SlotTable<PeerKey, ServerTransaction> + Drop> Responder<S> {
         peer: &Peer,
         apdu: &Apdu<'_>,
         store: &mut Store,
-    ) -> Result<Served, NoMemory>
+    ) -> Result<Option<Served>, NoMemory>
         ensures hears { Hears (rules_view serving.now.rules) (settings_view serving.now.settings) now (key_of (peer_view peer.now) (apdu_view apdu.now)) (apdu_view apdu.now)
             self.old store.old result self.new store.new }
         ensures within { OnOk result (IsWithin serving.now.rules.memory store.old self.old self.new) }
-        ensures bound { serving.now.rules.memory ≡ None → IfOk result (λ x. is_short (away_view x.turned_away) ≡ false) }
+        ensures needless { IfOk result (λ o. o ≡ None → NeedsRoom (rules_view serving.now.rules) serving.now.rules.memory (settings_view serving.now.settings) now
+            (service_of store.old) (peer_view peer.now) (apdu_view apdu.now) self.old) }
     {
-        self.count_again(now, &serving.rules, apdu);
+        let room = self.has_room(serving.rules.memory, now, peer, apdu);
         let key = PeerKey {
             peer: *peer,
             invoke_id: invoke_id_of(apdu),
@@ -225,7 +249,7 @@ impl<S: SlotTable<PeerKey, ServerTransaction> + Drop> Responder<S> {
             },
             rules: serving.rules,
             restart: self.restart,
-            kept: self.kept,
+            room,
         };
         seek(&mut self.aged, &key);
         // that no two entries have one key

@@ -1,6 +1,5 @@
 //! What an APDU made of the server's end.
 use crate::Effect;
-use crate::turned_away::TurnedAway;
 use bac_transaction::{Datagram, PeerKey};
 
 /// A request was performed, for that transaction.
@@ -19,6 +18,6 @@ pub struct Served {
     pub sends: Vec<Datagram>,
     /// The request that was performed, if any.
     pub act: Option<Act>,
-    /// Why a request was turned away, if it was: then the one APDU that is sent is its Abort.
-    pub turned_away: Option<TurnedAway>,
+    /// Whether a request was turned away: then the one APDU that is sent is its Abort.
+    pub turned_away: bool,
 }

@@ -1,24 +1,27 @@
 -- The server's end by its rules.
-use Rattle.std.proofs.Common.{[], ◌∷◌, ◌≡◌, ◌<◌, ℕ, ◌-◌, ◌*◌, ◌/◌, Bool, true, false, ◌&&◌, ◌||◌, not, Option, Some, None, if◌then◌else◌, nat_lt, count_by, refl, ap, sym, ◌∙◌, arith}
+use Rattle.std.proofs.Common.{[], ◌∷◌, ◌≡◌, ◌<◌, ◌≤◌, ℕ, ◌+◌, Bool, true, false, ◌&&◌, ◌||◌, not, List, length, Option, Some, None, if◌then◌else◌, nat_lt, count_by}
+use Rattle.std.proofs.Common.{refl, ap, sym, ◌∙◌, arith}
 use Rattle.std.proofs.lemmas.Bool.Decides.{nat_tests}
+use Rattle.std.proofs.lemmas.List.Sums.{count_by-le-length}
 use Rattle.bac_apdu.specs.Apdu.{Apdu}
-use Rattle.bac_apdu.specs.Apdu.Apdu.{Abort}
 use Rattle.bac_npdu.specs.Peers.{PeerView}
-use Rattle.bac_slots.specs.Slots.{value_at}
+use Rattle.bac_slots.specs.Slots.{value_at, without}
 use Rattle.bac_protocol.specs.Context.{Context, Settings}
-use Rattle.bac_protocol.specs.Own.{invoke_id_of}
 use Rattle.bac_protocol.specs.Reuse as reuse
 use Rattle.bac_protocol.specs.Reuse.{is_ended_by}
 use Rattle.bac_protocol.specs.Server.{Reaction, ServerTransaction, Service, is_live, is_none_live, rests, server_abort}
-use Rattle.bac_protocol.specs.Service.{OTHER, OUT_OF_RESOURCES}
-use Rattle.bac_protocol.specs.Serving.{Place, STRICT, ServerRules, ends_entry, entry_left, fresh_rules, needs_place, place_if, refusal, server_hears}
-use Rattle.bac_protocol.proofs.ByRules.{fresh_is_reuse, strict_is_server, turns_requests_away}
-use Rattle.bac_transaction.specs.Ends.{ServerEnd, ServerTurn, act_at, context_of, is_free, is_slot_live, key_of, server_goes, waits_to_serve}
+use Rattle.bac_protocol.specs.Service.{OTHER}
+use Rattle.bac_protocol.specs.Serving.{STRICT, ServerRules, ends_entry, entry_left, fresh_rules, is_ended, needs_slot, server_hears}
+use Rattle.bac_protocol.specs.Times.{KEEP}
+use Rattle.bac_protocol.proofs.ByRules.{fresh_is_reuse, remembered_ends, remembers_all as machine_remembers_all, strict_is_server, turns_requests_away}
+use Rattle.bac_transaction.specs.Ends.{ServerEnd, ServerSlot, ServerTurn, act_at, context_of, is_free, is_slot_live, key_of, put_entry, server_goes, waits_to_serve}
 use Rattle.bac_transaction.specs.Keys.{PeerKey, same_key}
 use Rattle.bac_transaction.specs.Reuse.{is_read, slots_left}
-use Rattle.bac_transaction.specs.Serving.{address_of, away_by, decided, end_left, holds_entry, is_open, open_to, place_for, responder_by, sixteenths}
-use Rattle.bac_transaction.specs.Sends.{to_all, to_peer}
-use Rattle.bac_transaction.specs.ServingLaws.{FreshIsReusing, NoneShort, Reserves, StrictIsResponder, TurnsAwayBy}
+use Rattle.bac_transaction.specs.Serving.{end_left, is_turned_away_by, responder_by}
+use Rattle.bac_transaction.specs.Sends.{to_all}
+use Rattle.bac_transaction.specs.ServingLaws.{FreshIsReusing, RemembersAll, StrictIsResponder, TurnsAwayBy}
+use Rattle.bac_transaction.specs.Tables.{IsOrderlyServer, IsTurnedAway}
+use Rattle.bac_transaction.proofs.ServerTables.{dead_stays}
 
 none_so : (b : Bool) → b && false ≡ false
 none_so true = refl
@@ -27,33 +30,6 @@ none_so false = refl
 no_more : (b : Bool) → b || false ≡ b
 no_more true = refl
 no_more false = refl
-
--- What is reserved.
-
-nothing_reserved : (rules : ServerRules) (holds : Bool) (n : ℕ) → rules.reserve ≡ 0 → open_to rules holds n ≡ n
-nothing_reserved rules true n none = ap (λ (r : ℕ). n - n / 16 * r) none ∙ omega arith
-nothing_reserved rules false n none = refl
-
-open_as_free : (rules : ServerRules) (now : ℕ) (peer : PeerView) (e : ServerEnd)
-    → open_to rules (holds_entry now (address_of peer) e.slots) e.capacity ≡ e.capacity → is_open rules now peer e ≡ is_free now e
-open_as_free rules now peer e all = ap (λ (n : ℕ). nat_lt (count_by (is_slot_live now) e.slots) n && not (waits_to_serve now e)) all
-
-within_open : (live n : ℕ) (b : Bool) → nat_lt live n && b ≡ true → live < n
-within_open live n true is = grind (arith, nat_tests, is)
-within_open live n false is = absurd (let no : false ≡ true = sym (none_so (nat_lt live n)) ∙ is in cc)
-
-pub reserves : Reserves
-reserves = record {
-  none = λ rules now peer e holds. open_as_free rules now peer e (ap (λ (b : Bool). open_to rules b e.capacity) holds);
-  some = λ rules now peer e holds opens.
-      within_open (count_by (is_slot_live now) e.slots) (e.capacity - sixteenths rules.reserve e.capacity) (not (waits_to_serve now e))
-      (sym (ap (λ (b : Bool). nat_lt (count_by (is_slot_live now) e.slots) (open_to rules b e.capacity) && not (waits_to_serve now e)) holds) ∙ opens);
-  nothing = λ rules now peer e none. open_as_free rules now peer e (nothing_reserved rules (holds_entry now (address_of peer) e.slots) e.capacity none);
-}
-
-pub not_short : (p : Place) → decided false p ≡ p
-not_short Place.Open = refl
-not_short (Place.Closed reason) = refl
 
 -- The strict rules.
 
@@ -65,17 +41,13 @@ pub strict_is_responder : StrictIsResponder
 strict_is_responder c now service peer a e =
     let key : PeerKey = key_of peer a in
     let o : Option ServerTransaction = value_at same_key key e.slots in
-    let turn : (left : ServerEnd) (opens : Bool) → ServerTurn = λ left opens.
-    server_goes now left key (server_hears (context_of c now key) service STRICT o (decided false (place_if opens)) a) in
-    ap (λ (b : Bool). turn (record e { slots = slots_left b key e.slots }) (is_open STRICT now peer (record e { slots = slots_left b key e.slots })))
-    (strict_ends now o a)
-    ∙ ap (λ (b : Bool). turn e b) (reserves.nothing STRICT now peer e refl)
-    ∙ ap (λ (p : Place). server_goes now e key (server_hears (context_of c now key) service STRICT o p a)) (not_short (place_if (is_free now e)))
+    let turn : ServerEnd → ServerTurn = λ left. server_goes now left key (server_hears (context_of c now key) service STRICT o (is_free now left) a) in
+    ap (λ (b : Bool). turn (record e { slots = slots_left b key e.slots })) (strict_ends now o a)
     ∙ ap (λ (r : Reaction). server_goes now e key r) (strict_is_server (context_of c now key) service o (is_free now e) a)
 
 -- Fresh reads.
 
-fresh_ends : (now : ℕ) (o : Option ServerTransaction) (a : Apdu) → ends_entry (fresh_rules is_read None 0) now o a ≡ reuse.ends_entry is_read now o a
+fresh_ends : (now : ℕ) (o : Option ServerTransaction) (a : Apdu) → ends_entry (fresh_rules is_read None) now o a ≡ reuse.ends_entry is_read now o a
 fresh_ends now None a = refl
 fresh_ends now (Some d) a = ap (λ (b : Bool). is_live now d && b) (no_more (is_ended_by is_read d a))
 
@@ -83,20 +55,35 @@ pub fresh_is_reusing : FreshIsReusing
 fresh_is_reusing c now service peer a e =
     let key : PeerKey = key_of peer a in
     let o : Option ServerTransaction = value_at same_key key e.slots in
-    let by : ServerRules = fresh_rules is_read None 0 in
+    let by : ServerRules = fresh_rules is_read None in
     let left : ServerEnd = record e { slots = slots_left (reuse.ends_entry is_read now o a) key e.slots } in
-    let turn : (left : ServerEnd) (opens : Bool) → ServerTurn = λ left opens.
-    server_goes now left key (server_hears (context_of c now key) service by o (decided false (place_if opens)) a) in
-    ap (λ (b : Bool). turn (record e { slots = slots_left b key e.slots }) (is_open by now peer (record e { slots = slots_left b key e.slots })))
-    (fresh_ends now o a)
-    ∙ ap (λ (b : Bool). turn left b) (reserves.nothing by now peer left refl)
-    ∙ ap (λ (p : Place). server_goes now left key (server_hears (context_of c now key) service by o p a)) (not_short (place_if (is_free now left)))
-    ∙ ap (λ (r : Reaction). server_goes now left key r) (fresh_is_reuse (context_of c now key) service is_read 0 o (is_free now left) a)
+    let turn : ServerEnd → ServerTurn = λ left. server_goes now left key (server_hears (context_of c now key) service by o (is_free now left) a) in
+    ap (λ (b : Bool). turn (record e { slots = slots_left b key e.slots })) (fresh_ends now o a)
+    ∙ ap (λ (r : Reaction). server_goes now left key r) (fresh_is_reuse (context_of c now key) service is_read o (is_free now left) a)
+
+-- What is remembered.
+
+pub remembers_all : RemembersAll
+remembers_all rules limit c now service peer a e long =
+    let key : PeerKey = key_of peer a in
+    let o : Option ServerTransaction = value_at same_key key e.slots in
+    let so : ServerRules = record rules { remember = Some limit } in
+    let ever : ServerRules = record rules { remember = None } in
+    let left : ServerEnd = record e { slots = slots_left (ends_entry ever now o a) key e.slots } in
+    let turn : ServerEnd → ServerTurn = λ left. server_goes now left key (server_hears (context_of c now key) service so o (is_free now left) a) in
+    ap (λ (b : Bool). turn (record e { slots = slots_left b key e.slots })) (remembered_ends rules limit now o a long)
+    ∙ ap (λ (r : Reaction). server_goes now left key r) (machine_remembers_all (context_of c now key) service rules limit o (is_free now left) a long)
 
 -- What is turned away.
 
-module _ (rules : ServerRules) (short : Bool) (c : Settings) (now : ℕ) (service : Service) (peer : PeerView) (a : Apdu) (e : ServerEnd) (reason : ℕ)
-    (away : away_by rules short c now service peer a e ≡ Some reason) where
+both : (n d f : Bool) → n && (d && not f) ≡ true → (n ≡ true) × (f ≡ false)
+both true true false is = (refl, refl)
+both true true true is = absurd cc
+both true false f is = absurd cc
+both false d f is = absurd cc
+
+module _ (rules : ServerRules) (c : Settings) (now : ℕ) (service : Service) (peer : PeerView) (a : Apdu) (e : ServerEnd)
+    (away : is_turned_away_by rules c now service peer a e ≡ true) where
   abbrev key : PeerKey
   key = key_of peer a
 
@@ -106,54 +93,73 @@ module _ (rules : ServerRules) (short : Bool) (c : Settings) (now : ℕ) (servic
   abbrev old : Option ServerTransaction
   old = value_at same_key key e.slots
 
-  is : server_hears at service rules old (decided short (place_for rules now key a e)) a ≡ rests (entry_left rules now old a) (server_abort at reason ∷ [])
-  is = turns_requests_away at service rules old (decided short (place_for rules now key a e)) a reason away
+  abbrev rest : ServerEnd
+  rest = end_left rules now key a e
 
-  pub away_sends : (responder_by rules short c now service peer a e).sends ≡ to_peer peer (Abort true (invoke_id_of a) reason) ∷ []
-  away_sends = ap (λ (r : Reaction). to_all peer r.sends) is
+  parts : (is_none_live now (entry_left rules now old a) ≡ true) × (is_free now rest ≡ false)
+  parts = both (is_none_live now (entry_left rules now old a)) (needs_slot at service rules.reads a) (is_free now rest) away
 
-  pub away_acts : (responder_by rules short c now service peer a e).act ≡ None
-  away_acts = ap (λ (r : Reaction). act_at key r.effect) is
+  is : server_hears at service rules old (is_free now rest) a ≡ rests (entry_left rules now old a) (server_abort at OTHER ∷ [])
+  is = turns_requests_away at service rules old (is_free now rest) a away
 
-refused_only : (b : Bool) (p : Place) (needs : Bool) (reason : ℕ) → (if b then refusal p needs else None) ≡ Some reason → p ≡ Place.Closed reason
-refused_only true Place.Open needs reason is = absurd cc
-refused_only true (Place.Closed why) true reason is = let same : why ≡ reason = cc in ap Place.Closed same
-refused_only true (Place.Closed why) false reason is = absurd cc
-refused_only false p needs reason is = absurd cc
+  pub away_is : IsTurnedAway peer a rest (responder_by rules c now service peer a e)
+  away_is = record {
+    end = ap (λ (r : Reaction). record rest { slots = put_entry now key r.entry rest.slots }) is
+        ∙ ap (λ (l : List ServerSlot). record rest { slots = l }) (dead_stays now key (entry_left rules now old a) rest.slots parts.0);
+    sends = ap (λ (r : Reaction). to_all peer r.sends) is;
+    act = ap (λ (r : Reaction). act_at key r.effect) is;
+  }
 
-closed_by : (short opens : Bool) (reason : ℕ) → decided short (place_if opens) ≡ Place.Closed reason → reason ≡ OTHER → opens ≡ false
-closed_by short false reason is other = refl
-closed_by true true reason is other = let same : OUT_OF_RESOURCES ≡ reason = cc in absurd (omega (arith, same, other))
-closed_by false true reason is other = absurd cc
+  pub away_full : is_free now rest ≡ false
+  away_full = parts.1
 
-opened_by : (opens : Bool) (reason : ℕ) → decided true (place_if opens) ≡ Place.Closed reason → reason ≡ OUT_OF_RESOURCES → opens ≡ true
-opened_by true reason is short = refl
-opened_by false reason is short = let same : OTHER ≡ reason = cc in absurd (omega (arith, same, short))
+-- an entry that ends leaves a slot without a live one
 
-never_short : (opens : Bool) (reason : ℕ) → decided false (place_if opens) ≡ Place.Closed reason → reason ≡ OUT_OF_RESOURCES → ⊥
-never_short true reason is short = absurd cc
-never_short false reason is short = let same : OTHER ≡ reason = cc in absurd (omega (arith, same, short))
+ended_there : (rules : ServerRules) (now : ℕ) (o : Option ServerTransaction) (a : Apdu) → ends_entry rules now o a ≡ true
+    → (d : ServerTransaction) × (o ≡ Some d)
+ended_there rules now None a ends = absurd cc
+ended_there rules now (Some d) a ends = (d, refl)
 
-place_closed : (rules : ServerRules) (short : Bool) (c : Settings) (now : ℕ) (service : Service) (peer : PeerView) (a : Apdu) (e : ServerEnd) (reason : ℕ)
-    → away_by rules short c now service peer a e ≡ Some reason → decided short (place_for rules now (key_of peer a) a e) ≡ Place.Closed reason
-place_closed rules short c now service peer a e reason away =
-    let key : PeerKey = key_of peer a in
-    let o : Option ServerTransaction = value_at same_key key e.slots in
-    refused_only (is_none_live now (entry_left rules now o a)) (decided short (place_for rules now key a e))
-    (needs_place (context_of c now key) service rules.reads a) reason away
+shorter : (key : PeerKey) (slots : List ServerSlot) (d : ServerTransaction) → value_at same_key key slots ≡ Some d
+    → length (without same_key key slots) + 1 ≡ length slots
+shorter key [] d there = absurd cc
+shorter key (s ∷ slots) d there = go (same_key s.key key) there (shorter key slots d)
+  where
+    go : (b : Bool) → (if b then Some s.value else value_at same_key key slots) ≡ Some d
+        → (value_at same_key key slots ≡ Some d → length (without same_key key slots) + 1 ≡ length slots)
+        → length (if b then slots else s ∷ without same_key key slots) + 1 ≡ length (s ∷ slots)
+    go true there again = omega arith
+    go false there again = let less = again there in omega (arith, less)
+
+pub left_free : (rules : ServerRules) (now : ℕ) (key : PeerKey) (a : Apdu) (e : ServerEnd) → length e.slots ≤ e.capacity
+    → ends_entry rules now (value_at same_key key e.slots) a ≡ true
+    → nat_lt (count_by (is_slot_live now) (without same_key key e.slots)) e.capacity ≡ true
+left_free rules now key a e within ends =
+    let d = ended_there rules now (value_at same_key key e.slots) a ends in
+    let less = shorter key e.slots d.0 d.1 in
+    let few = count_by-le-length (is_slot_live now) (without same_key key e.slots) in
+    let below : count_by (is_slot_live now) (without same_key key e.slots) < e.capacity = omega (arith, less, few, within) in
+    grind (arith, nat_tests, below)
+
+pub stays_where_turned_away : (rules : ServerRules) (c : Settings) (now : ℕ) (service : Service) (peer : PeerView) (a : Apdu) (e : ServerEnd) → IsOrderlyServer e
+    → waits_to_serve now e ≡ false → is_turned_away_by rules c now service peer a e ≡ true → end_left rules now (key_of peer a) a e ≡ e
+stays_where_turned_away rules c now service peer a e orderly waits away =
+    go (ends_entry rules now o a) refl (away_full rules c now service peer a e away)
+  where
+    key : PeerKey
+    key = key_of peer a
+
+    o : Option ServerTransaction
+    o = value_at same_key key e.slots
+
+    go : (b : Bool) → ends_entry rules now o a ≡ b → is_free now (record e { slots = slots_left b key e.slots }) ≡ false
+        → record e { slots = slots_left (ends_entry rules now o a) key e.slots } ≡ e
+    go false stays full = ap (λ (b : Bool). record e { slots = slots_left b key e.slots }) stays
+    go true ends full =
+        let free = left_free rules now key a e orderly.within ends in
+        let there : is_free now (record e { slots = without same_key key e.slots }) ≡ true =
+        ap (λ (b : Bool). b && not (waits_to_serve now e)) free ∙ ap not waits in
+        absurd (let no : true ≡ false = sym there ∙ full in cc)
 
 pub turns_away_by : TurnsAwayBy
-turns_away_by = record {
-  sends = λ rules short c now service peer a e reason away. away_sends rules short c now service peer a e reason away;
-  act = λ rules short c now service peer a e reason away. away_acts rules short c now service peer a e reason away;
-  full = λ rules short c now service peer a e away.
-      closed_by short (is_open rules now peer (end_left rules now (key_of peer a) a e)) OTHER (place_closed rules short c now service peer a e OTHER away) refl;
-  short = λ rules c now service peer a e away.
-      opened_by (is_open rules now peer (end_left rules now (key_of peer a) a e)) OUT_OF_RESOURCES
-      (place_closed rules true c now service peer a e OUT_OF_RESOURCES away) refl;
-}
-
-pub none_short : NoneShort
-none_short rules c now service peer a e away =
-    never_short (is_open rules now peer (end_left rules now (key_of peer a) a e)) OUT_OF_RESOURCES
-    (place_closed rules false c now service peer a e OUT_OF_RESOURCES away) refl
+turns_away_by = record { away = away_is; full = away_full; stays = stays_where_turned_away }

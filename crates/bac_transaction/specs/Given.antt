@@ -3,13 +3,13 @@ use Rattle.std.specs.Prelude.{Bool, true, false, None}
 use Rattle.bac_transaction.specs.declared.rules.ReadRule.TheVariants as reads
 use Rattle.bac_transaction.specs.declared.rules.Rules.{Rules}
 
--- each reply is kept, for as long as its entry lives, and nothing is reserved
+-- each reply is kept, for as long as its entry lives
 abbrev pub STRICTLY : Rules
-STRICTLY = record { reads = reads.Kept; remember = None; reserve = 0; memory = None }
+STRICTLY = record { reads = reads.Kept; remember = None; memory = None }
 
--- reads are performed anew, and the last sixteenth goes only to addresses without a live entry
+-- reads are performed anew
 abbrev pub ANEW : Rules
-ANEW = record { reads = reads.Fresh; remember = None; reserve = 1; memory = None }
+ANEW = record { reads = reads.Fresh; remember = None; memory = None }
 
 -- by whether clients may use invoke IDs again
 abbrev pub rules_of : (reuse : Bool) → Rules

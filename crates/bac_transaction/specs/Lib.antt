@@ -10,7 +10,6 @@ pub mod Meanings
 pub mod Examples
 pub mod Services
 pub mod Reuse
-pub mod Remembering
 pub mod Serving
 pub mod ServingLaws
 pub mod ReuseExamples

@@ -32,7 +32,7 @@ read_rule_view rule_case.Kept = serving.Kept
 read_rule_view rule_case.Fresh = serving.Fresh is_read
 
 abbrev pub rules_view : Rules → serving.ServerRules
-rules_view r = record { reads = read_rule_view r.reads; remember = r.remember; reserve = r.reserve }
+rules_view r = record { reads = read_rule_view r.reads; remember = r.remember }
 
 -- what a machine is told
 abbrev pub context_view : Context → context.Context
