@@ -1,8 +1,9 @@
 -- What a call makes of what is behind a handle.
 use Rattle.std.specs.Prelude.{◌≡◌, ℕ, List, [], Option, None, MatchOption}
 use Rattle.bac_world.specs.Node.{Node, Outcome}
-use Rattle.bac_node.specs.Memory.{IsBounded}
-use Rattle.bac_node.specs.Serving.{ServesBy}
+use Rattle.bac_node.specs.Memory.{IsWithin}
+use Rattle.bac_transaction.specs.Views.{rules_view}
+use Rattle.bac_node.specs.Serving.{NodeHearsBy}
 use Rattle.bac_node.specs.Views.{outcome_view}
 use Rattle.bac_c.specs.declared.device.Device.{Device}
 
@@ -31,11 +32,11 @@ HasRun goes old new = MatchOption old ⊥ (λ d. MatchOption new ⊥ (λ e. Ran 
 
 -- a datagram came to a node of these rules
 abbrev pub Heard : (now : ℕ) → (from octets : List ℕ) → Device → Device → Type 0
-Heard now from octets d e = Ran (ServesBy d.rules now from octets) d e
+Heard now from octets d e = Ran (NodeHearsBy (rules_view d.rules) now from octets) d e
 
 -- its node keeps no more octets than before, or no more than it may
 abbrev pub KeepsSoMuch : Device → Device → Type 0
-KeepsSoMuch d e = MatchOption d.node ⊥ (λ m. MatchOption e.node ⊥ (IsBounded d.rules.memory m))
+KeepsSoMuch d e = MatchOption d.node ⊥ (λ m. MatchOption e.node ⊥ (IsWithin d.rules.memory m))
 
 abbrev pub HasKept : (old new : Option Device) → Type 0
 HasKept old new = MatchOption old ⊥ (λ d. MatchOption new ⊥ (KeepsSoMuch d))

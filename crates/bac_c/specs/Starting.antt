@@ -36,8 +36,8 @@ abbrev pub memory_of : (memory : ℕ) → ℕ
 memory_of memory = if memory == 0 then MEMORY else memory
 
 -- the rules by which a node serves
-abbrev pub rules_of : Settings → Rules
-rules_of s = record (given.rules_of s.reuse_invoke_ids) { memory = Some (memory_of s.memory) }
+abbrev pub rules_by : Settings → Rules
+rules_by s = record (given.rules_of s.reuse_invoke_ids) { memory = Some (memory_of s.memory) }
 
 -- enough for a request, which needs room for 65,539 octets beside its own
 abbrev pub memory_fits : (memory : ℕ) → Bool
@@ -112,7 +112,7 @@ IsReady s d = IsIdle d × IsTrue (is_right s)
 
 -- the rules by which it serves are as the settings say
 abbrev pub IsSetBy : Settings → Device → Type 0
-IsSetBy s d = d.rules ≡ rules_of s
+IsSetBy s d = d.rules ≡ rules_by s
 
 -- the node runs with the listed objects, as the settings say
 abbrev pub HasStarted : (List Object → Store → Type 0) → Settings → (restart : Option ℕ) → (old new : Option Device) → Type 0

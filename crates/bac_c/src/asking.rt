@@ -76,7 +76,7 @@ impl Device {
                     effect: None,
                     ended: Vec::new(alloc),
                     dropped: None,
-                    turned_away: None,
+                    turned_away: false,
                 };
                 Ok(ticket)
             }

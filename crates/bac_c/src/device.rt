@@ -38,7 +38,7 @@ pub fn no_outcome(alloc: Global) -> Outcome
         effect: None,
         ended: Vec::new(alloc),
         dropped: None,
-        turned_away: None,
+        turned_away: false,
     }
 }
 

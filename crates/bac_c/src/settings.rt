@@ -1,7 +1,7 @@
 //! The settings of a node, as a C program says them.
 ghost use Rattle.std.specs.Prelude.{◌≡◌, true, IfOk, IsErrOf, IsTrue, OnErr};
 ghost use Rattle.bac_node.specs.Fresh.{has_large_slots, window_fits};
-ghost use Rattle.bac_c.specs.Starting.{IsConfigOf, are_zeros, is_right, memory_fits, memory_of, rules_of};
+ghost use Rattle.bac_c.specs.Starting.{IsConfigOf, are_zeros, is_right, memory_fits, memory_of, rules_by};
 
 use crate::fault::Fault;
 use crate::records::Settings;
@@ -44,8 +44,8 @@ fn memory_of(settings: &Settings) -> usize
 }
 
 /// The rules by which a node serves.
-pub fn rules_of(settings: &Settings) -> Rules
-    ensures { result ≡ rules_of settings.now }
+pub fn rules_by(settings: &Settings) -> Rules
+    ensures { result ≡ rules_by settings.now }
 {
     Rules::of(settings.reuse_invoke_ids).within(memory_of(settings))
 }

@@ -15,7 +15,7 @@ pub use bac_driver::{
 pub use bac_node::{Cause, Config, MEMORY, NewNodeFault, Node, NodeFault, Outcome};
 pub use bac_npdu::{Address, LinkAddress, Peer, Route};
 pub use bac_requester::{AskFault, Asked, Ended, Ending};
-pub use bac_responder::{Act, Effect, TurnedAway};
+pub use bac_responder::{Act, Effect};
 pub use bac_service::{
     FileRead, FileWritten, OwnedComplex, OwnedReply, OwnedRequest, Priority, PropertyRead,
     PropertyReference, ReadAccess, ReadFile, Reject, WriteAccess, WriteFile, WriteProperty,

@@ -8,7 +8,7 @@ use Rattle.bac_transaction.specs.Ends.{Act}
 use Rattle.bac_apdu.specs.Apdu.{Apdu}
 use Rattle.bac_npdu.specs.Peers.{PeerView}
 use Rattle.bac_world.specs.Node.{Node, Outcome}
-use Rattle.bac_node.specs.Serving.{IsHeardSoBy, NodeServes, ServesBy}
+use Rattle.bac_node.specs.Serving.{IsHeardSoBy, NodeHearsBy, NodeServes}
 use Rattle.bac_transaction.specs.Views.{rules_view}
 use Rattle.bac_transaction.specs.declared.rules.Rules.{Rules}
 use Rattle.bac_world.specs.Services.{ArePerformed, Performed, store_after}
@@ -28,31 +28,31 @@ are_replied s (Some a) (Some p) performed = record { reply = performed.what.repl
 
 -- ---- a datagram
 
-store_hears : (rules : Rules) (now : ℕ) (from octets : Octets) (old new : Node) (o : Outcome) → ServesBy rules now from octets old new o
+store_hears : (rules : Rules) (now : ℕ) (from octets : Octets) (old new : Node) (o : Outcome) → NodeHearsBy (rules_view rules) now from octets old new o
     → new.store ≡ store_after old.store o.performed
 store_hears rules now from octets old new o hears = go hears.serves
   where
-    by : (why : Option ℕ) (server : Bool) (peer : PeerView) (a : Apdu) → IsHeardSoBy (rules_view rules) why server peer a now old new o
+    by : (away : Bool) (server : Bool) (peer : PeerView) (a : Apdu) → IsHeardSoBy (rules_view rules) away server peer a now old new o
         → new.store ≡ store_after old.store o.performed
-    by why true peer a served = ap (λ (n : Node). n.store) served.turn.node
-    by why false peer a turn = ap (λ (n : Node). n.store) turn.0.node ∙ sym (ap (store_after old.store) turn.0.performed)
+    by away true peer a served = ap (λ (n : Node). n.store) served.turn.node
+    by away false peer a turn = ap (λ (n : Node). n.store) turn.0.node ∙ sym (ap (store_after old.store) turn.0.performed)
 
-    go : NodeServes (rules_view rules) hears.why now from octets old new o → new.store ≡ store_after old.store o.performed
+    go : NodeServes (rules_view rules) hears.away now from octets old new o → new.store ≡ store_after old.store o.performed
     go (inl d) = ap (λ (n : Node). n.store) d.0.node ∙ sym (ap (λ (x : Outcome). store_after old.store x.performed) d.0.outcome)
-    go (inr z) = by hears.why (is_from_client z.apdu) z.peer z.apdu z.heard
+    go (inr z) = by hears.away (is_from_client z.apdu) z.peer z.apdu z.heard
 
-replied_hears : (rules : Rules) (now : ℕ) (from octets : Octets) (old new : Node) (o : Outcome) → ServesBy rules now from octets old new o
+replied_hears : (rules : Rules) (now : ℕ) (from octets : Octets) (old new : Node) (o : Outcome) → NodeHearsBy (rules_view rules) now from octets old new o
     → IfSome o.performed (IsReplied old.store)
 replied_hears rules now from octets old new o hears = go hears.serves
   where
-    by : (why : Option ℕ) (server : Bool) (peer : PeerView) (a : Apdu) → IsHeardSoBy (rules_view rules) why server peer a now old new o
+    by : (away : Bool) (server : Bool) (peer : PeerView) (a : Apdu) → IsHeardSoBy (rules_view rules) away server peer a now old new o
         → IfSome o.performed (IsReplied old.store)
-    by why true peer a served = are_replied old.store _ o.performed served.turn.performed
-    by why false peer a turn = none_replied old.store o.performed turn.0.performed
+    by away true peer a served = are_replied old.store _ o.performed served.turn.performed
+    by away false peer a turn = none_replied old.store o.performed turn.0.performed
 
-    go : NodeServes (rules_view rules) hears.why now from octets old new o → IfSome o.performed (IsReplied old.store)
+    go : NodeServes (rules_view rules) hears.away now from octets old new o → IfSome o.performed (IsReplied old.store)
     go (inl d) = none_replied old.store o.performed (ap (λ (x : Outcome). x.performed) d.0.outcome)
-    go (inr z) = by hears.why (is_from_client z.apdu) z.peer z.apdu z.heard
+    go (inr z) = by hears.away (is_from_client z.apdu) z.peer z.apdu z.heard
 
 -- ---- both steps
 

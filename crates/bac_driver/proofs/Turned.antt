@@ -7,8 +7,8 @@ use Rattle.bac_protocol.specs.Wire.{is_from_client}
 use Rattle.bac_apdu.specs.Apdu.{Apdu}
 use Rattle.bac_npdu.specs.Peers.{PeerView}
 use Rattle.bac_world.specs.Node.{Node, Outcome}
-use Rattle.bac_node.specs.Memory.{IsBounded, kept_octets}
-use Rattle.bac_node.specs.Serving.{IsHeardSoBy, NodeServes, ServesBy}
+use Rattle.bac_node.specs.Memory.{IsWithin, kept_octets}
+use Rattle.bac_node.specs.Serving.{IsHeardSoBy, NodeHearsBy, NodeServes}
 use Rattle.bac_transaction.specs.Views.{rules_view}
 use Rattle.bac_transaction.specs.declared.rules.Rules.{Rules}
 use Rattle.bac_transaction.specs.Sends.{Datagram}
@@ -19,21 +19,21 @@ use Rattle.bac_driver.specs.Turns.{Acts, Hears, Ticks, Turn, call_of, counted, w
 use Rattle.bac_driver.proofs.Counts.{counted_both, with_more}
 
 -- a datagram that comes at a moment leaves the latest one of the node no later
-pub heard_in_time : (rules : Rules) (now : ℕ) (from octets : Octets) (old new : Node) (o : Outcome) → ServesBy rules now from octets old new o → new.latest ≤ now
+pub heard_in_time : (rules : Rules) (now : ℕ) (from octets : Octets) (old new : Node) (o : Outcome) → NodeHearsBy (rules_view rules) now from octets old new o → new.latest ≤ now
 heard_in_time rules now from octets old new o hears = go hears.serves
   where
-    by : (why : Option ℕ) (server : Bool) (peer : PeerView) (a : Apdu) → IsHeardSoBy (rules_view rules) why server peer a now old new o → new.latest ≤ now
-    by why true peer a served = subst (λ (n : Node). n.latest ≤ now) (sym served.turn.node) (omega arith)
-    by why false peer a turn = subst (λ (n : Node). n.latest ≤ now) (sym turn.0.node) (omega arith)
+    by : (away : Bool) (server : Bool) (peer : PeerView) (a : Apdu) → IsHeardSoBy (rules_view rules) away server peer a now old new o → new.latest ≤ now
+    by away true peer a served = subst (λ (n : Node). n.latest ≤ now) (sym served.turn.node) (omega arith)
+    by away false peer a turn = subst (λ (n : Node). n.latest ≤ now) (sym turn.0.node) (omega arith)
 
-    go : NodeServes (rules_view rules) hears.why now from octets old new o → new.latest ≤ now
+    go : NodeServes (rules_view rules) hears.away now from octets old new o → new.latest ≤ now
     go (inl d) = subst (λ (n : Node). n.latest ≤ now) (sym d.0.node) (omega arith)
-    go (inr z) = by hears.why (is_from_client z.apdu) z.peer z.apdu z.heard
+    go (inr z) = by hears.away (is_from_client z.apdu) z.peer z.apdu z.heard
 
 -- where nothing changed, its server's end keeps as much
-pub stays_bounded : (memory : Option ℕ) (old new : Node) → new ≡ old → IsBounded memory old new
-stays_bounded None old new same = tt
-stays_bounded (Some memory) old new same = let all = ap kept_octets same in omega (arith, all)
+pub stays_within : (memory : Option ℕ) (old new : Node) → new ≡ old → IsWithin memory old new
+stays_within None old new same = tt
+stays_within (Some memory) old new same = let all = ap kept_octets same in omega (arith, all)
 
 -- what a step sends goes to the link
 pub record IsSentBy (sends : List Datagram) (lost : ℕ) (failures after : ℕ) (calls calls_after : Calls) : Type 0 where

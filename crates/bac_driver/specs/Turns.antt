@@ -9,7 +9,8 @@ use Rattle.bac_driver.specs.Calls.Call.{Send}
 use Rattle.bac_world.specs.Node.{Cause, Node, Outcome, NodeTick}
 use Rattle.bac_world.specs.Services.{Performed}
 use Rattle.bac_node.specs.Calls.{IsForNoneOpen, IsNotHeard}
-use Rattle.bac_node.specs.Serving.{ServesBy}
+use Rattle.bac_node.specs.Serving.{NodeHearsBy}
+use Rattle.bac_transaction.specs.Views.{rules_view}
 use Rattle.bac_transaction.specs.declared.rules.Rules.{Rules}
 use Rattle.bac_node.specs.Waiting.{IsDueBy}
 use Rattle.bac_requester.specs.Timers.{LAST_MOMENT}
@@ -70,7 +71,7 @@ pub record IsUnheard (from octets : Octets) (old new : Node) : Type 0 where
 -- the node takes a datagram, or drops it
 abbrev pub HearsOne : (rules : Rules) → (now : ℕ) → (from octets : Octets) → (old new : Node) → (heard : Option Outcome) → Type 0
 HearsOne rules now from octets old new None = IsUnheard from octets old new
-HearsOne rules now from octets old new (Some o) = ServesBy rules now from octets old new o
+HearsOne rules now from octets old new (Some o) = NodeHearsBy (rules_view rules) now from octets old new o
 
 -- the one that came, if one did; its octets are the first of the buffer
 abbrev pub Hears : (rules : Rules) → (now : ℕ) → (buffer : Octets) → (came : Option (Octets × ℕ)) → (old new : Node) → (heard : Option Outcome) → Type 0

@@ -1,7 +1,7 @@
 //! The two steps of a turn: the node takes the datagram that has come, and ticks. `BoundNode::act` calls both; all here is private to the crate.
 ghost use Rattle.std.specs.Prelude.{◌≤◌, length, IfSome};
 ghost use Rattle.std.specs.Option.{option_map};
-ghost use Rattle.bac_node.specs.Memory.{IsBounded};
+ghost use Rattle.bac_node.specs.Memory.{IsWithin};
 ghost use Rattle.bac_node.specs.Views.{outcome_view};
 ghost use Rattle.bac_driver.specs.Turns.{Hears, Ticks};
 
@@ -9,9 +9,9 @@ use crate::turn::Received;
 use bac_node::{Node, NodeFault, Outcome};
 use bac_transaction::Rules;
 
-/// The node takes the datagram that has come, the first octets of the buffer, by its rules. None where none has come, where taking it fails to allocate, or where
-/// memory has no room for a segment that it brings: in each case nothing has changed.
-#[tactic(auto, using(crate::proofs::Turned::heard_in_time, crate::proofs::Turned::stays_bounded))]
+/// The node takes the datagram that has come, the first octets of the buffer, by its rules. None where none has come, or where memory can't be allocated for it or
+/// has no room: in each case nothing has changed.
+#[tactic(auto, using(crate::proofs::Turned::heard_in_time, crate::proofs::Turned::stays_within))]
 pub(crate) fn on_received(
     node: &mut Node,
     rules: &Rules,
@@ -23,7 +23,7 @@ pub(crate) fn on_received(
     requires timely { node.old.latest ≤ now }
     ensures heard { Hears rules.now now buffer.now received node.old node.new (option_map outcome_view result) }
     ensures timely { node.new.latest ≤ now }
-    ensures within { IsBounded rules.now.memory node.old node.new }
+    ensures within { IsWithin rules.now.memory node.old node.new }
 {
     let datagram = received?;
     let from = datagram.0;

@@ -35,10 +35,10 @@ heard_stays now peer a old new o false turn = subst (HasSameCapacities old) (sym
   servers = refl;
 })
 
-heard_so_stays : (rules : ServerRules) (why : Option ℕ) (now : ℕ) (peer : PeerView) (a : Apdu) (old new : Node) (o : Outcome) (up : Bool)
-    → IsHeardSoBy rules why up peer a now old new o → HasSameCapacities old new
-heard_so_stays rules why now peer a old new o true served = subst (HasSameCapacities old) (sym served.turn.node) (record { clients = refl; servers = refl })
-heard_so_stays rules why now peer a old new o false turn = heard_stays now peer a old new o false turn.0
+heard_so_stays : (rules : ServerRules) (away : Bool) (now : ℕ) (peer : PeerView) (a : Apdu) (old new : Node) (o : Outcome) (up : Bool)
+    → IsHeardSoBy rules away up peer a now old new o → HasSameCapacities old new
+heard_so_stays rules away now peer a old new o true served = subst (HasSameCapacities old) (sym served.turn.node) (record { clients = refl; servers = refl })
+heard_so_stays rules away now peer a old new o false turn = heard_stays now peer a old new o false turn.0
 
 asks_stays : (now : ℕ) (peer : PeerView) (limits : Limits) (r : Request) (old new : Node) (x : Asked) → IsAsked now peer limits r old new x
     → HasSameCapacities old new
@@ -59,7 +59,7 @@ capacities_stay = record {
     on now from octets old new o (inl d) = subst (HasSameCapacities old) (sym d.node) (record { clients = refl; servers = refl })
     on now from octets old new o (inr z) = heard_stays now z.peer z.apdu old new o (is_from_client z.apdu) z.heard
 
-    hear : (rules : ServerRules) (why : Option ℕ) (now : ℕ) (from octets : Octets) (old new : Node) (o : Outcome) → NodeServes rules why now from octets old new o
+    hear : (rules : ServerRules) (away : Bool) (now : ℕ) (from octets : Octets) (old new : Node) (o : Outcome) → NodeServes rules away now from octets old new o
         → HasSameCapacities old new
-    hear rules why now from octets old new o (inl d) = subst (HasSameCapacities old) (sym d.0.node) (record { clients = refl; servers = refl })
-    hear rules why now from octets old new o (inr z) = heard_so_stays rules why now z.peer z.apdu old new o (is_from_client z.apdu) z.heard
+    hear rules away now from octets old new o (inl d) = subst (HasSameCapacities old) (sym d.0.node) (record { clients = refl; servers = refl })
+    hear rules away now from octets old new o (inr z) = heard_so_stays rules away now z.peer z.apdu old new o (is_from_client z.apdu) z.heard

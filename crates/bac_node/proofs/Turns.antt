@@ -1,5 +1,5 @@
 -- What a node's ends do, the node does.
-use Rattle.std.proofs.Common.{◌≡◌, ℕ, List, [], ◌++◌, map, Option, Some, None, refl, ap, sym, subst, ◌∙◌}
+use Rattle.std.proofs.Common.{◌≡◌, ℕ, Bool, List, [], ◌++◌, map, Option, Some, None, refl, ap, sym, subst, ◌∙◌}
 use Rattle.std.specs.Option.{option_map}
 use Rattle.bac_apdu.specs.Apdu.{Apdu}
 use Rattle.bac_npdu.specs.Peers.{PeerView}
@@ -8,7 +8,7 @@ use Rattle.bac_transaction.specs.Ends as ends
 use Rattle.bac_transaction.specs.Ends.{ServerEnd, ServerTurn, key_of, requester_tick, responder_tick}
 use Rattle.bac_transaction.specs.Serving.{responder_by}
 use Rattle.bac_protocol.specs.Serving.{ServerRules}
-use Rattle.bac_responder.specs.Hearing.{IsHeard, is_short}
+use Rattle.bac_responder.specs.Hearing.{IsHeard}
 use Rattle.bac_transaction.specs.Meanings.{EndedView, IsEndedView}
 use Rattle.bac_transaction.specs.Sends.{Datagram, IsSent, Pairwise}
 use Rattle.bac_transaction.specs.Services as server
@@ -53,15 +53,15 @@ server_turned_by turn now old v t sent x o did sends ended performed dropped =
       dropped = dropped;
     }
 
-pub server_turned_so : (rules : ServerRules) (why : Option ℕ) (now : ℕ) (old at : Node) (v : ServerEnd) (t : Store) (peer : PeerView) (a : Apdu) (sent : List Datagram)
+pub server_turned_so : (rules : ServerRules) (away : Bool) (now : ℕ) (old at : Node) (v : ServerEnd) (t : Store) (peer : PeerView) (a : Apdu) (sent : List Datagram)
     (x : Option Act) (o : Outcome) → at ≡ old
-    → IsHeard rules at.settings now (key_of peer a) a at.servers at.store sent (acted_view x) why v t
+    → IsHeard rules at.settings now (key_of peer a) a at.servers at.store sent (acted_view x) away v t
     → o.sends ≡ sent → o.ended ≡ [] → o.performed ≡ option_map performed_view x → o.dropped ≡ None
-    → IsServedBy rules why peer a now old (record at { latest = now; servers = v; store = t }) o
-server_turned_so rules why now old at v t peer a sent x o same did sends ended performed dropped =
-    subst (λ (n : Node). IsServedBy rules why peer a now n (record at { latest = now; servers = v; store = t }) o) same (record {
-      turn = server_turned_by (responder_by rules (is_short why) at.settings now (service_of at.store) peer a at.servers) now at v t sent x o did.turn sends ended performed dropped;
-      away = did.away;
+    → IsServedBy rules away peer a now old (record at { latest = now; servers = v; store = t }) o
+server_turned_so rules away now old at v t peer a sent x o same did sends ended performed dropped =
+    subst (λ (n : Node). IsServedBy rules away peer a now n (record at { latest = now; servers = v; store = t }) o) same (record {
+      turn = server_turned_by (responder_by rules at.settings now (service_of at.store) peer a at.servers) now at v t sent x o did.turn sends ended performed dropped;
+      told = did.away;
     })
 
 -- A tick.

@@ -1,5 +1,5 @@
 -- How many slots a node's tables can have: as many after each call as before it.
-use Rattle.std.specs.Prelude.{◌≡◌, ℕ, Option}
+use Rattle.std.specs.Prelude.{◌≡◌, ℕ, Bool}
 use Rattle.bac_npdu.specs.Peers.{PeerView}
 use Rattle.bac_apdu.specs.Apdu.{Limits}
 use Rattle.bac_service.specs.Values.{Request}
@@ -17,7 +17,7 @@ pub record HasSameCapacities (old new : Node) : Type 0 where
 -- so it is in each call
 pub record CapacitiesStay : Type 0 where
   pub on : (now : ℕ) (from octets : Octets) (old new : Node) (o : Outcome) → NodeOn now from octets old new o → HasSameCapacities old new
-  pub hear : (rules : ServerRules) (why : Option ℕ) (now : ℕ) (from octets : Octets) (old new : Node) (o : Outcome) → NodeServes rules why now from octets old new o
+  pub hear : (rules : ServerRules) (away : Bool) (now : ℕ) (from octets : Octets) (old new : Node) (o : Outcome) → NodeServes rules away now from octets old new o
       → HasSameCapacities old new
   pub tick : (now : ℕ) (old new : Node) (o : Outcome) → NodeTick now old new o → HasSameCapacities old new
   pub commit_tick : (now : ℕ) (node : Node) → HasSameCapacities node (ticked now node)

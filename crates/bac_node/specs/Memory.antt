@@ -12,6 +12,6 @@ abbrev pub KeepsWithin : (memory : ℕ) → (old new : Node) → Type 0
 KeepsWithin memory old new = kept_octets new ≤ max (kept_octets old) memory
 
 -- so it is where there is a bound
-abbrev pub IsBounded : (memory : Option ℕ) → (old new : Node) → Type 0
-IsBounded None old new = Unit {0}
-IsBounded (Some memory) old new = KeepsWithin memory old new
+abbrev pub IsWithin : (memory : Option ℕ) → (old new : Node) → Type 0
+IsWithin None old new = Unit {0}
+IsWithin (Some memory) old new = KeepsWithin memory old new

@@ -8,9 +8,9 @@ pub fn capacities_stay()
     ensures { CapacitiesStay }
 {}
 
-/// Where memory is not short, [`Node::hear`](crate::Node::hear) with the strict rules does what [`Node::on`](crate::Node::on) does. With fresh reads, nothing reserved,
-/// and each request remembered for as long as its entry lives, it lets clients use an invoke ID again. Without a bound on memory, both
-/// are the nodes of worlds.
+/// [`Node::hear`](crate::Node::hear) with the strict rules does what [`Node::on`](crate::Node::on) does. With fresh reads, and each request remembered for as long as
+/// its entry lives, it lets clients use an invoke ID again. Both are the nodes of worlds, whatever their bound on memory is.
+#[tactic(auto, using(crate::proofs::Rules::strict_is_on, crate::proofs::Rules::fresh_is_so, crate::proofs::Rules::hears_as_in_worlds))]
 pub fn hears_by_rules()
     ensures strict { StrictIsOn }
     ensures fresh { FreshIsReusing }

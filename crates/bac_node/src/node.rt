@@ -21,16 +21,16 @@ ghost use Rattle.bac_transaction.specs.Tables.{AreLive, IsOrderlyClient, IsOrder
 ghost use Rattle.bac_transaction.specs.Views.{peer_key_view, rules_view, settings_view};
 ghost use Rattle.bac_protocol.specs.Context.{Settings as Set};
 ghost use Rattle.bac_protocol.specs.declared.times.TheConstants.{KEEP as KEPT_FOR, REST as REST_TIME};
+ghost use Rattle.bac_protocol.specs.Serving.{STRICT};
 ghost use Rattle.bac_protocol.specs.Wire.{is_from_client};
 ghost use Rattle.bac_requester.specs.Reactions.{HasNoneOpen};
 ghost use Rattle.bac_requester.specs.Short.{AreRepliesShort};
-ghost use Rattle.bac_responder.specs.Hearing.{away_view, is_short};
 ghost use Rattle.bac_responder.specs.Short.{AreRequestsShort};
 ghost use Rattle.bac_world.specs.Keys.{HasKeysApart};
 ghost use Rattle.bac_world.specs.Node.{NodeOn, NodeTick, IsHeardBy, begun_again, restarted, store_after_restart, with_change};
 ghost use Rattle.bac_node.specs.Calls.{IsAsked, IsForNoneOpen, IsNotHeard, IsTickOfBoth, Refuses, ticked};
 ghost use Rattle.bac_node.specs.Fresh.{fresh_node, has_large_slots, has_slots, has_slots_within, made_node, renewed, window_fits, with_first_id};
-ghost use Rattle.bac_node.specs.Memory.{IsBounded, kept_octets};
+ghost use Rattle.bac_node.specs.Memory.{IsWithin, KeepsWithin, kept_octets};
 ghost use Rattle.bac_node.specs.Serving.{DispatchesBy, IsServedBy, NodeServes};
 ghost use Rattle.bac_node.specs.Views.{outcome_view};
 ghost use Rattle.bac_node.specs.Waiting.{IsDueBy, MovesAt, RestsUntil};
@@ -39,6 +39,7 @@ ghost use Rattle.bac_requester.specs.Timers.{LAST_MOMENT};
 use crate::config::{Config, settings_of, slots_within};
 use crate::ends::empty_ends;
 use crate::fault::{NewNodeFault, NodeFault};
+use crate::memory::MEMORY;
 use crate::outcome::Outcome;
 use crate::reading::{is_from_client, read_from};
 use bac_apdu::{Apdu, Limits};
@@ -313,16 +314,18 @@ impl Node {
     /// It drops a datagram that comes from the node's own address or means no APDU of a peer: then only the latest moment changes. For such a datagram, and for
     /// an APDU to the client's end that no open transaction waits for, it allocates nothing.
     ///
-    /// It is `hear` with the strict rules, and without a bound on memory. `ClockBack` exactly where the moment is before the latest one. `NoMemory` where memory
-    /// can't be allocated: the caller may drop the datagram, since the peer sends it again. After a fault the node is as before.
+    /// It is `hear` with the strict rules, within [`MEMORY`](crate::MEMORY). `ClockBack` exactly where the moment is before the latest one. `NoMemory` where memory
+    /// can't be allocated, or has no room: the caller may drop the datagram, since the peer sends it again. After a fault the node is as before.
     pub fn on(&mut self, now: u64, from: LinkAddress, octets: &[u8]) -> Result<Outcome, NodeFault>
         ensures went { IfOk result (λ o. NodeOn now from octets.now self.old self.new (outcome_view o)) }
+        ensures away { IfOk result (λ o. NodeServes STRICT o.turned_away now from octets.now self.old self.new (outcome_view o)) }
         ensures early { IsErrOf result NodeFault.ClockBack ↔ (now < self.old.latest) }
         ensures dropped { IsNotHeard self.old.link from octets.now → IsErrOf result NodeFault.NoMemory → ⊥ }
         ensures none_open { IsForNoneOpen from octets.now self.old.clients → IsErrOf result NodeFault.NoMemory → ⊥ }
+        ensures within { OnOk result (KeepsWithin 67108864 self.old self.new) }
         ensures err { OnErr result (self.new ≡ self.old) }
     {
-        self.hear(&Rules::strict(), now, from, octets)
+        self.hear(&Rules::strict().within(MEMORY), now, from, octets)
     }
 
     /// A datagram comes from a link to a node of these rules. Call it with the same rules for all datagrams, or `on` for all.
@@ -331,11 +334,13 @@ impl Node {
     /// unless a request of their peer and invoke ID still goes on. They take a slot only where their reply goes in segments, until the SegmentACK that finishes it,
     /// or an Abort of their client. A kept reply of another request goes again to that request alone: another one ends it and is performed.
     ///
-    /// A new request is turned away with an Abort where no slot is open to its peer's IP address, with reason 0, and where one is, but memory has no room for the
-    /// request and the longest reply, with reason 9; `turned_away` of the outcome says so. The last slots, and the last of memory, as many sixteenths as `reserve`
-    /// says, are open only to addresses that hold no live entry.
+    /// A new request that finds no free slot, or comes while the node waits after a restart, is turned away with an Abort of reason 0; `turned_away` of the outcome
+    /// says so.
     ///
-    /// The faults are those of `on`; `NoMemory` also where memory has no room for a segment of a request that is being received.
+    /// The faults are those of `on`; `NoMemory` also where an APDU might make the server's end keep more than `memory` octets of service data: a request is taken
+    /// to need room for its own, and for the longest reply and the place of a segment, 65,539 octets. A repeat of a request that was received whole needs none,
+    /// in segments or not; nor, where reads are performed anew, does a read without segments whose reply is one APDU. What is kept already stays, but for
+    /// entries that are not live, whose place a new one takes.
     pub fn hear(
         &mut self,
         rules: &Rules,
@@ -343,12 +348,11 @@ impl Node {
         from: LinkAddress,
         octets: &[u8],
     ) -> Result<Outcome, NodeFault>
-        ensures went { IfOk result (λ o. NodeServes (rules_view rules.now) (away_view o.turned_away) now from octets.now self.old self.new (outcome_view o)) }
+        ensures went { IfOk result (λ o. NodeServes (rules_view rules.now) o.turned_away now from octets.now self.old self.new (outcome_view o)) }
         ensures early { IsErrOf result NodeFault.ClockBack ↔ (now < self.old.latest) }
         ensures dropped { IsNotHeard self.old.link from octets.now → IsErrOf result NodeFault.NoMemory → ⊥ }
         ensures none_open { IsForNoneOpen from octets.now self.old.clients → IsErrOf result NodeFault.NoMemory → ⊥ }
-        ensures within { OnOk result (IsBounded rules.now.memory self.old self.new) }
-        ensures bound { rules.now.memory ≡ None → IfOk result (λ o. is_short (away_view o.turned_away) ≡ false) }
+        ensures within { OnOk result (IsWithin rules.now.memory self.old self.new) }
         ensures err { OnErr result (self.new ≡ self.old) }
     {
         if self.is_before(now) {
@@ -373,8 +377,7 @@ impl Node {
         apdu: &Apdu<'_>,
     ) -> Result<Outcome, NoMemory>
         ensures dispatches { DispatchesBy (rules_view rules.now) now (peer_view peer.now) (apdu_view apdu.now) self.old result self.new }
-        ensures within { OnOk result (IsBounded rules.now.memory self.old self.new) }
-        ensures bound { rules.now.memory ≡ None → IfOk result (λ o. is_short (away_view o.turned_away) ≡ false) }
+        ensures within { OnOk result (IsWithin rules.now.memory self.old self.new) }
         ensures none_open { is_from_client (apdu_view apdu.now) ≡ false
             → HasNoneOpen self.old.clients (key_of (peer_view peer.now) (apdu_view apdu.now)) → IsErr result → ⊥ }
     {
@@ -393,10 +396,9 @@ impl Node {
         peer: &Peer,
         apdu: &Apdu<'_>,
     ) -> Result<Outcome, NoMemory>
-        ensures heard { IfOk result (λ o. IsServedBy (rules_view rules.now) (away_view o.turned_away) (peer_view peer.now) (apdu_view apdu.now) now self.old self.new
+        ensures heard { IfOk result (λ o. IsServedBy (rules_view rules.now) o.turned_away (peer_view peer.now) (apdu_view apdu.now) now self.old self.new
             (outcome_view o)) }
-        ensures within { OnOk result (IsBounded rules.now.memory self.old self.new) }
-        ensures bound { rules.now.memory ≡ None → IfOk result (λ o. is_short (away_view o.turned_away) ≡ false) }
+        ensures within { OnOk result (IsWithin rules.now.memory self.old self.new) }
         ensures err { OnErr result (self.new ≡ self.old) }
     {
         // what is kept of a reply is no longer than memory has room for
@@ -405,13 +407,17 @@ impl Node {
             settings: self.settings,
             rules: *rules,
         };
-        let Served {
+        let served = self
+            .servers
+            .on(self.alloc, &serving, now, peer, apdu, &mut self.store)?;
+        let Some(Served {
             sends,
             act,
             turned_away,
-        } = self
-            .servers
-            .on(self.alloc, &serving, now, peer, apdu, &mut self.store)?;
+        }) = served
+        else {
+            return Err(NoMemory);
+        };
         self.latest = now;
         Ok(Outcome {
             sends,
@@ -430,7 +436,7 @@ impl Node {
         apdu: &Apdu<'_>,
     ) -> Result<Outcome, NoMemory>
         ensures same { self.new.servers ≡ self.old.servers }
-        ensures away { IfOk result (λ o. o.turned_away ≡ None) }
+        ensures away { IfOk result (λ o. o.turned_away ≡ false) }
         ensures heard { IfOk result (λ o. IsHeardBy false (peer_view peer.now) (apdu_view apdu.now) now self.old self.new (outcome_view o)) }
         ensures none_open { HasNoneOpen self.old.clients (key_of (peer_view peer.now) (apdu_view apdu.now)) → IsErr result → ⊥ }
         ensures err { OnErr result (self.new ≡ self.old) }
@@ -442,7 +448,7 @@ impl Node {
             effect: None,
             ended,
             dropped: None,
-            turned_away: None,
+            turned_away: false,
         })
     }
 
@@ -489,7 +495,7 @@ impl Node {
             effect: None,
             ended,
             dropped: None,
-            turned_away: None,
+            turned_away: false,
         })
     }
 

@@ -1,11 +1,11 @@
 //! What a call of a node returns. Drivers, programs and C read the fields: a change of them is a change of the interface.
-ghost use Rattle.std.specs.Prelude.{◌≡◌, None};
+ghost use Rattle.std.specs.Prelude.{◌≡◌, false};
 ghost use Rattle.bac_world.specs.Node.{dropped_for};
 ghost use Rattle.bac_node.specs.Views.{cause_view, outcome_view};
 
 use crate::cause::Cause;
 use bac_requester::Ended;
-use bac_responder::{Act, TurnedAway};
+use bac_responder::Act;
 use bac_transaction::Datagram;
 use std::alloc::Global;
 
@@ -23,22 +23,22 @@ pub struct Outcome {
     pub ended: Vec<Ended>,
     /// Why the node dropped the datagram, if it did.
     pub dropped: Option<Cause>,
-    /// Why the node's server turned a request away, if it did: then the one datagram of `sends` is an Abort.
-    pub turned_away: Option<TurnedAway>,
+    /// Whether the node's server turned a request away: then the one datagram of `sends` is an Abort.
+    pub turned_away: bool,
 }
 
 impl Outcome {
     /// The outcome of a datagram that is dropped. It allocates nothing.
     pub(crate) fn dropped(alloc: Global, cause: Cause) -> Outcome
         ensures outcome { outcome_view result ≡ dropped_for (cause_view cause) }
-        ensures away { result.turned_away ≡ None }
+        ensures away { result.turned_away ≡ false }
     {
         Outcome {
             sends: Vec::new(alloc),
             effect: None,
             ended: Vec::new(alloc),
             dropped: Some(cause),
-            turned_away: None,
+            turned_away: false,
         }
     }
 }

@@ -67,13 +67,9 @@ fn datagram_of(alloc: Global, verb: &str, digits: &str) -> Option<Vec<u8>> {
     framed(alloc, &octets)
 }
 
-/// Rules that reserve nothing, with so many octets at the most.
+/// The rules by which clients may use invoke IDs again or not, with so many octets at the most.
 fn rules_of(reuse: bool, memory: usize) -> Rules {
-    Rules {
-        reserve: 0,
-        ..Rules::of(reuse)
-    }
-    .within(memory)
+    Rules::of(reuse).within(memory)
 }
 
 fn hears(

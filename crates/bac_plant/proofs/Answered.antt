@@ -1,11 +1,11 @@
 -- Runs in which an ask is answered, and in which the power is cut before.
-use Rattle.std.proofs.Common.{◌≡◌, ℕ, List, [], ◌∷◌, map, slice_index_or, slice_get, true, false, Option, Some, None, refl, sym, ap, subst, ◌∙◌, arith}
+use Rattle.std.proofs.Common.{◌≡◌, ℕ, List, [], ◌∷◌, map, slice_index_or, slice_get, true, Option, Some, None, refl, sym, ap, subst, ◌∙◌, arith}
 use Rattle.bac_protocol.specs.declared.times.TheConstants.{T_OUT}
 use Rattle.bac_requester.specs.Timers.{LAST_MOMENT}
 use Rattle.bac_transaction.specs.Ends.{ClientSlot, TransactionSlot, requester_tick}
 use Rattle.bac_transaction.specs.Ends.TransactionSlot.{Closed, Open}
 use Rattle.bac_protocol.proofs.AtDrift.{lives}
-use Rattle.bac_node.specs.Serving.{rules_as}
+use Rattle.bac_transaction.specs.Given.{STRICTLY}
 use Rattle.bac_world.specs.AnsweredRun.{LIMITS, TIME, link, node}
 use Rattle.bac_world.specs.Examples.{REQUEST}
 use Rattle.bac_world.specs.Node.{Node, Outcome, restarted}
@@ -65,7 +65,7 @@ asked_due = record { rests = asked_rests; moves = asked_moves }
 -- The ask.
 
 abbrev ASKED : BoundNode
-ASKED = record { node = ASKED_NODE; failures = 0; calls = with_calls (Some []) (map call_of (datagram (link 1) ASK ∷ [])); buffer = []; rules = rules_as false }
+ASKED = record { node = ASKED_NODE; failures = 0; calls = with_calls (Some []) (map call_of (datagram (link 1) ASK ∷ [])); buffer = []; rules = STRICTLY }
 
 abbrev begun : IsBegun 0 (question (peer_at (link 1)) LIMITS REQUEST) (station 0) 0 ASKED
 begun = record {

@@ -14,9 +14,9 @@ use Rattle.bac_world.specs.Node.{Node, NodeOn, NodeTick, Outcome}
 use Rattle.bac_world.specs.ReusingWorlds.{AreLoggedSo}
 use Rattle.bac_world.specs.World.{Hears, World, with_act}
 use Rattle.bac_world.proofs.Pairs.{append_none, pairwise_none}
-use Rattle.bac_node.specs.Serving.{ServesBy}
-use Rattle.bac_node.proofs.Rules.{on_serves}
-use Rattle.bac_transaction.specs.declared.rules.Rules.{Rules}
+use Rattle.bac_node.specs.Serving.{NodeHearsBy}
+use Rattle.bac_node.proofs.Rules.{hears_as_in_worlds}
+use Rattle.bac_transaction.specs.Views.{rules_view}
 use Rattle.bac_node.specs.Waiting.{RestsUntil}
 use Rattle.bac_driver.specs.BoundNodes.{BoundNode}
 use Rattle.bac_driver.specs.Calls.{received, with_call}
@@ -112,10 +112,10 @@ receives_it now b due is from octets =
     record { within = omega arith; wait = 0; waits = waits_not now b.node due is; told = refl; count = refl; node = refl; rules = refl }
 
 hears_it : (now : ℕ) (b : BoundNode) → IsSetTo false b → (from octets : Octets) (n : Node) (o : Outcome) → NodeOn now from octets b.node n o
-    → ServesBy b.rules now from (take (length octets) octets) b.node n o
+    → NodeHearsBy (rules_view b.rules) now from (take (length octets) octets) b.node n o
 hears_it now b off from octets n o on =
-    subst (λ (r : Rules). ServesBy r now from (take (length octets) octets) b.node n o) (sym off)
-    (on_serves now b.node n o from (take (length octets) octets) (subst (λ os. NodeOn now from os b.node n o) (sym (take-length octets)) on))
+    (hears_as_in_worlds false (rules_view b.rules) off now from (take (length octets) octets) b.node n o).1
+    (subst (λ os. NodeOn now from os b.node n o) (sym (take-length octets)) on)
 
 takes_turn : (now : ℕ) (b : BoundNode) → IsSetTo false b → (due : Option ℕ) → IsDue b.node due → (from octets : Octets) (n : Node) (o : Outcome)
     → NodeOn now from octets b.node n o → IsCalm now n → IsSomeTurn now b (turn_by now from octets o) (after_turn now b from octets n o)

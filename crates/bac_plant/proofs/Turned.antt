@@ -10,7 +10,7 @@ use Rattle.bac_protocol.specs.Wire.{is_from_client}
 use Rattle.bac_transaction.specs.Sends.{Datagram}
 use Rattle.bac_world.specs.Node.{Node, NodeOn, Outcome, IsHeardBy}
 use Rattle.bac_world.specs.ReusingLogs.{Reuses}
-use Rattle.bac_node.specs.Serving.{IsHeardSoBy, NodeServes, ServesBy, is_reusing, rules_as}
+use Rattle.bac_node.specs.Serving.{AreSetTo, IsHeardSoBy, NodeHearsBy, NodeServes, is_reusing, reads_anew, reads_of}
 use Rattle.bac_transaction.specs.declared.rules.Rules.{Rules}
 use Rattle.bac_node.proofs.Rules.{hears_as_in_worlds}
 use Rattle.bac_transaction.specs.Views.{rules_view}
@@ -69,16 +69,16 @@ on_link now from octets a b o (inr d) = go (is_from_client d.apdu) d.heard
     go true t = ap (λ (n : Node). n.link) t.node
     go false t = ap (λ (n : Node). n.link) t.node
 
-node_link : (rules : Rules) (now : ℕ) (from octets : Octets) (a b : Node) (o : Outcome) → ServesBy rules now from octets a b o → b.link ≡ a.link
+node_link : (rules : Rules) (now : ℕ) (from octets : Octets) (a b : Node) (o : Outcome) → NodeHearsBy (rules_view rules) now from octets a b o → b.link ≡ a.link
 node_link rules now from octets a b o h = go h.serves
   where
-    by : (why : Option ℕ) (up : Bool) (peer : PeerView) (apdu : Apdu) → IsHeardSoBy (rules_view rules) why up peer apdu now a b o → b.link ≡ a.link
-    by why true peer apdu t = ap (λ (n : Node). n.link) t.turn.node
-    by why false peer apdu t = ap (λ (n : Node). n.link) t.0.node
+    by : (away : Bool) (up : Bool) (peer : PeerView) (apdu : Apdu) → IsHeardSoBy (rules_view rules) away up peer apdu now a b o → b.link ≡ a.link
+    by away true peer apdu t = ap (λ (n : Node). n.link) t.turn.node
+    by away false peer apdu t = ap (λ (n : Node). n.link) t.0.node
 
-    go : NodeServes (rules_view rules) h.why now from octets a b o → b.link ≡ a.link
+    go : NodeServes (rules_view rules) h.away now from octets a b o → b.link ≡ a.link
     go (inl d) = ap (λ (n : Node). n.link) d.0.node
-    go (inr d) = by h.why (is_from_client d.apdu) d.peer d.apdu d.heard
+    go (inr d) = by h.away (is_from_client d.apdu) d.peer d.apdu d.heard
 
 pub hears_link : (rules : Rules) (now : ℕ) (buffer : Octets) (came : Option (Octets × ℕ)) (a b : Node) (heard : Option Outcome)
     → turns.Hears rules now buffer came a b heard → b.link ≡ a.link
@@ -196,15 +196,16 @@ module _ (overtake : ℕ) (u : Reuses) (p : Plant) (i : ℕ) (a b : Node) (at : 
   none_heard : b ≡ a → cs ≡ [] → between ≡ p.log → log ≡ between → After p.lives ≡ world_of p
   none_heard same none e f = nothing_called (world_of p) i a b at same cs none log (f ∙ e)
 
-  world_hears : (from octets : Octets) (o : Outcome) → ServesBy (rules_as (u i)) (shows p i) from octets a b o
+  world_hears : (rules : Rules) → AreSetTo (u i) (rules_view rules) → (from octets : Octets) (o : Outcome)
+      → NodeHearsBy (rules_view rules) (shows p i) from octets a b o
       → AreCopied (nodes_of p.stations) p.time.now i o.sends cs → AreEnded p.notes i o.ended p.log between
       → AreLoggedSo (u i) (nodes_of p.stations) p.notes i b o.performed between log → HearsSo (u i) (world_of p) i from octets Acted
-  world_hears from octets o on copied ended logged = record {
+  world_hears rules set from octets o on copied ended logged = record {
     before = a;
     at = at;
     after = b;
     outcome = o;
-    on = hears_as_in_worlds (u i) (shows p i) from octets a b o on;
+    on = (hears_as_in_worlds (u i) (rules_view rules) set (shows p i) from octets a b o).0 on;
     acts = acted (u i) (world_of p) i a b o at cs copied between log ended logged;
   }
 
@@ -233,43 +234,44 @@ module _ (overtake : ℕ) (u : Reuses) (p : Plant) (i : ℕ) (a b : Node) (at : 
   heard_as sender sent from octets link_is whole h =
       subst (λ l. HearsSo (u i) (world_of p) i l sent Acted) link_is (subst (λ os. HearsSo (u i) (world_of p) i from os Acted) whole h)
 
-  came_run : (source : Source) (d : Octets × ℕ) (buffer : Octets) (heard : Option Outcome) → turns.HearsOne (rules_as (u i)) (shows p i) d.0 (take d.1 buffer) a b heard
+  came_run : (rules : Rules) → AreSetTo (u i) (rules_view rules) → (source : Source) (d : Octets × ℕ) (buffer : Octets) (heard : Option Outcome)
+      → turns.HearsOne rules (shows p i) d.0 (take d.1 buffer) a b heard
       → HandsOver overtake p i source (Some d) buffer → AreCopied (nodes_of p.stations) p.time.now i (sends_of heard) cs
       → AreEnded p.notes i (ended_of heard) p.log between → AreLoggedSo (u i) (nodes_of p.stations) p.notes i b (performed_of heard) between log
       → WorldRunSo overtake u (world_of p) (heard_events i source heard) (After (heard_lives i source heard p.lives))
-  came_run Nowhere d buffer heard h from copied ended logged = absurd from
-  came_run (Station number) d buffer None h from copied ended logged = none_heard h.same copied ended (same_log logged)
-  came_run (Stranger sender octets) d buffer None h from copied ended logged = none_heard h.same copied ended (same_log logged)
-  came_run (Noise sender octets) d buffer None h from copied ended logged = none_heard h.same copied ended (same_log logged)
-  came_run (Station number) d buffer (Some o) h from copied ended logged =
-      arrives number d.0 (take d.1 buffer) from (world_hears d.0 (take d.1 buffer) o h copied ended logged)
-  came_run (Stranger sender octets) d buffer (Some o) h from copied ended logged = (
+  came_run rules set Nowhere d buffer heard h from copied ended logged = absurd from
+  came_run rules set (Station number) d buffer None h from copied ended logged = none_heard h.same copied ended (same_log logged)
+  came_run rules set (Stranger sender octets) d buffer None h from copied ended logged = none_heard h.same copied ended (same_log logged)
+  came_run rules set (Noise sender octets) d buffer None h from copied ended logged = none_heard h.same copied ended (same_log logged)
+  came_run rules set (Station number) d buffer (Some o) h from copied ended logged =
+      arrives number d.0 (take d.1 buffer) from (world_hears rules set d.0 (take d.1 buffer) o h copied ended logged)
+  came_run rules set (Stranger sender octets) d buffer (Some o) h from copied ended logged = (
     Acted,
     inl (record {
       fit = from.stranger;
-      hears = heard_as sender octets d.0 (take d.1 buffer) from.link_is from.whole (world_hears d.0 (take d.1 buffer) o h copied ended logged);
+      hears = heard_as sender octets d.0 (take d.1 buffer) from.link_is from.whole (world_hears rules set d.0 (take d.1 buffer) o h copied ended logged);
     }),
     refl,
   )
-  came_run (Noise sender octets) d buffer (Some o) h from copied ended logged = (
+  came_run rules set (Noise sender octets) d buffer (Some o) h from copied ended logged = (
     Acted,
     inl (record {
       fit = from.meaningless;
-      hears = heard_as sender octets d.0 (take d.1 buffer) from.link_is from.whole (world_hears d.0 (take d.1 buffer) o h copied ended logged);
+      hears = heard_as sender octets d.0 (take d.1 buffer) from.link_is from.whole (world_hears rules set d.0 (take d.1 buffer) o h copied ended logged);
     }),
     refl,
   )
 
-  pub heard_run : (source : Source) (came : Option (Octets × ℕ)) (buffer : Octets) (heard : Option Outcome)
-      → turns.Hears (rules_as (u i)) (shows p i) buffer came a b heard → HandsOver overtake p i source came buffer
+  pub heard_run : (rules : Rules) → AreSetTo (u i) (rules_view rules) → (source : Source) (came : Option (Octets × ℕ)) (buffer : Octets) (heard : Option Outcome)
+      → turns.Hears rules (shows p i) buffer came a b heard → HandsOver overtake p i source came buffer
       → AreCopied (nodes_of p.stations) p.time.now i (sends_of heard) cs
       → AreEnded p.notes i (ended_of heard) p.log between → AreLoggedSo (u i) (nodes_of p.stations) p.notes i b (performed_of heard) between log
       → WorldRunSo overtake u (world_of p) (heard_events i source heard) (After (heard_lives i source heard p.lives))
-  heard_run source (Some d) buffer heard h from copied ended logged = came_run source d buffer heard h from copied ended logged
-  heard_run source None buffer None h from copied ended logged =
+  heard_run rules set source (Some d) buffer heard h from copied ended logged = came_run rules set source d buffer heard h from copied ended logged
+  heard_run rules set source None buffer None h from copied ended logged =
       subst (λ s. WorldRunSo overtake u (world_of p) (heard_events i s None) (After (heard_lives i s None p.lives))) (sym from)
       (none_heard h.1 copied ended (same_log logged))
-  heard_run source None buffer (Some o) h from copied ended logged = absurd (let e = h.0 in cc)
+  heard_run rules set source None buffer (Some o) h from copied ended logged = absurd (let e = h.0 in cc)
 
 -- What it does at a tick.
 pub tick_run : (overtake : ℕ) (u : Reuses) (w : World) (i : ℕ) (a b : Node) → slice_get w.nodes i ≡ Some a → (ticked : Option Outcome)
@@ -319,16 +321,16 @@ pub held_hears : (rules : Rules) (now : ℕ) (before : BoundNode) (turn : turns.
 held_hears rules now before turn after t same =
     hears_by rules now before t.middle after turn t.takes.middle t.receives.node t.takes.buffer (t.receives.rules ∙ same) t.takes.hears
 
-same_setting : (reuse : Bool) → is_reusing (rules_as reuse) ≡ reuse
+same_setting : (reuse : Bool) → reads_anew (reads_of reuse) ≡ reuse
 same_setting true = refl
 same_setting false = refl
 
 -- the setting of a station that is there
-pub setting_at : (p : Plant) (i : ℕ) (b : BoundNode) → slice_get p.stations i ≡ Some b → settings_of p i ≡ is_reusing b.rules
+pub setting_at : (p : Plant) (i : ℕ) (b : BoundNode) → slice_get p.stations i ≡ Some b → settings_of p i ≡ is_reusing (rules_view b.rules)
 setting_at p i b at = ap reuse_of at
 
 module _ (overtake : ℕ) (u : Reuses) (old : Plant) (i : ℕ) (before : BoundNode) (at : slice_get old.stations i ≡ Some before) (source : Source)
-    (turn : turns.Turn) (middle : Node) (after : BoundNode) (hears : turns.Hears (rules_as (u i)) (shows old i) after.buffer turn.received before.node middle turn.heard)
+    (turn : turns.Turn) (middle : Node) (after : BoundNode) (rules : Rules) (set : AreSetTo (u i) (rules_view rules)) (hears : turns.Hears rules (shows old i) after.buffer turn.received before.node middle turn.heard)
     (ticks : turns.Ticks (shows old i) middle after.node turn.ticked) (new : Plant) (t : HappensAt (u i) overtake old i source turn middle after new) where
   first_at : slice_get (nodes_of old.stations) i ≡ Some before.node
   first_at = node_at old.stations i before at
@@ -344,7 +346,7 @@ module _ (overtake : ℕ) (u : Reuses) (old : Plant) (i : ℕ) (before : BoundNo
 
   linked : (j : ℕ) → link_at Middle.nodes j ≡ link_at (nodes_of old.stations) j
   linked = set_links (nodes_of old.stations) i before.node middle first_at
-      (hears_link (rules_as (u i)) (shows old i) after.buffer turn.received before.node middle turn.heard hears)
+      (hears_link rules (shows old i) after.buffer turn.received before.node middle turn.heard hears)
 
   last : after_call Middle i after.node (turn_lives i source turn old.lives) split.rest t.log ≡ world_of new
   last =
@@ -355,7 +357,7 @@ module _ (overtake : ℕ) (u : Reuses) (old : Plant) (i : ℕ) (before : BoundNo
 
   happens_run : WorldRunSo overtake u (world_of old) (turn_events i source turn) (world_of new)
   happens_run = run_join overtake u (heard_events i source turn.heard) (ticked_events i turn.ticked) (world_of old) Middle (world_of new)
-      (heard_run overtake u old i before.node middle first_at split.front t.entered.ended t.entered.performed source turn.received after.buffer
+      (heard_run overtake u old i before.node middle first_at split.front t.entered.ended t.entered.performed rules set source turn.received after.buffer
       turn.heard hears t.comes split.first t.entered.ends t.entered.performs)
       (subst (WorldRunSo overtake u Middle (ticked_events i turn.ticked)) last
       (tick_run overtake u Middle i middle after.node second_at turn.ticked ticks split.rest
@@ -365,19 +367,22 @@ module _ (overtake : ℕ) (u : Reuses) (old : Plant) (i : ℕ) (before : BoundNo
 module _ (overtake : ℕ) (u : Reuses) (old : Plant) (settings : (i : ℕ) → settings_of old i ≡ u i) (i : ℕ) (source : Source) (turn : turns.Turn)
     (new : Plant) where
   setting_is : (b : BoundNode) → slice_get old.stations i ≡ Some b → (reuse : Bool) → IsSetTo reuse b → reuse ≡ u i
-  setting_is b at reuse set = sym (same_setting reuse) ∙ ap is_reusing (sym set) ∙ sym (setting_at old i b at) ∙ settings i
+  setting_is b at reuse set = sym (same_setting reuse) ∙ ap reads_anew (sym set.reads) ∙ sym (setting_at old i b at) ∙ settings i
+
+  set_so : (b : BoundNode) (reuse : Bool) → IsSetTo reuse b → reuse ≡ u i → AreSetTo (u i) (rules_view b.rules)
+  set_so b reuse set same = subst (λ (r : Bool). AreSetTo r (rules_view b.rules)) same set
 
   pub turn_run : TakesTurnAt overtake old i source turn new → WorldRunSo overtake u (world_of old) (turn_events i source turn) (world_of new)
   turn_run t =
       let same : t.reuse ≡ u i = setting_is t.before t.at t.reuse t.set in
-      happens_run overtake u old i t.before t.at source turn t.takes.is.acts.middle t.after
-      (turn_hears (rules_as (u i)) (shows old i) t.before turn t.after t.takes (t.set ∙ ap rules_as same))
+      happens_run overtake u old i t.before t.at source turn t.takes.is.acts.middle t.after t.before.rules (set_so t.before t.reuse t.set same)
+      (turn_hears t.before.rules (shows old i) t.before turn t.after t.takes refl)
       t.takes.is.acts.ticks new (subst (λ (r : Bool). HappensAt r overtake old i source turn t.takes.is.acts.middle t.after new) same t.happens)
 
   -- that what it sends is held makes no difference to its world
   pub held_run : HoldsTurnAt overtake old i source turn new → WorldRunSo overtake u (world_of old) (turn_events i source turn) (world_of new)
   held_run t =
       let same : t.reuse ≡ u i = setting_is t.before t.at t.reuse t.set in
-      happens_run overtake u old i t.before t.at source turn t.holds.takes.middle t.after
-      (held_hears (rules_as (u i)) (shows old i) t.before turn t.after t.holds (t.set ∙ ap rules_as same))
+      happens_run overtake u old i t.before t.at source turn t.holds.takes.middle t.after t.before.rules (set_so t.before t.reuse t.set same)
+      (held_hears t.before.rules (shows old i) t.before turn t.after t.holds refl)
       t.holds.takes.ticks new (subst (λ (r : Bool). HappensAt r overtake old i source turn t.holds.takes.middle t.after new) same t.happens)

@@ -4,10 +4,9 @@ use Rattle.bac_apdu.specs.Views.{apdu_view}
 use Rattle.bac_npdu.specs.Views.{peer_view}
 use Rattle.bac_requester.specs.Views.{ended_view}
 use Rattle.bac_transaction.specs.Views.{rules_view, settings_view}
-use Rattle.bac_responder.specs.Hearing.{away_view}
 use Rattle.bac_world.specs.Node.{Node}
-use Rattle.bac_node.specs.Memory.{IsBounded}
-use Rattle.bac_node.proofs.Rules.{served_bounded}
+use Rattle.bac_node.specs.Memory.{IsWithin}
+use Rattle.bac_node.proofs.Rules.{served_within}
 use Rattle.bac_node.proofs.Turns.{server_turned_so}
 use Rattle.bac_node.proofs.node.Node.responder_on_apdu.Goals as goal
 
@@ -21,7 +20,7 @@ returns-clause-heard c =
       servers = c.self.inside.servers;
       store = c.self.inside.store;
     } in
-    server_turned_so (rules_view c.args.rules.now) (away_view c.in_ok-sends.field-0.turned_away) c.args.now c.args.self.now at c.on.new.self c.on.new.store
+    server_turned_so (rules_view c.args.rules.now) c.in-Some.turned_away c.args.now c.args.self.now at c.on.new.self c.on.new.store
     (peer_view c.args.peer.now) (apdu_view c.args.apdu.now) c.in_ok-sends.field-0.sends.items c.in_ok-sends.field-0.act _ c.self.view_is c.in_ok-sends.ensures.hears
     refl (ap (map ended_view) c.new.ensures.items) refl refl
 
@@ -35,6 +34,6 @@ returns-clause-within c =
       servers = c.self.inside.servers;
       store = c.self.inside.store;
     } in
-    subst (λ (n : Node). IsBounded c.args.rules.now.memory n (record at { latest = c.args.now; servers = c.on.new.self; store = c.on.new.store })) c.self.view_is
-    (served_bounded c.args.rules.now.memory c.self.inside.store at (record at { latest = c.args.now; servers = c.on.new.self; store = c.on.new.store }) c.on.new.self refl
+    subst (λ (n : Node). IsWithin c.args.rules.now.memory n (record at { latest = c.args.now; servers = c.on.new.self; store = c.on.new.store })) c.self.view_is
+    (served_within c.args.rules.now.memory c.self.inside.store at (record at { latest = c.args.now; servers = c.on.new.self; store = c.on.new.store }) c.on.new.self refl
     c.replies_can_be_sent.ensures c.in_ok-sends.ensures.within)
