@@ -6,6 +6,7 @@ use Rattle.bac_npdu.specs.Peers.{PeerView}
 use Rattle.bac_value.specs.declared.memory.NoMemory.{NoMemory}
 use Rattle.bac_store.specs.Stores.{Store}
 use Rattle.bac_store.specs.Replies.{reply_to}
+use Rattle.bac_service.specs.Values.{Request}
 use Rattle.bac_service.specs.Views.{owned_request_view}
 use Rattle.bac_protocol.specs.Context.{Context}
 use Rattle.bac_protocol.specs.Reuse.{goes_in_segments, has_transfer, idle_on_read, reads_so}
@@ -13,15 +14,18 @@ use Rattle.bac_protocol.specs.Server.{Reaction, ServerTransaction, Service, begi
 use Rattle.bac_protocol.specs.Service.{OTHER, Octets}
 use Rattle.bac_protocol.specs.Serving.{ReadRule, begins_request, idle_by, needs_no_slot, needs_slot}
 use Rattle.bac_transaction.specs.Sends.{Datagram, IsSent, Pairwise, to_all}
-use Rattle.bac_transaction.specs.Services.{ArePerformed, Performed as Done, store_after}
+use Rattle.bac_transaction.specs.Services.{ArePerformed, Performed as Done, service_of, store_after}
 use Rattle.bac_responder.specs.Hearing.{BeginsSo, HeedsRoom, IsPassed, PassesOrBegins, Read, TellsAway, whole_read}
-use Rattle.bac_responder.specs.Preparing.{IsCommitted}
+use Rattle.bac_responder.specs.Preparing.{IsCommitted, IsPrepared}
 use Rattle.bac_responder.specs.Reactions.{BeginsWith, IsReaction, IsStill}
-use Rattle.bac_responder.specs.TransactionViews.{performed_view}
+use Rattle.bac_responder.specs.Reading.{IsRead}
+use Rattle.bac_responder.specs.TransactionViews.{performed_view, state_view}
 use Rattle.bac_responder.specs.declared.beginning.Begun.{Begun}
 use Rattle.bac_responder.specs.declared.effect.Effect.{Effect}
 use Rattle.bac_responder.specs.declared.performed.Performed.{Performed}
 use Rattle.bac_responder.specs.declared.replying.Commit.{Commit}
+use Rattle.bac_responder.specs.declared.replying.PreparedReply.{PreparedReply}
+use Rattle.bac_responder.proofs.Performances.{performed}
 
 still_passes : (r : Reaction) (dead : Option ServerTransaction) (peer : PeerView) (s t : Store) (sent : List Datagram) (x : Option Effect)
     → IsStill r dead peer s sent t → x ≡ None → IsPassed r dead peer s sent (performed_view x) t
@@ -38,6 +42,11 @@ pub begins_with : (r : Option ServerTransaction → Reaction) (peer : PeerView) 
     → BeginsWith r peer s p o t → PassesOrBegins r peer s p o t
 begins_with r peer s t p None h = λ dead. still_passes (r dead) dead peer s t p.sends.items p.effect (h.0 dead) h.1
 begins_with r peer s t p (Some e) h = h
+
+-- what a commit would perform
+pub commits : (s : Store) (p : Option Commit) → (q : Option Done) × IsCommitted s p q
+commits s None = (None, refl)
+commits s (Some x) = (Some (record { request = owned_request_view x.request; reply = reply_to s (owned_request_view x.request) }), refl)
 
 -- A read.
 
@@ -71,6 +80,27 @@ read_rests v dead peer s apdus sent all x same pairs is none =
       effect = subst (λ (o : Option Effect). ArePerformed s None (performed_view o)) (sym none) tt;
       store = subst (λ (o : Option Effect). s ≡ store_after s (performed_view o)) (sym none) refl;
     })
+
+-- whether the reply to a read goes in segments, as it was prepared
+pub prepared_transfers : (c : Context) (peer : PeerView) (b : ServerTransaction) (octets : Octets) (s : Store) (found : Result Request ℕ) (x : PreparedReply)
+    → IsRead b.choice octets found → IsPrepared c peer b.choice b.limits s found [] x → (segments : Bool) → goes_in_segments (state_view b.choice x.state) ≡ segments
+    → has_transfer (performs c (service_of s) b [] octets).entry ≡ segments
+prepared_transfers c peer b octets s found x read ready segments is =
+    let k = commits s x.commit in
+    let e : ServerTransaction = record b { state = state_view b.choice x.state } in
+    transfers c None (performs c (service_of s) b [] octets) peer s (store_after s k.0) e x.sends.items k.0
+    (performed c peer b [] octets s found x e k.0 (store_after s k.0) read ready refl k.1 refl) segments is
+
+-- it finds no slot for its transfer
+pub prepared_turned : (c : Context) (dead : Option ServerTransaction) (peer : PeerView) (b : ServerTransaction) (octets : Octets) (s : Store)
+    (found : Result Request ℕ) (x : PreparedReply) → IsRead b.choice octets found → IsPrepared c peer b.choice b.limits s found [] x → (free : Bool) → free ≡ false
+    → goes_in_segments (state_view b.choice x.state) ≡ true
+    → reads_so c dead free (performs c (service_of s) b [] octets) ≡ rests dead (server_abort c OTHER ∷ [])
+prepared_turned c dead peer b octets s found x read ready free none segments =
+    let k = commits s x.commit in
+    let e : ServerTransaction = record b { state = state_view b.choice x.state } in
+    read_turned c dead (performs c (service_of s) b [] octets) peer s (store_after s k.0) e x.sends.items k.0
+    (performed c peer b [] octets s found x e k.0 (store_after s k.0) read ready refl k.1 refl) free none segments
 
 -- Whether an APDU is a read.
 
@@ -177,8 +207,3 @@ tells_as away other same x h = subst (λ (b : Bool). TellsAway b x) (sym same) h
 
 pub heeds_as : {T : Type 0} (room nothing other : Bool) → other ≡ nothing → (x : Result (Option T) NoMemory) → HeedsRoom room nothing x → HeedsRoom room other x
 heeds_as room nothing other same x h = subst (λ (b : Bool). HeedsRoom room b x) (sym same) h
-
--- what a commit would perform
-pub commits : (s : Store) (p : Option Commit) → (q : Option Done) × IsCommitted s p q
-commits s None = (None, refl)
-commits s (Some x) = (Some (record { request = owned_request_view x.request; reply = reply_to s (owned_request_view x.request) }), refl)

@@ -3,6 +3,7 @@ use Rattle.std.proofs.Common.{◌≡◌, ℕ, zero, suc, ◌+◌, ◌≤◌, Boo
 use Rattle.std.proofs.Common.{Result, Ok, Err, if◌then◌else◌, refl, ap, sym, subst, ◌∙◌, arith}
 use Rattle.std.specs.Prelude.{IfSome, MatchOption}
 use Rattle.bac_apdu.specs.Apdu.{Apdu}
+use Rattle.bac_apdu.specs.Apdu.Apdu.{ConfirmedRequest}
 use Rattle.bac_npdu.specs.Peers.{PeerView}
 use Rattle.bac_service.specs.Replies as plain
 use Rattle.bac_service.specs.Services.{request_at}
@@ -33,7 +34,7 @@ use Rattle.bac_transaction.proofs.Keyed.{value_viewed}
 use Rattle.bac_transaction.proofs.KeyedSlots.{keys_equivalent}
 use Rattle.bac_transaction.proofs.Viewed.{orderly_viewed}
 use Rattle.bac_responder.specs.Aging.{entry_ticked}
-use Rattle.bac_responder.specs.Kept.{HasShortReplies, StaysWithin, adds_nothing, counted, entry_octets, given_back, growth, keeps_no_more, kept_octets, octets_of, sum_of}
+use Rattle.bac_responder.specs.Kept.{HasShortReplies, StaysWithin, adds_nothing, counted, entry_octets, given_back, growth, is_request, keeps_no_more, kept_octets, octets_of, sum_of}
 use Rattle.bac_responder.specs.Views.{end_of}
 use Rattle.bac_responder.proofs.Growth.{Fits, hears_fits, nothing_fits, outcome_octets}
 use Rattle.bac_responder.proofs.KeptTables.{live_slots, put_begins, put_grows, put_moves, ticked_octets, without_octets}
@@ -147,6 +148,11 @@ module _ (rules : ServerRules) (now : ℕ) (key : keys.PeerKey) (a : Apdu) (e : 
         let less = rest_within in
         let sum = put_grows now key remaining 0 left_after fit in
         omega (arith, less, sum)
+
+-- only a request can make it keep more
+pub needs_request : (a : Apdu) → (growth a ≡ 0 → ⊥) → is_request a ≡ true
+needs_request (ConfirmedRequest limits id segment choice octets) grows = refl
+needs_request _ grows = absurd (grows refl)
 
 -- Whether there is room for it.
 

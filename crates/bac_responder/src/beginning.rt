@@ -60,6 +60,7 @@ fn on_read(
     ensures free { EntersWhereFree space.free result }
     ensures begin { HasBegunAt context.now.moment result }
 {
+    let Space { free, room } = space;
     let found = read_whole(alloc, terms.choice, octets)?;
     let PreparedReply {
         state,
@@ -74,10 +75,10 @@ fn on_read(
             turned_away: false,
         }));
     }
-    if !space.room {
+    if !room {
         return Ok(None);
     }
-    if !space.free {
+    if !free {
         let refusal = only_abort(alloc, context, true, OTHER)?;
         return Ok(Some(Begun {
             performed: Performed::sends(refusal),
@@ -139,14 +140,15 @@ fn on_other(
     ensures free { EntersWhereFree space.free result }
     ensures begin { HasBegunAt context.now.moment result }
 {
-    if !space.room {
+    let Space { free, room } = space;
+    if !room {
         return Ok(None);
     }
-    let (performed, entry) = idle_on_apdu(alloc, context, space.free, apdu, store)?;
+    let (performed, entry) = idle_on_apdu(alloc, context, free, apdu, store)?;
     Ok(Some(Begun {
         performed,
         entry,
-        turned_away: begins_request(apdu) && !space.free,
+        turned_away: begins_request(apdu) && !free,
     }))
 }
 

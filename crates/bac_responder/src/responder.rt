@@ -1,5 +1,5 @@
 //! The server's end: the calls that bac_node makes. Their contracts are what crates above rest on.
-ghost use Rattle.std.specs.Prelude.{◌≡◌, ◌≢◌, ℕ, ◌<◌, ◌≤◌, ◌↔◌, [], None, count_by, max, false, IfOk, IsTrue, OnOk};
+ghost use Rattle.std.specs.Prelude.{◌≡◌, ◌≢◌, ℕ, ◌<◌, ◌≤◌, ◌↔◌, [], None, Some, count_by, max, IfOk, IsTrue, OnOk};
 ghost use Rattle.std.specs.Option.{option_map};
 ghost use Rattle.bac_apdu.specs.Views.{apdu_view};
 ghost use Rattle.bac_npdu.specs.Views.{peer_view};
@@ -159,30 +159,25 @@ impl<S: SlotTable<PeerKey, ServerTransaction> + Drop> Responder<S> {
         self.restart == other.restart && same_tables(&self.aged.table, &other.aged.table)
     }
 
-    /// Whether what the entries keep stays within the bound on memory, or does not grow, whatever an APDU makes of them; true where there is no bound. What
-    /// contracts see of the end does not change.
-    fn has_room(&mut self, memory: Option<usize>, now: u64, peer: &Peer, apdu: &Apdu<'_>) -> bool
+    /// Whether what the entries keep stays within so many octets, or does not grow, whatever an APDU makes of them. What contracts see of the end does not change.
+    fn has_room_for(&mut self, now: u64, peer: &Peer, apdu: &Apdu<'_>, room: usize) -> bool
         ensures same { self.new ≡ self.old }
-        ensures within { IsTrue result → StaysWithin memory now (peer_view peer.now) (apdu_view apdu.now) self.old }
+        ensures within { IsTrue result → StaysWithin (Some room) now (peer_view peer.now) (apdu_view apdu.now) self.old }
         ensures needless { growth (apdu_view apdu.now) ≡ 0 → IsTrue result }
-        ensures bound { memory ≡ None → IsTrue result }
     {
         // that no two entries have one key
         let _entries = self.aged.table.len();
-        let Some(memory) = memory else {
-            return true;
-        };
         let Some(len) = service_len(apdu) else {
             return true;
         };
-        if fits(self.kept, len, memory) {
+        if fits(self.kept, len, room) {
             return true;
         }
         if now < self.counts_from {
             return false;
         }
         self.kept = count_octets(&self.aged.table, false, now);
-        if fits(self.kept, len, memory) {
+        if fits(self.kept, len, room) {
             return true;
         }
         let key = PeerKey {
@@ -190,12 +185,25 @@ impl<S: SlotTable<PeerKey, ServerTransaction> + Drop> Responder<S> {
             invoke_id: invoke_id_of(apdu),
         };
         if is_none_live(&self.aged.table, &key, now)
-            && fits(count_octets(&self.aged.table, true, now), len, memory)
+            && fits(count_octets(&self.aged.table, true, now), len, room)
         {
             return true;
         }
         self.counts_from = now.saturating_add(PAUSE);
         false
+    }
+
+    /// The same within the bound on memory; true where there is none.
+    fn has_room(&mut self, memory: Option<usize>, now: u64, peer: &Peer, apdu: &Apdu<'_>) -> bool
+        ensures same { self.new ≡ self.old }
+        ensures within { IsTrue result → StaysWithin memory now (peer_view peer.now) (apdu_view apdu.now) self.old }
+        ensures needless { growth (apdu_view apdu.now) ≡ 0 → IsTrue result }
+        ensures bound { memory ≡ None → IsTrue result }
+    {
+        match memory {
+            None => true,
+            Some(room) => self.has_room_for(now, peer, apdu, room),
+        }
     }
 
     /// An APDU comes from a peer, at that moment in milliseconds: call it for each APDU that a client can send, and then send all of `sends`, in their order.

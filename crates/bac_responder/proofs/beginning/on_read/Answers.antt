@@ -1,23 +1,23 @@
--- The read is performed, or finds no slot for its transfer.
-use Rattle.std.proofs.Common.{◌≡◌, ◌∙◌, ℕ, true, false, List, [], ◌∷◌, Option, Some, None, refl, ap, sym, subst}
+-- The read is performed, or finds no slot for its transfer, or no room.
+use Rattle.std.proofs.Common.{◌≡◌, ◌∙◌, ◌&&◌, ℕ, Bool, true, false, not, List, [], ◌∷◌, Option, Some, None, refl, ap, sym}
 use Rattle.bac_apdu.specs.Views.{limits_view}
 use Rattle.bac_npdu.specs.Peers.{PeerView}
 use Rattle.bac_store.specs.Stores.{Store}
 use Rattle.bac_protocol.specs.Context.{Context}
-use Rattle.bac_protocol.specs.Reuse.{goes_in_segments, has_transfer}
+use Rattle.bac_protocol.specs.Reuse.{goes_in_segments}
 use Rattle.bac_protocol.specs.Server.{Reaction, ServerTransaction, begins, performs, server_abort}
-use Rattle.bac_protocol.specs.Serving.{passes}
-use Rattle.bac_responder.specs.Hearing.{place_view, reason_of}
-use Rattle.bac_responder.specs.declared.turned_away.TurnedAway.{TurnedAway}
-use Rattle.bac_transaction.specs.Services.{Performed, service_of, store_after}
+use Rattle.bac_protocol.specs.Service.{OTHER}
+use Rattle.bac_transaction.specs.Services.{Performed, service_of}
 use Rattle.bac_transaction.specs.Views.{context_view, peer_of}
 use Rattle.bac_responder.specs.Reactions.{IsReaction}
 use Rattle.bac_responder.specs.Reading.{found_view}
 use Rattle.bac_responder.specs.TransactionViews.{performed_view, state_view}
 use Rattle.bac_responder.specs.declared.replying.PreparedReply.{PreparedReply}
 use Rattle.bac_responder.proofs.Performances.{performed, prepared_commits}
-use Rattle.bac_responder.proofs.Begins.{away_so, commits, none_away, read_begins, read_passes, read_turned, transfers, turned_so}
+use Rattle.bac_responder.proofs.Begins.{prepared_transfers, prepared_turned, read_begins, read_passes, read_rests}
 use Rattle.bac_responder.proofs.beginning.on_read.Goals as goal
+
+-- Its reply is one APDU.
 
 pub returns-then-not-goes_in_segments-clause-does : goal.returns-then-not-goes_in_segments-clause-does
 returns-then-not-goes_in_segments-clause-does c = λ dead.
@@ -35,7 +35,56 @@ returns-then-not-goes_in_segments-clause-does c = λ dead.
     let h : IsReaction r peer s e x.sends.items q t =
     performed set peer b [] c.args.octets.now s (found_view c.in_ok-found.found) x e q t c.in_ok-found.ensures c.in_ok-state.ensures refl c.commit-effect.ensures.effect
     c.commit-effect.ensures.store in
-    read_passes set dead r peer s t e x.sends.items q h (place_view c.args.place) one
+    read_passes set dead r peer s t e x.sends.items q h c.args.space.free one
+
+pub returns-then-not-goes_in_segments-clause-away : goal.returns-then-not-goes_in_segments-clause-away
+returns-then-not-goes_in_segments-clause-away c =
+    let set : Context = context_view c.args.context.now in
+    let choice : ℕ = c.args.terms.choice in
+    let b : ServerTransaction = begins set choice (limits_view c.args.terms.limits) (Some c.args.octets.now) in
+    sym (ap (λ (h : Bool). h && not c.args.space.free) (prepared_transfers set (peer_of c.args.context.now) b c.args.octets.now c.args.store.now (found_view c.in_ok-found.found)
+    c.in_ok-state.field-0 c.in_ok-found.ensures c.in_ok-state.ensures false (sym (c.goes_in_segments.ensures choice) ∙ c.if-not-goes_in_segments.true)))
+
+pub returns-then-not-goes_in_segments-clause-room : goal.returns-then-not-goes_in_segments-clause-room
+returns-then-not-goes_in_segments-clause-room c = λ none.
+    let set : Context = context_view c.args.context.now in
+    let choice : ℕ = c.args.terms.choice in
+    let b : ServerTransaction = begins set choice (limits_view c.args.terms.limits) (Some c.args.octets.now) in
+    ap not (prepared_transfers set (peer_of c.args.context.now) b c.args.octets.now c.args.store.now (found_view c.in_ok-found.found)
+    c.in_ok-state.field-0 c.in_ok-found.ensures c.in_ok-state.ensures false (sym (c.goes_in_segments.ensures choice) ∙ c.if-not-goes_in_segments.true))
+
+-- It goes in segments.
+
+pub returns-then-not-room-clause-room : goal.returns-then-not-room-clause-room
+returns-then-not-room-clause-room c =
+    let set : Context = context_view c.args.context.now in
+    let choice : ℕ = c.args.terms.choice in
+    let b : ServerTransaction = begins set choice (limits_view c.args.terms.limits) (Some c.args.octets.now) in (
+      c.if-not-room.true,
+      ap not (prepared_transfers set (peer_of c.args.context.now) b c.args.octets.now c.args.store.now (found_view c.in_ok-found.found)
+          c.in_ok-state.field-0 c.in_ok-found.ensures c.in_ok-state.ensures true (sym (c.goes_in_segments.ensures choice) ∙ c.if-not-goes_in_segments.false)),
+    )
+
+pub returns-then-not-free-clause-does : goal.returns-then-not-free-clause-does
+returns-then-not-free-clause-does c = λ dead.
+    let set : Context = context_view c.args.context.now in
+    let peer : PeerView = peer_of c.args.context.now in
+    let s : Store = c.args.store.now in
+    let choice : ℕ = c.args.terms.choice in
+    let b : ServerTransaction = begins set choice (limits_view c.args.terms.limits) (Some c.args.octets.now) in
+    read_rests _ dead peer s (server_abort set OTHER ∷ []) c.in_ok-refusal.refusal.items c.sends.result.sends.items c.sends.result.effect
+    (prepared_turned set dead peer b c.args.octets.now s (found_view c.in_ok-found.found) c.in_ok-state.field-0 c.in_ok-found.ensures c.in_ok-state.ensures
+    c.args.space.free c.if-not-free.true (sym (c.goes_in_segments.ensures choice) ∙ c.if-not-goes_in_segments.false))
+    c.in_ok-refusal.ensures c.sends.ensures.sends c.sends.ensures.effect
+
+pub returns-then-not-free-clause-away : goal.returns-then-not-free-clause-away
+returns-then-not-free-clause-away c =
+    let set : Context = context_view c.args.context.now in
+    let choice : ℕ = c.args.terms.choice in
+    let b : ServerTransaction = begins set choice (limits_view c.args.terms.limits) (Some c.args.octets.now) in
+    sym (ap (λ (h : Bool). h && not c.args.space.free) (prepared_transfers set (peer_of c.args.context.now) b c.args.octets.now c.args.store.now (found_view c.in_ok-found.found)
+    c.in_ok-state.field-0 c.in_ok-found.ensures c.in_ok-state.ensures true (sym (c.goes_in_segments.ensures choice) ∙ c.if-not-goes_in_segments.false))
+    ∙ ap not c.if-not-free.true)
 
 pub commit-effect-requires-2 : goal.commit-effect-requires-2
 commit-effect-requires-2 c =
@@ -61,58 +110,13 @@ returns-clause-does c = λ dead.
     let h : IsReaction r peer s e x.sends.items q t =
     performed set peer b [] c.args.octets.now s (found_view c.in_ok-found.found) x e q t c.in_ok-found.ensures c.in_ok-state.ensures same
     c.commit-effect-2.ensures.effect c.commit-effect-2.ensures.store in
-    subst (λ (p : Option TurnedAway). IsReaction (passes set dead (place_view p) r) peer s e x.sends.items q t) (sym c.in_default.is)
-    (read_begins set dead r peer s t e x.sends.items q h segments)
+    read_begins set dead r peer s t e x.sends.items q h c.args.space.free c.if-not-free.false segments
 
-pub returns-then-not-goes_in_segments-clause-away : goal.returns-then-not-goes_in_segments-clause-away
-returns-then-not-goes_in_segments-clause-away c =
+pub returns-clause-away : goal.returns-clause-away
+returns-clause-away c =
     let set : Context = context_view c.args.context.now in
-    let peer : PeerView = peer_of c.args.context.now in
-    let s : Store = c.args.store.now in
     let choice : ℕ = c.args.terms.choice in
-    let x : PreparedReply = c.in_ok-state.field-0 in
     let b : ServerTransaction = begins set choice (limits_view c.args.terms.limits) (Some c.args.octets.now) in
-    let e : ServerTransaction = record b { state = state_view choice x.state } in
-    let r : Reaction = performs set (service_of s) b [] c.args.octets.now in
-    let k = commits s x.commit in
-    let h : IsReaction r peer s e x.sends.items k.0 (store_after s k.0) =
-    performed set peer b [] c.args.octets.now s (found_view c.in_ok-found.found) x e k.0 (store_after s k.0) c.in_ok-found.ensures c.in_ok-state.ensures refl k.1 refl in
-    let one : goes_in_segments e.state ≡ false = sym (c.goes_in_segments.ensures choice) ∙ c.if-not-goes_in_segments.true in
-    none_away c.args.place (has_transfer r.entry) (transfers set None r peer s (store_after s k.0) e x.sends.items k.0 h false one)
-
-pub returns-in-Some-clause-does : goal.returns-in-Some-clause-does
-returns-in-Some-clause-does c =
-    let set : Context = context_view c.args.context.now in
-    let peer : PeerView = peer_of c.args.context.now in
-    let s : Store = c.args.store.now in
-    let choice : ℕ = c.args.terms.choice in
-    let x : PreparedReply = c.in_ok-state.field-0 in
-    let b : ServerTransaction = begins set choice (limits_view c.args.terms.limits) (Some c.args.octets.now) in
-    let e : ServerTransaction = record b { state = state_view choice x.state } in
-    let r : Reaction = performs set (service_of s) b [] c.args.octets.now in
-    let k = commits s x.commit in
-    let h : IsReaction r peer s e x.sends.items k.0 (store_after s k.0) =
-    performed set peer b [] c.args.octets.now s (found_view c.in_ok-found.found) x e k.0 (store_after s k.0) c.in_ok-found.ensures c.in_ok-state.ensures refl k.1 refl in
-    let segments : goes_in_segments e.state ≡ true = sym (c.goes_in_segments.ensures choice) ∙ c.if-not-goes_in_segments.false in
-    let why : TurnedAway = c.in-Some.why in
-    turned_so (λ (dead : Option ServerTransaction). passes set dead (place_view c.args.place) r) peer s (server_abort set (reason_of why) ∷ []) c.turn_away.result
-    (λ dead. ap (λ (p : Option TurnedAway). passes set dead (place_view p) r) c.in-Some.is
-    ∙ read_turned set dead r peer s (store_after s k.0) e x.sends.items k.0 h (reason_of why) segments)
-    c.turn_away.ensures.sends c.turn_away.ensures.effect c.turn_away.ensures.entry
-
-pub returns-in-Some-clause-away : goal.returns-in-Some-clause-away
-returns-in-Some-clause-away c =
-    let set : Context = context_view c.args.context.now in
-    let peer : PeerView = peer_of c.args.context.now in
-    let s : Store = c.args.store.now in
-    let choice : ℕ = c.args.terms.choice in
-    let x : PreparedReply = c.in_ok-state.field-0 in
-    let b : ServerTransaction = begins set choice (limits_view c.args.terms.limits) (Some c.args.octets.now) in
-    let e : ServerTransaction = record b { state = state_view choice x.state } in
-    let r : Reaction = performs set (service_of s) b [] c.args.octets.now in
-    let k = commits s x.commit in
-    let h : IsReaction r peer s e x.sends.items k.0 (store_after s k.0) =
-    performed set peer b [] c.args.octets.now s (found_view c.in_ok-found.found) x e k.0 (store_after s k.0) c.in_ok-found.ensures c.in_ok-state.ensures refl k.1 refl in
-    let segments : goes_in_segments e.state ≡ true = sym (c.goes_in_segments.ensures choice) ∙ c.if-not-goes_in_segments.false in
-    away_so c.turn_away.result c.args.place c.in-Some.why (has_transfer r.entry) c.in-Some.is
-    (transfers set None r peer s (store_after s k.0) e x.sends.items k.0 h true segments) c.turn_away.ensures.away
+    sym (ap (λ (h : Bool). h && not c.args.space.free) (prepared_transfers set (peer_of c.args.context.now) b c.args.octets.now c.args.store.now (found_view c.in_ok-found.found)
+    c.in_ok-state.field-0 c.in_ok-found.ensures c.in_ok-state.ensures true (sym (c.goes_in_segments.ensures choice) ∙ c.if-not-goes_in_segments.false))
+    ∙ ap not c.if-not-free.false)

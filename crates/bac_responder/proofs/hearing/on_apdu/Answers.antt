@@ -14,15 +14,13 @@ use Rattle.bac_transaction.proofs.Keyed.{value_viewed}
 use Rattle.bac_transaction.specs.Services.{service_of}
 use Rattle.bac_protocol.specs.Serving.{ServerRules, ends_entry, entry_left}
 use Rattle.bac_transaction.specs.Views.{context_view, rules_view, settings_view}
-use Rattle.bac_responder.specs.Hearing.{away_view}
 use Rattle.bac_responder.specs.Timers.{IsQuiet}
 use Rattle.bac_slots.proofs.Aging.{goes_on}
 use Rattle.bac_transaction.proofs.Viewed.{put_back}
 use Rattle.bac_responder.specs.Aging.{AreAged, began}
 use Rattle.bac_responder.specs.Views.{end_of}
 use Rattle.bac_responder.proofs.TimerLaws.{quiet_earlier}
-use Rattle.bac_responder.proofs.Hearings.{bounded_still, dead_ends, dead_left, ended_ends, ended_left, hears_still, within_still}
-use Rattle.bac_responder.proofs.GoingOn.{heard_live, stays_within}
+use Rattle.bac_responder.proofs.Hearings.{adds_live_as, dead_ends, dead_left, ended_ends, ended_left, heard_live, heeds_still, hears_still}
 use Rattle.bac_responder.proofs.Turned.{live_begun, served_so, served_with, stays_live}
 use Rattle.bac_responder.proofs.Sweeps.{none_live, same_end, set_there}
 use Rattle.bac_responder.proofs.hearing.on_apdu.Goals as goal
@@ -77,8 +75,8 @@ returns-then-not-is_live-clause-hears g c =
     hears_still rules (settings_view c.args.told.now.context.settings) now (peer_key_view c.args.told.now.context.key) a _ _ c.args.store.now _ _ _ same
     c.begin-then-not-is_live.ensures.hears
 
-pub returns-then-not-is_live-clause-within : goal.returns-then-not-is_live-clause-within
-returns-then-not-is_live-clause-within g c = λ bounded.
+pub returns-then-not-is_live-clause-room : goal.returns-then-not-is_live-clause-room
+returns-then-not-is_live-clause-room g c =
     let d : ServerTransaction = c.in-Some.slot.now in
     let rules : ServerRules = rules_view c.args.told.now.rules in
     let now : ℕ = c.args.told.now.context.moment in
@@ -87,8 +85,8 @@ returns-then-not-is_live-clause-within g c = λ bounded.
     let there : value_at code_same_key c.args.told.now.context.key (g.S.SlotTable.slots (c.get_mut.follows.lender d)) ≡ Some d =
     ap (λ (l : List (Slot CodeKey ServerTransaction)). value_at code_same_key c.args.told.now.context.key l) unchanged ∙ sym c.in-Some.ensures.value in
     let same = same_end _ _ _ _ c.args.told.now.restart unchanged (c.get_mut.follows.holds d).1 in
-    within_still c.args.told.now.rules.memory c.args.store.now _ _ _ _ same
-    (c.begin-then-not-is_live.ensures.within (bounded_still c.args.told.now.kept _ _ unchanged bounded))
+    heeds_still c.args.told.now.room rules (settings_view c.args.told.now.context.settings) now (peer_key_view c.args.told.now.context.key) a _ _ c.args.store.now _ same
+    c.begin-then-not-is_live.ensures.room
 
 pub begin-requires-then-is_ended-clause-ends : goal.begin-requires-then-is_ended-clause-ends
 begin-requires-then-is_ended-clause-ends g c =
@@ -140,8 +138,8 @@ returns-then-is_ended-clause-hears g c =
     hears_still rules (settings_view c.args.told.now.context.settings) now (peer_key_view c.args.told.now.context.key) a _ _ c.args.store.now _ _ _ same
     c.begin-then-is_ended.ensures.hears
 
-pub returns-then-is_ended-clause-within : goal.returns-then-is_ended-clause-within
-returns-then-is_ended-clause-within g c = λ bounded.
+pub returns-then-is_ended-clause-room : goal.returns-then-is_ended-clause-room
+returns-then-is_ended-clause-room g c =
     let d : ServerTransaction = c.in-Some.slot.now in
     let rules : ServerRules = rules_view c.args.told.now.rules in
     let now : ℕ = c.args.told.now.context.moment in
@@ -150,8 +148,8 @@ returns-then-is_ended-clause-within g c = λ bounded.
     let there : value_at code_same_key c.args.told.now.context.key (g.S.SlotTable.slots (c.get_mut.follows.lender d)) ≡ Some d =
     ap (λ (l : List (Slot CodeKey ServerTransaction)). value_at code_same_key c.args.told.now.context.key l) unchanged ∙ sym c.in-Some.ensures.value in
     let same = same_end _ _ _ _ c.args.told.now.restart unchanged (c.get_mut.follows.holds d).1 in
-    within_still c.args.told.now.rules.memory c.args.store.now _ _ _ _ same
-    (c.begin-then-is_ended.ensures.within (bounded_still c.args.told.now.kept _ _ unchanged bounded))
+    heeds_still c.args.told.now.room rules (settings_view c.args.told.now.context.settings) now (peer_key_view c.args.told.now.context.key) a _ _ c.args.store.now _ same
+    c.begin-then-is_ended.ensures.room
 
 -- It is live and goes on.
 
@@ -172,38 +170,25 @@ returns-in-Ok-clause-hears g c =
     let goes = sym c.is_ended.ensures ∙ c.if-is_ended.false in
     let seen : value_at same_key k e.slots ≡ Some d = sym (value_viewed ServerTransaction key slots) ∙ sym c.in-Some.ensures.value in
     let live : is_none_live now (value_at same_key k e.slots) ≡ false = ap (is_none_live now) seen ∙ none_live now d ∙ ap not alive in
-    let stays = stays_live set (service_of c.args.store.now) d x a alive c.in-Ok.ensures.answers.entry_is in
+    let stays = stays_live set (service_of c.args.store.now) d x a alive c.in-Ok.ensures.does.entry_is in
     let put = set_there now key x slots _ (c.get_mut.follows.holds x).0 in
-    let r = served_so now e k _ _ c.args.store.now _ x false _ _ _ refl c.in-Ok.ensures.answers stays live put in
+    let r = served_so now e k _ _ c.args.store.now _ x false _ _ _ refl c.in-Ok.ensures.does stays live put in
     let all = served_with _ c.args.store.now _ _ _ _ _ _ _ r c.served.ensures.sends c.served.ensures.act
     (ap (λ (n : ℕ). end_of (g.S.SlotTable.slots (c.get_mut.follows.lender x)) n c.args.told.now.restart) (c.get_mut.follows.holds x).1) in
     heard_live rules (settings_view c.args.told.now.context.settings) now key a slots capacity c.args.told.now.restart c.args.store.now d seen alive goes _ _ _ _ _
-    (ap away_view c.served.ensures.away) all
+    c.served.ensures.away all
 
-pub returns-in-Ok-clause-within : goal.returns-in-Ok-clause-within
-returns-in-Ok-clause-within g c = λ bounded.
+pub returns-in-Ok-clause-room : goal.returns-in-Ok-clause-room
+returns-in-Ok-clause-room g c = λ none.
     let key : CodeKey = c.args.told.now.context.key in
     let now : ℕ = c.args.told.now.context.moment in
-    let rules : ServerRules = rules_view c.args.told.now.rules in
-    let a : Apdu = apdu_view c.args.apdu.now in
     let slots : List (Slot CodeKey ServerTransaction) = g.S.SlotTable.slots c.args.aged.now.table in
-    let capacity : ℕ = g.S.SlotTable.capacity c.args.aged.now.table in
-    let e : ServerEnd = end_of slots capacity c.args.told.now.restart in
-    let k : PeerKey = peer_key_view key in
-    let set : Context = context_view c.args.told.now.context in
     let d : ServerTransaction = c.in-Some.slot.now in
-    let x : ServerTransaction = c.goes_on.new.self in
     let alive : is_live now d ≡ true = sym c.is_live.ensures ∙ c.if-not-is_live.false in
     let goes = sym c.is_ended.ensures ∙ c.if-is_ended.false in
-    let seen : value_at same_key k e.slots ≡ Some d = sym (value_viewed ServerTransaction key slots) ∙ sym c.in-Some.ensures.value in
-    let live : is_none_live now (value_at same_key k e.slots) ≡ false = ap (is_none_live now) seen ∙ none_live now d ∙ ap not alive in
-    let stays = stays_live set (service_of c.args.store.now) d x a alive c.in-Ok.ensures.answers.entry_is in
-    let put = set_there now key x slots _ (c.get_mut.follows.holds x).0 in
-    let r = served_so now e k _ _ c.args.store.now _ x false _ _ _ refl c.in-Ok.ensures.answers stays live put in
-    let all = served_with _ c.args.store.now _ _ _ _ _ _ _ r c.served.ensures.sends c.served.ensures.act
-    (ap (λ (n : ℕ). end_of (g.S.SlotTable.slots (c.get_mut.follows.lender x)) n c.args.told.now.restart) (c.get_mut.follows.holds x).1) in
-    stays_within rules (settings_view c.args.told.now.context.settings) now key a slots capacity c.args.told.now.restart c.args.store.now d seen alive goes
-    c.args.told.now.rules.memory c.args.told.now.kept c.len-entries.ensures.distinct bounded c.in-Ok.ensures.room _ _ _ _ all
+    let seen = sym (value_viewed ServerTransaction key slots) ∙ sym c.in-Some.ensures.value in
+    adds_live_as (rules_view c.args.told.now.rules) (settings_view c.args.told.now.context.settings) now key (apdu_view c.args.apdu.now) slots
+    (g.S.SlotTable.capacity c.args.aged.now.table) c.args.told.now.restart c.args.store.now d seen alive goes ∙ c.in-Ok.ensures.room none
 
 pub returns-in-Ok-clause-aged : goal.returns-in-Ok-clause-aged
 returns-in-Ok-clause-aged g c =
@@ -214,7 +199,7 @@ returns-in-Ok-clause-aged g c =
     let x : ServerTransaction = c.goes_on.new.self in
     let alive : is_live now d ≡ true = sym c.is_live.ensures ∙ c.if-not-is_live.false in
     let at : value_at code_same_key key slots ≡ Some d = sym c.in-Some.ensures.value in
-    let begun = live_begun (context_view c.args.told.now.context) (service_of c.args.store.now) d x (apdu_view c.args.apdu.now) alive c.in-Ok.ensures.answers.entry_is in
+    let begun = live_begun (context_view c.args.told.now.context) (service_of c.args.store.now) d x (apdu_view c.args.apdu.now) alive c.in-Ok.ensures.does.entry_is in
     goes_on CodeKey ServerTransaction began IsQuiet code_same_key quiet_earlier c.args.aged.now.ages _ c.due-due.result key d x slots _ at begun c.due-due.ensures.quiet
     (c.get_mut.follows.holds x).0 c.comes_due.ensures c.requires.aged
 
@@ -225,9 +210,9 @@ returns-in-Err-clause-hears g c =
     let d : ServerTransaction = c.in-Some.slot.now in
     let x : ServerTransaction = c.goes_on.new.self in
     let unchanged = put_back ServerTransaction c.args.told.now.context.key d x (g.S.SlotTable.slots c.args.aged.now.table) _ (sym c.in-Some.ensures.value)
-    c.in-Err.ensures.answers.0 (c.get_mut.follows.holds x).0 in (
+    c.in-Err.ensures.does.0 (c.get_mut.follows.holds x).0 in (
       same_end _ _ _ _ c.args.told.now.restart unchanged (c.get_mut.follows.holds x).1,
-      c.in-Err.ensures.answers.1,
+      c.in-Err.ensures.does.1,
     )
 
 pub returns-in-Err-clause-aged : goal.returns-in-Err-clause-aged
@@ -235,5 +220,5 @@ returns-in-Err-clause-aged g c =
     let d : ServerTransaction = c.in-Some.slot.now in
     let x : ServerTransaction = c.goes_on.new.self in
     let unchanged = put_back ServerTransaction c.args.told.now.context.key d x (g.S.SlotTable.slots c.args.aged.now.table) _ (sym c.in-Some.ensures.value)
-    c.in-Err.ensures.answers.0 (c.get_mut.follows.holds x).0 in
+    c.in-Err.ensures.does.0 (c.get_mut.follows.holds x).0 in
     subst (λ (y : List (Slot CodeKey ServerTransaction)). AreAged c.args.aged.now.ages y) (sym unchanged) c.requires.aged

@@ -7,9 +7,8 @@ use Rattle.bac_slots.specs.Slots.{value_at}
 use Rattle.bac_protocol.specs.Server.{ServerTransaction}
 use Rattle.bac_transaction.specs.Views.{code_same_key, rules_view, settings_view, slots_view}
 use Rattle.bac_transaction.specs.declared.peer_key.PeerKey.{PeerKey}
-use Rattle.bac_responder.specs.Hearing.{away_view, is_short}
 use Rattle.bac_responder.specs.Kept.{kept_octets, octets_of}
-use Rattle.bac_responder.proofs.KeptWithin.{turn_moves}
+use Rattle.bac_responder.proofs.KeptWithin.{turn_moved}
 use Rattle.bac_responder.proofs.responder.Responder.on.Goals as goal
 
 pub invariant_of-self-2 : goal.invariant_of-self-2
@@ -22,7 +21,7 @@ invariant_of-self-2 g c =
       c.on_apdu.ensures.aged,
       c.moved-self-inside.ensures (kept_octets (slots_view old)) (kept_octets (slots_view new)) (octets_of (value_at code_same_key key old))
           (octets_of (value_at code_same_key key new)) kept c.key_octets-before.ensures c.key_octets.ensures
-          (turn_moves (rules_view c.args.serving.now.rules) (settings_view c.args.serving.now.settings) c.args.now c.args.store.now key (apdu_view c.args.apdu.now) old new
+          (turn_moved (rules_view c.args.serving.now.rules) (settings_view c.args.serving.now.settings) c.args.now c.args.store.now key (apdu_view c.args.apdu.now) old new
           (g.S.SlotTable.capacity c.seek.new.aged.table) (g.S.SlotTable.capacity c.on_apdu.new.aged.table) c.self.inside.restart
-          (is_short (away_view c.in_ok-served.served.turned_away)) c.len-entries.ensures.distinct c.in_ok-served.ensures.hears.turn.end),
+          c.len-entries.ensures.distinct c.in_ok-served.ensures.hears.turn.end),
     )
