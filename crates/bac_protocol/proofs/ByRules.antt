@@ -3,7 +3,7 @@ use Rattle.std.proofs.Common.{◌≡◌, ◌≤◌, ◌-◌, ℕ, ◌⊎◌, Boo
 use Rattle.std.proofs.Common.{nat_eq, nat_lt, arith}
 use Rattle.std.proofs.lemmas.Bool.Decides.{nat_tests}
 use Rattle.bac_apdu.specs.Apdu.{Apdu, Limits}
-use Rattle.bac_apdu.specs.Apdu.Apdu.{Abort, ComplexAck, ConfirmedRequest, Error, Reject, SegmentAck, SimpleAck, UnconfirmedRequest}
+use Rattle.bac_apdu.specs.Apdu.Apdu.{Abort, ConfirmedRequest, SegmentAck}
 use Rattle.bac_segment.specs.Window.{incoming, takes}
 use Rattle.bac_protocol.specs.Context.{Context}
 use Rattle.bac_protocol.specs.Reuse.{Reads, has_transfer, idle_reusing, is_ended_by, is_over, left_on_apdu, reads_so, reusing_on_apdu}
@@ -12,7 +12,7 @@ use Rattle.bac_protocol.specs.Server.{Reaction, ServerTransaction, Service, begi
 use Rattle.bac_protocol.specs.Server.{request_segment_taken, rests, sends_reply, server_abort, server_on_apdu}
 use Rattle.bac_protocol.specs.Service.{OTHER, Octets, Outcome, Reply}
 use Rattle.bac_protocol.specs.Service.Outcome.{Replies}
-use Rattle.bac_protocol.specs.Serving.{ReadRule, STRICT, ServerRules, begins_request, ends_entry, entry_left, fresh_rules, idle_by, is_ended, is_forgotten, is_read_in_one, is_turned_away}
+use Rattle.bac_protocol.specs.Serving.{ReadRule, ServerRules, begins_request, ends_entry, entry_left, fresh_rules, idle_by, is_ended, is_forgotten, is_read_in_one}
 use Rattle.bac_protocol.specs.Serving.{is_used_again, live_by, needs_slot, server_hears}
 use Rattle.bac_protocol.specs.ServingLaws.{EndsWithReply, FreshIsReuse, GoesOnAsEver, PerformsWhereEnded, ReadsAreFresh, RemembersAll, ServesAnyway, StrictIsServer, TurnsAway}
 use Rattle.bac_protocol.specs.Sizes.{Way, reply_way_of}
