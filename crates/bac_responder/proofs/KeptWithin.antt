@@ -34,7 +34,7 @@ use Rattle.bac_transaction.proofs.Keyed.{value_viewed}
 use Rattle.bac_transaction.proofs.KeyedSlots.{keys_equivalent}
 use Rattle.bac_transaction.proofs.Viewed.{orderly_viewed}
 use Rattle.bac_responder.specs.Aging.{entry_ticked}
-use Rattle.bac_responder.specs.Kept.{HasShortReplies, StaysWithin, adds_nothing, counted, entry_octets, given_back, growth, is_request, keeps_no_more, kept_octets, octets_of, sum_of}
+use Rattle.bac_responder.specs.Kept.{HasShortReplies, IsWithin, StaysWithin, adds_nothing, counted, entry_octets, given_back, growth, is_request, keeps_no_more, kept_octets, octets_of, sum_of}
 use Rattle.bac_responder.specs.Views.{end_of}
 use Rattle.bac_responder.proofs.Growth.{Fits, hears_fits, nothing_fits, outcome_octets}
 use Rattle.bac_responder.proofs.KeptTables.{live_slots, put_begins, put_grows, put_moves, ticked_octets, without_octets}
@@ -228,6 +228,28 @@ pub nothing_within : (rules : ServerRules) (now : ℕ) (peer : PeerView) (a : Ap
     → kept_octets (responder_by rules c now (service_of s) peer a (end_of slots capacity restart)).end.slots ≤ kept_octets (slots_view slots)
 nothing_within rules now peer a slots capacity restart distinct c s is short =
     turn_adds_nothing rules now (key_of peer a) a (end_of slots capacity restart) c s short (apart slots distinct) is
+
+-- There was room, or it makes none keep more.
+
+pub heard_within : (memory : Option ℕ) (rules : ServerRules) (now : ℕ) (peer : PeerView) (a : Apdu) (slots : Slots) (capacity : ℕ) (restart : Option ℕ)
+    → IsDistinct code_same_key slots → (c : Settings) (s : Store) (old : ServerEnd) → end_of slots capacity restart ≡ old → (room : Bool)
+    → (room ≡ true → StaysWithin memory now peer a old)
+    → (room ≡ false → keeps_no_more rules c now (service_of s) peer a (end_of slots capacity restart) ≡ true) → (new : ServerEnd)
+    → new ≡ (responder_by rules c now (service_of s) peer a (end_of slots capacity restart)).end → IsWithin memory s old new
+heard_within memory rules now peer a slots capacity restart distinct c s old same room stays nothing new is = go memory room stays nothing
+  where
+    go : (m : Option ℕ) (b : Bool) → (b ≡ true → StaysWithin m now peer a old)
+        → (b ≡ false → keeps_no_more rules c now (service_of s) peer a (end_of slots capacity restart) ≡ true) → IsWithin m s old new
+    go None b stays nothing = tt
+    go (Some m) true stays nothing = λ short.
+        let within = stays refl rules c s short in
+        let all = ap (λ (e : ServerEnd). kept_octets e.slots) (is ∙ ap (λ (e : ServerEnd). (responder_by rules c now (service_of s) peer a e).end) same) in
+        omega (arith, within, all)
+    go (Some m) false stays nothing = λ short.
+        let within = nothing_within rules now peer a slots capacity restart distinct c s (nothing refl) short in
+        let all = ap (λ (e : ServerEnd). kept_octets e.slots) is in
+        let before = ap (λ (e : ServerEnd). kept_octets e.slots) same in
+        omega (arith, within, all, before)
 
 -- An APDU was taken: what the table keeps more or less, the entry of its key does.
 

@@ -5,7 +5,7 @@ use Rattle.bac_npdu.specs.Peers.{PeerView}
 use Rattle.bac_protocol.specs.Context.{Settings}
 use Rattle.bac_protocol.specs.Server.{Service}
 use Rattle.bac_protocol.specs.Serving.{STRICT, ServerRules, fresh_rules}
-use Rattle.bac_protocol.specs.Times.{KEEP}
+use Rattle.bac_protocol.specs.declared.times.TheConstants.{KEEP}
 use Rattle.bac_transaction.specs.Ends.{ServerEnd, is_free, key_of, responder_on_apdu, waits_to_serve}
 use Rattle.bac_transaction.specs.Reuse.{is_read, responder_reusing}
 use Rattle.bac_transaction.specs.Serving.{end_left, is_turned_away_by, responder_by}
