@@ -26,7 +26,7 @@ use Rattle.bac_transaction.specs.declared.peer_key.PeerKey.{PeerKey}
 use Rattle.bac_transaction.proofs.Keyed.{value_viewed, without_viewed}
 use Rattle.bac_transaction.proofs.Viewed.{count_viewed}
 use Rattle.bac_responder.specs.Hearing.{HeedsRoom, HeedsRoomAt, Hears, IsHeard, IsPassed, code_slots_left}
-use Rattle.bac_responder.specs.Kept.{adds_nothing, adds_nothing_at, grows_none}
+use Rattle.bac_responder.specs.Kept.{adds_nothing, adds_nothing_at, grows_none, grows_none_at}
 use Rattle.bac_responder.specs.Turns.{Acted, IsServed, acted_of}
 use Rattle.bac_responder.specs.Views.{end_of}
 use Rattle.bac_responder.specs.declared.served.Served.{Served}
@@ -168,10 +168,7 @@ module _ (rules : ServerRules) (c : Settings) (now : ℕ) (key : PeerKey) (a : A
 
   -- what memory has room for
   pub adds_as : adds_nothing_at rules c now (service_of s) k a e ≡ needs_no_slot at (service_of s) rules.reads a
-  adds_as = ap (λ (b : Bool). if b then needs_no_slot at (service_of s) rules.reads a else adds_live) none_there
-    where
-      adds_live : Bool
-      adds_live = adds_nothing at (service_of s) rules.reads left a
+  adds_as = ap (λ (b : Bool). if b then needs_no_slot at (service_of s) rules.reads a else grows_none_at left a) none_there
 
 -- The entry of the key is not live, or ends.
 
