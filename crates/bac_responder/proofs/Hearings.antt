@@ -35,6 +35,10 @@ use Rattle.bac_responder.proofs.Turned.{acted, after_acted, goes_still}
 abbrev Slots : Type 0
 Slots = List (Slot PeerKey ServerTransaction)
 
+pub both_true : (b d : Bool) → b && d ≡ true → d ≡ true
+both_true true d is = is
+both_true false d is = absurd cc
+
 -- Whether a slot is free is asked only where a request begins.
 
 module _ (c : Context) (service : Service) (reads : ReadRule) (left : Option ServerTransaction) (a : Apdu) where
