@@ -1,7 +1,7 @@
 -- What the server's end keeps after a call, in its own terms and in those of its table.
 use Rattle.std.proofs.Common.{◌≡◌, ℕ, zero, suc, ◌+◌, ◌≤◌, Bool, true, false, ◌&&◌, List, [], ◌∷◌, filter, length, max, map, take, Option, Some, None}
 use Rattle.std.proofs.Common.{Result, Ok, Err, if◌then◌else◌, refl, ap, sym, subst, ◌∙◌, arith}
-use Rattle.std.specs.Prelude.{IfSome, MatchOption}
+use Rattle.std.specs.Prelude.{IfSome, MatchOption, is_some}
 use Rattle.bac_apdu.specs.Apdu.{Apdu}
 use Rattle.bac_apdu.specs.Apdu.Apdu.{ConfirmedRequest}
 use Rattle.bac_npdu.specs.Peers.{PeerView}
@@ -34,8 +34,10 @@ use Rattle.bac_transaction.proofs.Keyed.{value_viewed}
 use Rattle.bac_transaction.proofs.KeyedSlots.{keys_equivalent}
 use Rattle.bac_transaction.proofs.Viewed.{orderly_viewed}
 use Rattle.bac_responder.specs.Aging.{entry_ticked}
-use Rattle.bac_responder.specs.Kept.{HasShortReplies, IsWithin, StaysWithin, adds_nothing, counted, entry_octets, given_back, growth, is_request, keeps_no_more, kept_octets, octets_of, sum_of}
+use Rattle.bac_responder.specs.Hearing.{HeedsRoomAt, Hears}
+use Rattle.bac_responder.specs.Kept.{HasShortReplies, IsWithin, NeedsRoom, StaysWithin, adds_nothing, adds_nothing_at, counted, entry_octets, given_back, growth, is_request, keeps_no_more, kept_octets, octets_of, sum_of}
 use Rattle.bac_responder.specs.Views.{end_of}
+use Rattle.bac_responder.specs.declared.served.Served.{Served}
 use Rattle.bac_responder.proofs.Growth.{Fits, hears_fits, nothing_fits, outcome_octets}
 use Rattle.bac_responder.proofs.KeptTables.{live_slots, put_begins, put_grows, put_moves, ticked_octets, without_octets}
 use Rattle.bac_responder.proofs.Ticks.{left_viewed, ticked_viewed}
@@ -251,6 +253,44 @@ heard_within memory rules now peer a slots capacity restart distinct c s old sam
         let before = ap (λ (e : ServerEnd). kept_octets e.slots) same in
         omega (arith, within, all, before)
 
+-- what comes of an APDU, by what was asked before
+
+pub on_within : (memory : Option ℕ) (rules : ServerRules) (now : ℕ) (peer : PeerView) (a : Apdu) (slots : Slots) (capacity : ℕ) (restart : Option ℕ)
+    → IsDistinct code_same_key slots → (c : Settings) (s : Store) (old : ServerEnd) → end_of slots capacity restart ≡ old → (room : Bool)
+    → (room ≡ true → StaysWithin memory now peer a old) → (k : keys.PeerKey) → k ≡ key_of peer a → (x : Option Served) (new : ServerEnd) (t : Store)
+    → Hears rules c now k a (end_of slots capacity restart) s (Ok x) new t → HeedsRoomAt room rules c now k a (end_of slots capacity restart) s (Ok x)
+    → IsWithin memory s old new
+on_within memory rules now peer a slots capacity restart distinct c s old same room stays k is None new t hears heeds = go memory
+  where
+    all : kept_octets new.slots ≡ kept_octets old.slots
+    all = ap (λ (e : ServerEnd). kept_octets e.slots) (hears.0 ∙ same)
+
+    go : (m : Option ℕ) → IsWithin m s old new
+    go None = tt
+    go (Some m) = λ short. omega (arith, all)
+on_within memory rules now peer a slots capacity restart distinct c s old same room stays k is (Some x) new t hears heeds =
+    heard_within memory rules now peer a slots capacity restart distinct c s old same room stays
+    (λ none. ap (λ (q : keys.PeerKey). adds_nothing_at rules c now (service_of s) q a (end_of slots capacity restart)) (sym is) ∙ heeds none) new
+    (hears.turn.end ∙ ap (λ (q : keys.PeerKey). (turn_at rules c now (service_of s) q a (end_of slots capacity restart)).end) is)
+
+pub on_needs : (memory : Option ℕ) (rules : ServerRules) (now : ℕ) (peer : PeerView) (a : Apdu) (e old : ServerEnd) → e ≡ old → (c : Settings) (s : Store)
+    (room : Bool) → (growth a ≡ 0 → room ≡ true) → (memory ≡ None → room ≡ true) → (k : keys.PeerKey) → k ≡ key_of peer a → (x : Option Served)
+    → HeedsRoomAt room rules c now k a e s (Ok x) → x ≡ None → NeedsRoom rules memory c now (service_of s) peer a old
+on_needs memory rules now peer a e old same c s room needless bound k is (Some x) heeds none = absurd cc
+on_needs memory rules now peer a e old same c s room needless bound k is None heeds none = record {
+  request = needs_request a (λ grows. full (needless grows));
+  more = ap (λ (d : ServerEnd). keeps_no_more rules c now (service_of s) peer a d) (sym same)
+      ∙ ap (λ (q : keys.PeerKey). adds_nothing_at rules c now (service_of s) q a e) (sym is) ∙ heeds.1;
+  bound = there memory bound;
+}
+  where
+    full : room ≡ true → ⊥
+    full yes = let no : false ≡ true = sym heeds.0 ∙ yes in cc
+
+    there : (m : Option ℕ) → (m ≡ None → room ≡ true) → is_some m ≡ true
+    there None bound = absurd (full (bound refl))
+    there (Some m) bound = refl
+
 -- An APDU was taken: what the table keeps more or less, the entry of its key does.
 
 seen_moves : (key : PeerKey) (old new : Slots) (put : List ServerSlot) → slots_view new ≡ put
@@ -272,6 +312,19 @@ turn_moved rules c now s key a old new capacity room restart distinct is =
     seen_moves key old new _ (ap (λ (x : ServerEnd). x.slots) is)
     (left_moves rules now k a e (apart old distinct)
     (server_hears (context_of c now k) (service_of s) rules (value_at same_key k (slots_view old)) (is_free now (end_left rules now k a e)) a).entry)
+
+pub on_moved : (rules : ServerRules) (c : Settings) (now : ℕ) (s : Store) (key : PeerKey) (a : Apdu) (old new : Slots) (capacity room : ℕ) (restart : Option ℕ)
+    → IsDistinct code_same_key old → (x : Option Served) (t : Store)
+    → Hears rules c now (peer_key_view key) a (end_of old capacity restart) s (Ok x) (end_of new room restart) t
+    → kept_octets (slots_view new) + octets_of (value_at code_same_key key old) ≤ kept_octets (slots_view old) + octets_of (value_at code_same_key key new)
+on_moved rules c now s key a old new capacity room restart distinct (Some x) t hears =
+    turn_moved rules c now s key a old new capacity room restart distinct hears.turn.end
+on_moved rules c now s key a old new capacity room restart distinct None t hears =
+    let is = ap (λ (e : ServerEnd). e.slots) hears.0 in
+    let all = ap kept_octets is in
+    let before = ap octets_of (value_viewed ServerTransaction key old) in
+    let after = ap octets_of (value_viewed ServerTransaction key new ∙ ap (value_at same_key (peer_key_view key)) is) in
+    omega (arith, all, before, after)
 
 -- A tick.
 

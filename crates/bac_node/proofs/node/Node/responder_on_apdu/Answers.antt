@@ -21,8 +21,8 @@ returns-clause-heard c =
       store = c.self.inside.store;
     } in
     server_turned_so (rules_view c.args.rules.now) c.in-Some.turned_away c.args.now c.args.self.now at c.on.new.self c.on.new.store
-    (peer_view c.args.peer.now) (apdu_view c.args.apdu.now) c.in_ok-sends.field-0.sends.items c.in_ok-sends.field-0.act _ c.self.view_is c.in_ok-sends.ensures.hears
-    refl (ap (map ended_view) c.new.ensures.items) refl refl
+    (peer_view c.args.peer.now) (apdu_view c.args.apdu.now) c.in-Some.sends.items c.in-Some.act _ c.self.view_is
+    (rw c.in-Some.is at c.in_ok-served.ensures.hears) refl (ap (map ended_view) c.new.ensures.items) refl refl
 
 pub returns-clause-within : goal.returns-clause-within
 returns-clause-within c =
@@ -36,4 +36,4 @@ returns-clause-within c =
     } in
     subst (λ (n : Node). IsWithin c.args.rules.now.memory n (record at { latest = c.args.now; servers = c.on.new.self; store = c.on.new.store })) c.self.view_is
     (served_within c.args.rules.now.memory c.self.inside.store at (record at { latest = c.args.now; servers = c.on.new.self; store = c.on.new.store }) c.on.new.self refl
-    c.replies_can_be_sent.ensures c.in_ok-sends.ensures.within)
+    c.replies_can_be_sent.ensures c.in_ok-served.ensures.within)
