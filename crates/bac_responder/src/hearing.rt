@@ -80,7 +80,20 @@ impl ServerTransaction {
     }
 }
 
-/// Whether an APDU begins a request, and a slot is free, once the entry of the key has ended, if it does. For any other APDU no entry is looked at.
+/// Whether an APDU begins a request, a slot has no live entry, and the end does not wait after a restart. For any other APDU no entry is looked at.
+fn has_place<S: SlotTable<PeerKey, ServerTransaction>>(
+    aged: &AgedTable<ServerAging, S>,
+    restart: Option<u64>,
+    now: u64,
+    apdu: &Apdu<'_>,
+) -> bool
+    requires { AreAged aged.now.ages (S.slots aged.now.table) }
+    ensures { result ≡ (begins_request (apdu_view apdu.now) && is_free now (end_of (S.slots aged.now.table) (S.capacity aged.now.table) restart)) }
+{
+    begins_request(apdu) && has_room(aged, now) && !is_waiting(restart, KEEP, now)
+}
+
+/// The same once the entry of the key has ended, if it does.
 fn has_place_left<S: SlotTable<PeerKey, ServerTransaction>>(
     aged: &AgedTable<ServerAging, S>,
     told: &Told,
@@ -94,15 +107,14 @@ fn has_place_left<S: SlotTable<PeerKey, ServerTransaction>>(
         (end_of (code_slots_left ends told.now.context.key (S.slots aged.now.table)) (S.capacity aged.now.table) told.now.restart)) }
 {
     let now = told.context.moment;
+    let restart = told.restart;
     if !ends {
-        return begins_request(apdu)
-            && has_room(aged, now)
-            && !is_waiting(told.restart, KEEP, now);
+        return has_place(aged, restart, now, apdu);
     }
     // its own slot gets free: no more entries are live than there are slots
     let _len = aged.table.len();
     removing_a_slot::<PeerKey, ServerTransaction>();
-    begins_request(apdu) && !is_waiting(told.restart, KEEP, now)
+    begins_request(apdu) && !is_waiting(restart, KEEP, now)
 }
 
 /// The entry of the key ends, if it does.
