@@ -61,7 +61,7 @@ pub server_turned_so : (rules : ServerRules) (away : Bool) (now : ℕ) (old at :
 server_turned_so rules away now old at v t peer a sent x o same did sends ended performed dropped =
     subst (λ (n : Node). IsServedBy rules away peer a now n (record at { latest = now; servers = v; store = t }) o) same (record {
       turn = server_turned_by (responder_by rules at.settings now (service_of at.store) peer a at.servers) now at v t sent x o did.turn sends ended performed dropped;
-      told = did.away;
+      told = did.told;
     })
 
 -- A tick.

@@ -162,7 +162,7 @@ module _ (rules : ServerRules) (c : Settings) (now : ℕ) (key : PeerKey) (a : A
       let same : rest ≡ end_left rules now k a e = end_left_is rules now key a slots capacity restart ends ends_is in
       record {
         turn = subst (λ (d : ServerEnd). IsServed (server_goes now d k (server_hears at (service_of s) rules o (is_free now d) a)) s sent x new t) same did;
-        away = away_there free away asked told ∙ ap (λ (d : ServerEnd). is_turned_away at (service_of s) rules o (is_free now d) a) same;
+        told = away_there free away asked told ∙ ap (λ (d : ServerEnd). is_turned_away at (service_of s) rules o (is_free now d) a) same;
       }
 
   pub passed : (free : Bool) → free ≡ (begins_request a && is_free now rest) → (sent : List Datagram) (q : Option Done) (t : Store)
@@ -244,7 +244,7 @@ module _ (rules : ServerRules) (c : Settings) (now : ℕ) (key : PeerKey) (a : A
       record {
         turn = subst (λ (l : ServerEnd). IsServed (server_goes now l live_key (server_hears live_at (service_of s) rules present free a)) s sent x new t) all_left
             (subst (λ (r : Reaction). IsServed (server_goes now live_end live_key r) s sent x new t) (sym (goes_on free)) did);
-        away = none ∙ sym (ap (λ (b : Bool). b && (needs_slot live_at (service_of s) rules.reads a && not free)) one_there);
+        told = none ∙ sym (ap (λ (b : Bool). b && (needs_slot live_at (service_of s) rules.reads a && not free)) one_there);
       }
 
   pub adds_live_as : adds_nothing_at rules c now (service_of s) live_key a live_end ≡ grows_none d.state a

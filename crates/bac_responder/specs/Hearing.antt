@@ -105,7 +105,7 @@ code_slots_left ends key slots = if ends then without code_same_key key slots el
 pub record IsHeard (rules : ServerRules) (c : Settings) (now : ℕ) (key : keys.PeerKey) (a : Apdu) (old : ServerEnd) (s : Store) (sent : List Datagram)
     (x : Option Acted) (away : Bool) (new : ServerEnd) (t : Store) : Type 0 where
   pub turn : IsServed (turn_at rules c now (service_of s) key a old) s sent x new t
-  pub away : away ≡ is_turned_away_at rules c now (service_of s) key a old
+  pub told : away ≡ is_turned_away_at rules c now (service_of s) key a old
 
 -- or memory has no room, or ran out, and the end and the store are as they were
 abbrev pub Hears : ServerRules → Settings → (now : ℕ) → keys.PeerKey → Apdu → (old : ServerEnd) → Store → Result (Option Served) NoMemory → (new : ServerEnd)
