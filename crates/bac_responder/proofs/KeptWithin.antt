@@ -285,7 +285,7 @@ on_needs memory rules now peer a e old same c s room needless bound k is None he
 }
   where
     full : room ≡ true → ⊥
-    full yes = let no : false ≡ true = sym heeds.0 ∙ yes in cc
+    full granted = let no : false ≡ true = sym heeds.0 ∙ granted in cc
 
     there : (m : Option ℕ) → (m ≡ None → room ≡ true) → is_some m ≡ true
     there None bound = absurd (full (bound refl))

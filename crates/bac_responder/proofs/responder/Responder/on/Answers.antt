@@ -35,16 +35,16 @@ pub returns-clause-within : goal.returns-clause-within
 returns-clause-within g c =
     let key : PeerKey = record { peer = c.args.peer.now; invoke_id = c.invoke_id_of.result } in
     let of : ℕ → keys.PeerKey = λ n. record { peer = peer_view c.args.peer.now; invoke_id = n } in
-    let same = same_end _ _ _ _ c.self.inside.restart c.seek.ensures.slots c.seek.ensures.same ∙ c.self.view_is ∙ c.has_room.ensures.same in
+    let same = same_end _ _ _ _ c.self.inside.restart c.seek.ensures.slots c.seek.ensures.same ∙ c.self.view_is ∙ c.has_room-room.ensures.same in
     on_within c.args.serving.now.rules.memory (rules_view c.args.serving.now.rules) c.args.now (peer_view c.args.peer.now) (apdu_view c.args.apdu.now)
     (g.S.SlotTable.slots c.seek.new.aged.table) (g.S.SlotTable.capacity c.seek.new.aged.table) c.self.inside.restart c.len-entries.ensures.distinct
-    (settings_view c.args.serving.now.settings) c.args.store.now _ same c.has_room.result c.has_room.ensures.within _ (ap of c.invoke_id_of.ensures)
+    (settings_view c.args.serving.now.settings) c.args.store.now _ same c.has_room-room.result c.has_room-room.ensures.within _ (ap of c.invoke_id_of.ensures)
     c.in_ok-served.served _ c.on_apdu.new.store c.in_ok-served.ensures.hears c.in_ok-served.ensures.room
 
 pub returns-clause-needless : goal.returns-clause-needless
 returns-clause-needless g c =
     let of : ℕ → keys.PeerKey = λ n. record { peer = peer_view c.args.peer.now; invoke_id = n } in
-    let same = same_end _ _ _ _ c.self.inside.restart c.seek.ensures.slots c.seek.ensures.same ∙ c.self.view_is ∙ c.has_room.ensures.same in
+    let same = same_end _ _ _ _ c.self.inside.restart c.seek.ensures.slots c.seek.ensures.same ∙ c.self.view_is ∙ c.has_room-room.ensures.same in
     on_needs c.args.serving.now.rules.memory (rules_view c.args.serving.now.rules) c.args.now (peer_view c.args.peer.now) (apdu_view c.args.apdu.now) _ _ same
-    (settings_view c.args.serving.now.settings) c.args.store.now c.has_room.result c.has_room.ensures.needless c.has_room.ensures.bound _ (ap of c.invoke_id_of.ensures)
+    (settings_view c.args.serving.now.settings) c.args.store.now c.has_room-room.result c.has_room-room.ensures.needless c.has_room-room.ensures.bound _ (ap of c.invoke_id_of.ensures)
     c.in_ok-served.served c.in_ok-served.ensures.room
