@@ -170,9 +170,10 @@ returns-in-Ok-Some-clause-hears g c =
     let goes = sym c.is_ended.ensures ∙ c.if-is_ended.false in
     let seen : value_at same_key k e.slots ≡ Some d = sym (value_viewed ServerTransaction key slots) ∙ sym c.in-Some.ensures.value in
     let live : is_none_live now (value_at same_key k e.slots) ≡ false = ap (is_none_live now) seen ∙ none_live now d ∙ ap not alive in
-    let stays = stays_live set (service_of c.args.store.now) d x a alive (rw c.in-Ok-Some.is at c.in-Ok-Some.ensures.does).entry_is in
+    let did = rw c.in-Ok-Some.is at c.in-Ok-Some.ensures.does in
+    let stays = stays_live set (service_of c.args.store.now) d x a alive did.entry_is in
     let put = set_there now key x slots _ (c.get_mut.follows.holds x).0 in
-    let r = served_so now e k _ _ c.args.store.now _ x false _ _ _ refl (rw c.in-Ok-Some.is at c.in-Ok-Some.ensures.does) stays live put in
+    let r = served_so now e k _ _ c.args.store.now _ x false _ _ _ refl did stays live put in
     let all = served_with _ c.args.store.now _ _ _ _ _ _ _ r c.served.ensures.sends c.served.ensures.act
     (ap (λ (n : ℕ). end_of (g.S.SlotTable.slots (c.get_mut.follows.lender x)) n c.args.told.now.restart) (c.get_mut.follows.holds x).1) in
     heard_live rules (settings_view c.args.told.now.context.settings) now key a slots capacity c.args.told.now.restart c.args.store.now d seen alive goes _ _ _ _ _
@@ -187,8 +188,9 @@ returns-in-Ok-Some-clause-room g c = λ none.
     let alive : is_live now d ≡ true = sym c.is_live.ensures ∙ c.if-not-is_live.false in
     let goes = sym c.is_ended.ensures ∙ c.if-is_ended.false in
     let seen = sym (value_viewed ServerTransaction key slots) ∙ sym c.in-Some.ensures.value in
+    let heeds = rw c.in-Ok-Some.is at c.in-Ok-Some.ensures.room in
     adds_live_as (rules_view c.args.told.now.rules) (settings_view c.args.told.now.context.settings) now key (apdu_view c.args.apdu.now) slots
-    (g.S.SlotTable.capacity c.args.aged.now.table) c.args.told.now.restart c.args.store.now d seen alive goes ∙ (rw c.in-Ok-Some.is at c.in-Ok-Some.ensures.room) none
+    (g.S.SlotTable.capacity c.args.aged.now.table) c.args.told.now.restart c.args.store.now d seen alive goes ∙ heeds none
 
 pub returns-in-Ok-Some-clause-aged : goal.returns-in-Ok-Some-clause-aged
 returns-in-Ok-Some-clause-aged g c =
@@ -199,7 +201,8 @@ returns-in-Ok-Some-clause-aged g c =
     let x : ServerTransaction = c.goes_on.new.self in
     let alive : is_live now d ≡ true = sym c.is_live.ensures ∙ c.if-not-is_live.false in
     let at : value_at code_same_key key slots ≡ Some d = sym c.in-Some.ensures.value in
-    let begun = live_begun (context_view c.args.told.now.context) (service_of c.args.store.now) d x (apdu_view c.args.apdu.now) alive (rw c.in-Ok-Some.is at c.in-Ok-Some.ensures.does).entry_is in
+    let did = rw c.in-Ok-Some.is at c.in-Ok-Some.ensures.does in
+    let begun = live_begun (context_view c.args.told.now.context) (service_of c.args.store.now) d x (apdu_view c.args.apdu.now) alive did.entry_is in
     goes_on CodeKey ServerTransaction began IsQuiet code_same_key quiet_earlier c.args.aged.now.ages _ c.due-due.result key d x slots _ at begun c.due-due.ensures.quiet
     (c.get_mut.follows.holds x).0 c.comes_due.ensures c.requires.aged
 
@@ -207,24 +210,27 @@ returns-in-Ok-Some-clause-aged g c =
 
 pub returns-in-Ok-None-clause-hears : goal.returns-in-Ok-None-clause-hears
 returns-in-Ok-None-clause-hears g c =
+    let did = rw c.in-Ok-None.is at c.in-Ok-None.ensures.does in
     let d : ServerTransaction = c.in-Some.slot.now in
     let x : ServerTransaction = c.goes_on.new.self in
     let unchanged = put_back ServerTransaction c.args.told.now.context.key d x (g.S.SlotTable.slots c.args.aged.now.table) _ (sym c.in-Some.ensures.value)
-    (rw c.in-Ok-None.is at c.in-Ok-None.ensures.does).0 (c.get_mut.follows.holds x).0 in (
+    did.0 (c.get_mut.follows.holds x).0 in (
       same_end _ _ _ _ c.args.told.now.restart unchanged (c.get_mut.follows.holds x).1,
-      (rw c.in-Ok-None.is at c.in-Ok-None.ensures.does).1,
+      did.1,
     )
 
 pub returns-in-Ok-None-clause-aged : goal.returns-in-Ok-None-clause-aged
 returns-in-Ok-None-clause-aged g c =
+    let did = rw c.in-Ok-None.is at c.in-Ok-None.ensures.does in
     let d : ServerTransaction = c.in-Some.slot.now in
     let x : ServerTransaction = c.goes_on.new.self in
     let unchanged = put_back ServerTransaction c.args.told.now.context.key d x (g.S.SlotTable.slots c.args.aged.now.table) _ (sym c.in-Some.ensures.value)
-    (rw c.in-Ok-None.is at c.in-Ok-None.ensures.does).0 (c.get_mut.follows.holds x).0 in
+    did.0 (c.get_mut.follows.holds x).0 in
     subst (λ (y : List (Slot CodeKey ServerTransaction)). AreAged c.args.aged.now.ages y) (sym unchanged) c.requires.aged
 
 pub returns-in-Ok-None-clause-room : goal.returns-in-Ok-None-clause-room
 returns-in-Ok-None-clause-room g c =
+    let heeds = rw c.in-Ok-None.is at c.in-Ok-None.ensures.room in
     let key : CodeKey = c.args.told.now.context.key in
     let now : ℕ = c.args.told.now.context.moment in
     let slots : List (Slot CodeKey ServerTransaction) = g.S.SlotTable.slots c.args.aged.now.table in
@@ -232,10 +238,10 @@ returns-in-Ok-None-clause-room g c =
     let alive : is_live now d ≡ true = sym c.is_live.ensures ∙ c.if-not-is_live.false in
     let goes = sym c.is_ended.ensures ∙ c.if-is_ended.false in
     let seen = sym (value_viewed ServerTransaction key slots) ∙ sym c.in-Some.ensures.value in (
-      (rw c.in-Ok-None.is at c.in-Ok-None.ensures.room).0,
+      heeds.0,
       adds_live_as (rules_view c.args.told.now.rules) (settings_view c.args.told.now.context.settings) now key (apdu_view c.args.apdu.now) slots
           (g.S.SlotTable.capacity c.args.aged.now.table) c.args.told.now.restart c.args.store.now d seen alive goes
-          ∙ (rw c.in-Ok-None.is at c.in-Ok-None.ensures.room).1,
+          ∙ heeds.1,
     )
 
 -- Memory was refused.
