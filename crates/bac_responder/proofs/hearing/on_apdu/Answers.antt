@@ -170,7 +170,7 @@ returns-in-Ok-Some-clause-hears g c =
     let goes = sym c.is_ended.ensures ∙ c.if-is_ended.false in
     let seen : value_at same_key k e.slots ≡ Some d = sym (value_viewed ServerTransaction key slots) ∙ sym c.in-Some.ensures.value in
     let live : is_none_live now (value_at same_key k e.slots) ≡ false = ap (is_none_live now) seen ∙ none_live now d ∙ ap not alive in
-    let did = rw c.in-Ok-Some.is at c.in-Ok-Some.ensures.does in
+    let did = rw c.in-Ok-Some.field-0-is at c.in-Ok-Some.ensures.does in
     let stays = stays_live set (service_of c.args.store.now) d x a alive did.entry_is in
     let put = set_there now key x slots _ (c.get_mut.follows.holds x).0 in
     let r = served_so now e k _ _ c.args.store.now _ x false _ _ _ refl did stays live put in
@@ -188,7 +188,7 @@ returns-in-Ok-Some-clause-room g c = λ none.
     let alive : is_live now d ≡ true = sym c.is_live.ensures ∙ c.if-not-is_live.false in
     let goes = sym c.is_ended.ensures ∙ c.if-is_ended.false in
     let seen = sym (value_viewed ServerTransaction key slots) ∙ sym c.in-Some.ensures.value in
-    let heeds = rw c.in-Ok-Some.is at c.in-Ok-Some.ensures.room in
+    let heeds = rw c.in-Ok-Some.field-0-is at c.in-Ok-Some.ensures.room in
     adds_live_as (rules_view c.args.told.now.rules) (settings_view c.args.told.now.context.settings) now key (apdu_view c.args.apdu.now) slots
     (g.S.SlotTable.capacity c.args.aged.now.table) c.args.told.now.restart c.args.store.now d seen alive goes ∙ heeds none
 
@@ -201,7 +201,7 @@ returns-in-Ok-Some-clause-aged g c =
     let x : ServerTransaction = c.goes_on.new.self in
     let alive : is_live now d ≡ true = sym c.is_live.ensures ∙ c.if-not-is_live.false in
     let at : value_at code_same_key key slots ≡ Some d = sym c.in-Some.ensures.value in
-    let did = rw c.in-Ok-Some.is at c.in-Ok-Some.ensures.does in
+    let did = rw c.in-Ok-Some.field-0-is at c.in-Ok-Some.ensures.does in
     let begun = live_begun (context_view c.args.told.now.context) (service_of c.args.store.now) d x (apdu_view c.args.apdu.now) alive did.entry_is in
     goes_on CodeKey ServerTransaction began IsQuiet code_same_key quiet_earlier c.args.aged.now.ages _ c.due-due.result key d x slots _ at begun c.due-due.ensures.quiet
     (c.get_mut.follows.holds x).0 c.comes_due.ensures c.requires.aged
@@ -210,7 +210,7 @@ returns-in-Ok-Some-clause-aged g c =
 
 pub returns-in-Ok-None-clause-hears : goal.returns-in-Ok-None-clause-hears
 returns-in-Ok-None-clause-hears g c =
-    let did = rw c.in-Ok-None.is at c.in-Ok-None.ensures.does in
+    let did = rw c.in-Ok-None.field-0-is at c.in-Ok-None.ensures.does in
     let d : ServerTransaction = c.in-Some.slot.now in
     let x : ServerTransaction = c.goes_on.new.self in
     let unchanged = put_back ServerTransaction c.args.told.now.context.key d x (g.S.SlotTable.slots c.args.aged.now.table) _ (sym c.in-Some.ensures.value)
@@ -221,7 +221,7 @@ returns-in-Ok-None-clause-hears g c =
 
 pub returns-in-Ok-None-clause-aged : goal.returns-in-Ok-None-clause-aged
 returns-in-Ok-None-clause-aged g c =
-    let did = rw c.in-Ok-None.is at c.in-Ok-None.ensures.does in
+    let did = rw c.in-Ok-None.field-0-is at c.in-Ok-None.ensures.does in
     let d : ServerTransaction = c.in-Some.slot.now in
     let x : ServerTransaction = c.goes_on.new.self in
     let unchanged = put_back ServerTransaction c.args.told.now.context.key d x (g.S.SlotTable.slots c.args.aged.now.table) _ (sym c.in-Some.ensures.value)
@@ -230,7 +230,7 @@ returns-in-Ok-None-clause-aged g c =
 
 pub returns-in-Ok-None-clause-room : goal.returns-in-Ok-None-clause-room
 returns-in-Ok-None-clause-room g c =
-    let heeds = rw c.in-Ok-None.is at c.in-Ok-None.ensures.room in
+    let heeds = rw c.in-Ok-None.field-0-is at c.in-Ok-None.ensures.room in
     let key : CodeKey = c.args.told.now.context.key in
     let now : ℕ = c.args.told.now.context.moment in
     let slots : List (Slot CodeKey ServerTransaction) = g.S.SlotTable.slots c.args.aged.now.table in
