@@ -330,11 +330,17 @@ impl<F: OpenFiles, M: Machine> Backup<'_, F, M> {
         Ok(comparison == Comparison::Same)
     }
 
-    /// The octets of a file of the folder; None where it cannot be read, which `err` says: the others can be restored.
-    fn kept<E: Write>(&self, name: &str, err: &mut E) -> Result<Option<Vec<u8>>, Status>
+    /// The octets of a file of the folder that is to have so many, and one more where it is longer; None where it cannot be read, which `err` says: the others can
+    /// be restored.
+    fn kept<E: Write>(
+        &self,
+        name: &str,
+        length: u64,
+        err: &mut E,
+    ) -> Result<Option<Vec<u8>>, Status>
         ensures told { IfErr result IsStop }
     {
-        match self.folder.read(name, err) {
+        match self.folder.read_front(name, length.saturating_add(1), err) {
             Ok(octets) => Ok(Some(octets)),
             Err(Status::CommandLine) => Ok(None),
             Err(status) => Err(status),
@@ -351,7 +357,7 @@ impl<F: OpenFiles, M: Machine> Backup<'_, F, M> {
         ensures told { IfErr result IsStop }
     {
         let name = name_in(self.folder.alloc, file.object, err)?;
-        let Some(octets) = self.kept(&name, err)? else {
+        let Some(octets) = self.kept(&name, file.length, err)? else {
             return Ok(false);
         };
         if !are_saved(file, &octets) {

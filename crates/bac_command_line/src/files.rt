@@ -29,9 +29,15 @@ pub trait OpenFiles {
     fn open(&self, path: &str) -> io::Result<Self::File>
         ensures { IfOk result (λ f. Self.is_file path.now f) };
 
-    /// Writes octets to a file, in place of what it has; on a disk they are when this returns. An Err where the system refuses it; files that are only read answer `Unsupported`.
+    /// Writes octets to a file, in place of what it has; on a disk they are when this returns. An Err where the system refuses it, and then the file is as it was;
+    /// files that are only read answer `Unsupported`.
     fn write(&self, _path: &str, _octets: &[u8]) -> io::Result<()> {
         Err(io::Error::from(io::ErrorKind::Unsupported))
+    }
+
+    /// The same, where the octets may also go into a pipe or a terminal.
+    fn write_out(&self, path: &str, octets: &[u8]) -> io::Result<()> {
+        self.write(path, octets)
     }
 
     /// Gives a file another name, in place of the file that has it. An Err where the system refuses it; files that are only read answer `Unsupported`.

@@ -7,7 +7,7 @@ use crate::objects::octets_of;
 use crate::reasons::print_unwritten;
 use bac_text::{Status, no_memory};
 use std::alloc::Global;
-use std::io::{self, ErrorKind, Write};
+use std::io::{self, ErrorKind, Read, Write};
 
 /// The name of the list of the files of a backup.
 pub(crate) const MANIFEST: &str = "manifest";
@@ -112,6 +112,20 @@ impl<F: OpenFiles> Folder<'_, F> {
             Err(error) if error.kind() == ErrorKind::NotFound => Ok(None),
             _ => Ok(Some(self.read(name, err)?)),
         }
+    }
+
+    /// The first octets of a file in it, at most so many. Where it cannot be read, `err` and the status say so.
+    pub(crate) fn read_front<E: Write>(
+        &self,
+        name: &str,
+        most: u64,
+        err: &mut E,
+    ) -> Result<Vec<u8>, Status>
+        ensures told { IfErr result IsStop }
+    {
+        let path = self.path_of(name, err)?;
+        let file = opened(self.files, &path, err)?;
+        octets_of(self.alloc, &path, file.take(most), err)
     }
 
     /// The octets of a file in it. Where it cannot be read, `err` and the status say so.

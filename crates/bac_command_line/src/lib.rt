@@ -37,6 +37,7 @@ mod peer_file;
 mod peers;
 mod reasons;
 mod recording;
+mod replacing;
 mod rota;
 mod rounds;
 mod seconds;

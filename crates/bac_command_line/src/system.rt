@@ -9,16 +9,16 @@ ghost use Rattle.sqlite_trees.specs.View.{IsClean};
 use crate::client_pair::{ClientPair, pair_at};
 use crate::files::OpenFiles;
 use crate::online::Machine;
+use crate::replacing::{make_private, put_out, remove_empty, rename, replace};
 use bac_driver::{MonotonicClock, UdpLink};
 use bac_keep::KeepFault;
 use bac_keep_file::{Checkpoint, KeptFile, Loss, OpenFault};
 use bac_npdu::LinkAddress;
 use mio::unix::SourceFd;
 use mio::{Events, Interest, Poll, Token};
-use std::fs::{OpenFile, OpenOptions};
-use std::io::{ErrorKind, Read, Write};
+use std::fs::{File, OpenOptions};
+use std::io::{ErrorKind, Read};
 use std::net::{Ipv4Addr, Net, SocketAddr, UdpSocket};
-use std::rt::Files;
 use std::time::{Duration, SystemTime, UNIX_EPOCH};
 use std::{fs, io};
 
@@ -106,12 +106,12 @@ fn is_at_end(runtime: &HostRuntime) -> io::Result<bool> {
     Ok(false)
 }
 
-impl<R: Files> OpenFiles for System<'_, R> {
-    type File = R::File;
+impl OpenFiles for System<'_, HostRuntime> {
+    type File = File;
 
     ghost is_file = { λ _ _. ⊤ };
 
-    fn open(&self, path: &str) -> io::Result<R::File> {
+    fn open(&self, path: &str) -> io::Result<File> {
         let path = if path == "-" { STANDARD_INPUT } else { path };
         let file = fs::open(self.runtime, path)?;
         // it opens, and a read of it would fail, behind a text without its name
@@ -122,18 +122,15 @@ impl<R: Files> OpenFiles for System<'_, R> {
     }
 
     fn write(&self, path: &str, octets: &[u8]) -> io::Result<()> {
-        let mut file = fs::create(self.runtime, path)?;
-        file.write_all(octets)?;
-        file.flush()?;
-        match file.sync_all() {
-            // (a pipe or a terminal has nothing to sync)
-            Err(error) if error.kind() == ErrorKind::InvalidInput => Ok(()),
-            synced => synced,
-        }
+        replace(self.runtime, path, octets)
+    }
+
+    fn write_out(&self, path: &str, octets: &[u8]) -> io::Result<()> {
+        put_out(self.runtime, path, octets)
     }
 
     fn rename(&self, from: &str, to: &str) -> io::Result<()> {
-        fs::rename(self.runtime, from, to)
+        rename(self.runtime, from, to)
     }
 
     fn make_folder(&self, path: &str) -> io::Result<()> {
@@ -191,8 +188,18 @@ impl<'a> Machine for System<'a, HostRuntime> {
         }
     }
 
+    /// A file that is made is its owner's alone, and its log too.
     fn open_database(&self, path: &str, loss: Loss) -> Result<(KeptFile, bool), OpenFault> {
-        bac_keep_file::open(self.runtime, path, loss)
+        let is_made = make_private(self.runtime, path);
+        match bac_keep_file::open(self.runtime, path, loss) {
+            Ok(opened) => Ok(opened),
+            Err(fault) => {
+                if is_made {
+                    remove_empty(self.runtime, path);
+                }
+                Err(fault)
+            }
+        }
     }
 
     fn close_database(&self, mut database: KeptFile) -> Result<(), KeepFault> {

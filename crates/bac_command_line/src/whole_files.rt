@@ -57,7 +57,7 @@ fn write_out<F: OpenFiles, O: Write, E: Write>(
 ) -> Result<(), Status>
     ensures told { IfErr result IsStop }
 {
-    if let Err(error) = files.write(path, octets) {
+    if let Err(error) = files.write_out(path, octets) {
         return Err(print_unwritten(path, &error, err));
     }
     let count = octets.len();
