@@ -255,7 +255,11 @@ fn close_kept<M: Machine, E: Write>(
         Err(fault) => {
             let failed = CommandError::Keep(fault).report(err);
             print_keep_fault(path, Some(fault), err);
-            if status == Status::Done { failed } else { status }
+            if status == Status::Done {
+                failed
+            } else {
+                status
+            }
         }
     }
 }

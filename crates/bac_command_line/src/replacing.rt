@@ -1,11 +1,10 @@
 //! Files that are written whole: a new file takes the place of the one at a path once all of it is on the disk.
-use std::fs;
 use std::fs::{FileType, OpenOptions};
 use std::hash::{BuildHasher, RandomState};
-use std::io;
 use std::io::{ErrorKind, Write};
 use std::os::unix::fs::{FileTypeExt, OpenOptionsExt};
 use std::path::Path;
+use std::{fs, io};
 
 /// The mode of a file that is written: only its owner may read and write it.
 const PRIVATE: u32 = 0o600;

@@ -93,9 +93,15 @@ pub(crate) enum Task<'m, 'a> {
         path: &'a str,
     },
     /// What the file at this path keeps.
-    Keep { path: &'a str, loss: Loss },
+    Keep {
+        path: &'a str,
+        loss: Loss,
+    },
     /// The same as objects of JSON.
-    KeepJson { path: &'a str, loss: Loss },
+    KeepJson {
+        path: &'a str,
+        loss: Loss,
+    },
     /// That the file at a path forgets something.
     Forget(Forgetting<'a>),
     /// The request that some words are.
