@@ -7,8 +7,11 @@
 //!   the file has all of it.
 //! - The *gate* of a frame, its first octet of salt, is another than the header's until all frames of its commit are there, or the room for them.
 //! - Behind the last commit there is room for a gate, and at most one commit that a power cut tore.
-ghost use Rattle.sqlite_wal.specs.Reads.{OnlyReads};
-ghost use Rattle.std.specs.Prelude.{IsTrue};
+ghost use Rattle.sqlite_wal.specs.Format.{be32};
+ghost use Rattle.sqlite_wal.specs.Reads.{AreClean, IsClean, OnlyReads};
+ghost use Rattle.std.specs.Prelude.{◌≡◌, ◌≤◌, length, true, IfOk, IsSome, IsTrue, MatchOption, OnOk};
+ghost use Rattle.bac_keep_file.specs.Lost.{HasLostLog, IsMarked};
+ghost use Rattle.bac_keep_file.specs.declared.whole.Loss.TheVariants as loss_of;
 
 use crate::fault::OpenFault;
 use sqlite_disk::{Disk, Files};
@@ -50,8 +53,13 @@ pub enum Loss {
 }
 
 /// Four octets as a number.
-fn number_in(octets: [u8; 4]) -> u32 {
-    u32::from_be_bytes(octets)
+fn number_in(octets: [u8; 4]) -> u32
+    ensures { result ≡ be32 octets 0 }
+{
+    octets[0] as u32 * 0x100_0000
+        + octets[1] as u32 * 0x1_0000
+        + octets[2] as u32 * 0x100
+        + octets[3] as u32
 }
 
 /// What the header of a database file says.
@@ -66,7 +74,8 @@ struct FileHeader {
 /// The header of a database file; None if the file is shorter than that.
 fn file_header<D: Disk>(db: &mut D) -> io::Result<Option<FileHeader>>
     requires { IsTrue (D.Disk.is_usable db.old) }
-    ensures { OnlyReads D.Disk db.old db.new }
+    ensures reads { OnlyReads D.Disk db.old db.new }
+    ensures marked { IfOk result (λ h. IsClean D.Disk db.new → IsMarked (D.Disk.seen db.old) → MatchOption h ⊥ (λ header. header.is_marked ≡ true)) }
 {
     if db.len()? < FILE_HEADER {
         return Ok(None);
@@ -143,7 +152,8 @@ impl LogHeader {
 /// The header of a log; None if the log is shorter than an empty one.
 fn log_header<D: Disk>(log: &mut D) -> io::Result<Option<LogHeader>>
     requires { IsTrue (D.Disk.is_usable log.old) }
-    ensures { OnlyReads D.Disk log.old log.new }
+    ensures reads { OnlyReads D.Disk log.old log.new }
+    ensures long { IfOk result (λ h. IsClean D.Disk log.new → IsSome h → 41 ≤ length (D.Disk.seen log.old)) }
 {
     if log.len()? < EMPTY {
         return Ok(None);
@@ -412,6 +422,7 @@ fn check_log<D: Disk>(
     requires db { IsTrue (D.Disk.is_usable files.old.db) }
     ensures log { OnlyReads D.Disk files.old.log files.new.log }
     ensures db { OnlyReads D.Disk files.old.db files.new.db }
+    ensures long { OnOk result (IsClean D.Disk files.new.log → 41 ≤ length (D.Disk.seen files.old.log)) }
 {
     let Some(page_size) = page_size else {
         return Err(OpenFault::Damaged);
@@ -462,6 +473,7 @@ pub(crate) fn check_files<D: Disk>(
     requires db { IsTrue (D.Disk.is_usable files.old.db) }
     ensures log { OnlyReads D.Disk files.old.log files.new.log }
     ensures db { OnlyReads D.Disk files.old.db files.new.db }
+    ensures lost { OnOk result (loss ≡ loss_of.Refused → AreClean D.Disk files.new.log files.new.db → ¬ HasLostLog (D.Disk.seen files.old.log) (D.Disk.seen files.old.db)) }
 {
     if loss == Loss::Accepted {
         return Ok(());
