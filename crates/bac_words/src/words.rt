@@ -437,7 +437,7 @@ const SERVE: &[Word] = &[
         form: WordForm::Flag,
         need: Need::Never,
         against: &[],
-        help: "Lets no client reuse an invoke ID within 65 seconds: an equal request gets the stored response, any other is refused. --turns without --reuse implies it",
+        help: "Lets no client reuse an invoke ID within 65 seconds: an equal request gets the kept response, any other is refused. --turns without --reuse implies it",
     },
     Word {
         name: "reuse",
@@ -451,7 +451,7 @@ const SERVE: &[Word] = &[
         form: WordForm::Number("S", 65),
         need: Need::Never,
         against: &["strict"],
-        help: "An equal write gets the stored response for S seconds, 1 to 65, and is then performed again: for clients that use one invoke ID for all requests. 65 by default; with --turns it requires --reuse",
+        help: "An equal write gets the kept response for S seconds, 1 to 65, and is then performed again: for clients that use one invoke ID for all requests. 65 by default; with --turns it requires --reuse",
     },
     Word {
         name: "memory",
@@ -472,7 +472,7 @@ const SERVE: &[Word] = &[
         form: WordForm::Text("FILE"),
         need: Need::Never,
         against: &[],
-        help: "Saves each write in FILE, a database, before the response; a server started with FILE again has the saved values, and starts as with --restarted",
+        help: "Keeps each write in FILE, a database, before the response; a server started with FILE again has the kept values, and starts as with --restarted",
     },
     Word {
         name: "log",
@@ -540,14 +540,14 @@ const KEEP: &[Word] = &[
         form: WordForm::Text("T:I"),
         need: Need::Never,
         against: &[],
-        help: "Deletes what is saved for an object, by type and instance, each by number or name, and prints only that: a server started with FILE again has the values of its document",
+        help: "Forgets the kept values of an object, by type and instance, each by number or name, and prints only those: a server started with FILE again has the values of its document",
     },
     Word {
         name: "P",
         form: WordForm::Bare,
         need: Need::Beside("forget"),
         against: &[],
-        help: "The property to forget, by number or name; without it --forget deletes everything saved for the object, including its file",
+        help: "The property to forget, by number or name; without it --forget forgets everything kept of the object, including its file",
     },
     Word {
         name: "json",
@@ -737,7 +737,7 @@ pub(crate) const SERVING: &[Grammar] = &[
     },
     Grammar {
         name: "keep",
-        about: "Prints what a server has saved in a file, one property or file per line",
+        about: "Prints what a server keeps in a file, one property or file per line",
         after: KEEP_EXAMPLES,
         words: KEEP,
     },
