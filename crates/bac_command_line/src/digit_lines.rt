@@ -91,7 +91,7 @@ fn print_bad_line<E: Write>(number: u64, line: &[u8], hint: &str, err: &mut E) -
         Some((column, character)) => {
             writeln!(
                 err,
-                "line {number}, column {column}: '{character}' does not fit{hint}"
+                "line {number}, column {column}: unexpected '{character}'{hint}"
             )
         }
         None => {

@@ -37,17 +37,17 @@ fn write_news<O: Write>(news: &FileNews<'_>, out: &mut O) -> io::Result<()> {
         FileNews::Restored(count) => write!(out, "{count} octets restored"),
         FileNews::Longer(count, there) => write!(
             out,
-            "stays longer: {there} octets, of which the first {count} were put"
+            "remains longer: {there} octets, of which the first {count} were written"
         ),
         FileNews::Differs(count, there) => {
-            write!(out, "differs: {count} octets put, {there} there")
+            write!(out, "differs: wrote {count} octets, read back {there}")
         }
-        FileNews::Damaged(name) => write!(out, "{name} does not have the octets of the manifest"),
+        FileNews::Damaged(name) => write!(out, "{name} does not match the manifest"),
         FileNews::NotRead(count, _) => {
-            write!(out, "not read to its end, after {count} octets: ")
+            write!(out, "read stopped after {count} octets: ")
         }
         FileNews::NotPut(written, count, _) => {
-            write!(out, "{written} of {count} octets were put: ")
+            write!(out, "{written} of {count} octets were written: ")
         }
     }
 }

@@ -169,7 +169,7 @@ pub(crate) struct ScriptFile<'a> {
 
 /// What is told of a file with bad lines, of which the first, as many as were read at once, are none of a capture.
 const NO_CAPTURE: &str =
-    "begins as no capture: pcap, pcapng or lines `moment from to hex` wanted; see bac help check";
+    "not a capture: expected pcap, pcapng or lines `moment from to hex`; see bac help check";
 
 /// Whether octets are lines, and none of them one of a capture. The last one does not count where its end may be behind the octets.
 fn are_no_capture(alloc: Global, octets: &[u8]) -> bool {

@@ -79,7 +79,7 @@ impl<F: OpenFiles> Folder<'_, F> {
     {
         let error = io::Error::new(
             ErrorKind::InvalidData,
-            "it has other octets than were written",
+            "its octets differ from those written",
         );
         match self.unfinished_path(name, err) {
             Ok(path) => print_unwritten(&path, &error, err),

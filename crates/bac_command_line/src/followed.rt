@@ -108,7 +108,7 @@ fn print_unfit<E: Write>(alloc: Global, path: &str, fault: FollowFault, err: &mu
                 _ => "",
             };
             if let Ok(why) = format!(in alloc;
-                "{fault}{served}: not followed, start the server again"
+                "{fault}{served}: not followed; restart the server"
             ) {
                 let _ = print_about(alloc, path, object, property, &why, err);
             }
@@ -116,12 +116,12 @@ fn print_unfit<E: Write>(alloc: Global, path: &str, fault: FollowFault, err: &mu
         FollowFault::Other {
             object: Some(object),
         } => {
-            if let Ok(why) = format!(in alloc; "{fault}: not followed, start the server again") {
+            if let Ok(why) = format!(in alloc; "{fault}: not followed; restart the server") {
                 let _ = print_about(alloc, path, object, None, &why, err);
             }
         }
         fault => {
-            let _ = writeln!(err, "{path}: {fault}: not followed, start the server again");
+            let _ = writeln!(err, "{path}: {fault}: not followed; restart the server");
         }
     }
 }

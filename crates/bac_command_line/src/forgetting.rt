@@ -106,7 +106,7 @@ fn print_nothing_kept<E: Write>(
 {
     let Selection { object, property } = selection;
     // if that fails too, only the status is left
-    let _ = print_about(alloc, path, object, property, "nothing is kept of it", err);
+    let _ = print_about(alloc, path, object, property, "nothing of it is kept", err);
     Status::CommandLine
 }
 

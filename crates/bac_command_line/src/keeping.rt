@@ -41,7 +41,7 @@ fn loss_of(fault: OpenFault) -> Option<(&'static str, &'static str)> {
         OpenFault::LogMissing => Some(("-wal", "is missing or empty")),
         OpenFault::LogCut => Some(("-wal", "is cut off")),
         OpenFault::LogDamaged => Some(("-wal", "is damaged")),
-        OpenFault::FileMissing => Some(("", "is missing or empty, and its -wal is there")),
+        OpenFault::FileMissing => Some(("", "is missing or empty, but its -wal exists")),
         _ => None,
     }
 }
@@ -51,7 +51,7 @@ fn print_unopened<E: Write>(path: &str, fault: OpenFault, err: &mut E) {
     // if that fails too, only the status is left
     let _ = match loss_of(fault) {
         Some((end, what)) => {
-            let hint = "what was kept last may be lost; to go on with what is left";
+            let hint = "the latest writes may be lost; to continue with what is left";
             writeln!(
                 err,
                 "{path}{end} {what}: {hint}, run: bac keep {path} --accept-loss"
@@ -136,7 +136,7 @@ fn print_idle<E: Write>(alloc: Global, path: &str, idle: &[Part], err: &mut E) {
             path,
             object,
             property,
-            "kept, and not writable in the document",
+            "kept, but not writable in the document",
             err,
         );
     }

@@ -25,6 +25,6 @@ pub(crate) fn print_overdue<E: Write>(round: u64, late: u64, err: &mut E) {
     // if that fails too, nothing is printed
     let _ = writeln!(
         err,
-        "round {next} is {late} ms late already, and round {round} goes on"
+        "round {next} is already {late} ms late, and round {round} is not finished"
     );
 }

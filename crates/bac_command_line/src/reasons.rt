@@ -96,7 +96,7 @@ pub(crate) fn print_no_whole_file<E: Write>(err: &mut E) -> Status
 {
     let status = complain(err, "bad words", Status::CommandLine);
     // if that fails too, only the status is left
-    let _ = err.writeln("--out takes a whole file: `get T:I` wanted");
+    let _ = err.writeln("--out requires a whole file: `get T:I`");
     status
 }
 
@@ -107,7 +107,7 @@ pub(crate) fn print_bad_manifest<E: Write>(folder: &str, number: usize, err: &mu
     // if that fails too, only the status is left
     let _ = writeln!(
         err,
-        "{folder}/manifest: line {number}: a digest, a length and the name of a file, as file-1.bin, wanted"
+        "{folder}/manifest: line {number}: expected a digest, a length and a file name such as file-1.bin"
     );
     Status::CommandLine
 }
@@ -155,7 +155,7 @@ pub(crate) fn print_document_fault<E: Write>(
 
 /// What is wanted of a server in place of all addresses of its machine: it can't send from the one that a request came to.
 const ONE_HOST: &str =
-    "single address: answers might leave from another one than was asked; give the address that clients ask";
+    "a single address: responses might come from an address that no client asked; give the one that clients ask";
 
 /// The text behind `--at` that is no address of a server, and what is wanted.
 fn bad_host<'a>(given: &ArgMatches<'a>) -> Option<(&'a str, &'static str)> {
@@ -173,7 +173,7 @@ fn bad_host<'a>(given: &ArgMatches<'a>) -> Option<(&'a str, &'static str)> {
 }
 
 /// What is wanted in place of an address of a group of hosts, or of all hosts.
-const NODE_HOST: &str = "address of a node";
+const NODE_HOST: &str = "the address of a node";
 
 /// What is wanted in place of a text that is no address of a node.
 fn wanted_of_link(text: &str) -> &'static str {
@@ -193,7 +193,7 @@ fn bad_node<'a>(given: &ArgMatches<'a>) -> Option<(&'a str, &'static str)> {
     let route = given.get_str("route")?;
     match read_route(route) {
         Some(_) => None,
-        None => Some((route, "NET:MAC, as 5:2A")),
+        None => Some((route, "NET:MAC, such as 5:2A")),
     }
 }
 
@@ -213,7 +213,7 @@ fn print_bad_address<E: Write>(bad: Option<(&str, &'static str)>, err: &mut E) -
     let status = complain(err, "bad address", Status::CommandLine);
     if let Some((text, wanted)) = bad {
         // if that fails too, only the status is left
-        let _ = writeln!(err, "\"{text}\" is no {wanted}");
+        let _ = writeln!(err, "\"{text}\" is not {wanted}");
     }
     status
 }
@@ -225,14 +225,14 @@ fn print_no_serving<E: Write>(given: &ArgMatches<'_>, err: &mut E) -> Status
     if remembers_in_vain(given) {
         let status = complain(err, "bad remember", Status::CommandLine);
         // if that fails too, only the status is left
-        let _ = err.writeln("--remember with --turns wants --reuse");
+        let _ = err.writeln("--remember with --turns requires --reuse");
         return status;
     }
     match given.get_str("memory") {
         Some(text) if read_memory(text).is_none() => {
             let status = complain(err, "bad memory", Status::CommandLine);
             // if that fails too, only the status is left
-            let _ = writeln!(err, "\"{text}\" is no OCTETS, as 65540, 512K or 64M");
+            let _ = writeln!(err, "\"{text}\" is invalid: expected 65540 to 1099511627776 octets, such as 512K or 64M");
             status
         }
         _ => print_bad_address(bad_host(given), err),
@@ -246,7 +246,7 @@ fn print_bad_form<E: Write>(form: Option<&str>, err: &mut E) -> Status
     let status = complain(err, "bad form", Status::CommandLine);
     if let Some(form) = form {
         // if that fails too, only the status is left
-        let _ = writeln!(err, "\"{form}\" is no form: {FORM_NAMES} wanted");
+        let _ = writeln!(err, "\"{form}\" is invalid: expected {FORM_NAMES}");
     }
     status
 }
@@ -298,9 +298,9 @@ impl Digits {
     /// What is wanted of digits that are good one by one.
     pub(crate) fn wanted(self) -> &'static str {
         match self {
-            Digits::Alone => "the digits are no whole octets: an even number of them wanted",
+            Digits::Alone => "the digits do not form whole octets: expected an even number of them",
             Digits::Grouped =>
-                "a group of digits is no whole octets: an even number of them wanted",
+                "a group of digits does not form whole octets: expected an even number of them",
         }
     }
 }
@@ -327,7 +327,7 @@ pub(crate) fn print_bad_digit<E: Write>(status: Status, text: &str, digits: Digi
         Some((place, character)) => {
             writeln!(
                 err,
-                "character {place}: '{character}' is no hexadecimal digit"
+                "character {place}: '{character}' is not a hexadecimal digit"
             )
         }
         None => err.writeln(digits.wanted()),

@@ -86,7 +86,7 @@ fn is_link(rt: &HostRuntime, path: &str) -> bool {
 /// the path is refused, and what it leads to is as it was.
 pub(crate) fn replace(rt: &HostRuntime, path: &str, octets: &[u8]) -> io::Result<()> {
     if is_link(rt, path) {
-        return Err(bad_name("a link; the name of a file wanted"));
+        return Err(bad_name("a link; give the name of a file"));
     }
     let name = name_beside(rt, path)?;
     let written = match write_new(rt, &name, octets) {
@@ -117,7 +117,7 @@ fn leads_to_stream(rt: &HostRuntime, path: &str) -> bool {
 fn write_through(rt: &HostRuntime, path: &str, octets: &[u8]) -> io::Result<()> {
     let mut stream = OpenOptions::new().write(true).open(rt, path)?;
     if !is_stream(stream.metadata()?.file_type()) {
-        return Err(bad_name("no pipe and no terminal any more"));
+        return Err(bad_name("no longer a pipe or a terminal"));
     }
     stream.write_all(octets)?;
     stream.flush()

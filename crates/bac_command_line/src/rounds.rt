@@ -86,7 +86,7 @@ fn print_going_on<E: Write>(
     err: &mut E,
 ) -> io::Result<()> {
     let mut line = object_text(alloc, file)?;
-    let said = format!(in alloc; ": not read to its end, after {count} octets\n")?;
+    let said = format!(in alloc; ": read stopped after {count} octets\n")?;
     line.extend_from_slice(said.as_bytes())?;
     err.write_all(&line)
 }

@@ -83,7 +83,7 @@ pub(crate) fn print_bad_pace<E: Write>(text: &str, err: &mut E) {
         Err(_) if text.contains('.') => {
             write!(
                 err,
-                "a number of seconds wanted, 0.001 to {MOST}, with at most three digits behind the point"
+                "expected a number of seconds from 0.001 to {MOST}, with at most three decimal places"
             )
         }
         Err(error) => write!(err, "{error}"),

@@ -110,9 +110,9 @@ fn print_stopped<M: Machine, O: Write, E: Write>(
     let _ = match got.fault {
         Some(fault) => writeln!(
             err,
-            "{object}: not read to its end, after {count} octets: {fault}"
+            "{object}: read stopped after {count} octets: {fault}"
         ),
-        None => writeln!(err, "{object}: not read to its end, after {count} octets"),
+        None => writeln!(err, "{object}: read stopped after {count} octets"),
     };
     Ok(false)
 }
@@ -163,7 +163,7 @@ fn print_put<M: Machine, O: Write, E: Write>(
     if !put.is_whole {
         let written = put.count;
         // if that fails too, only the status is left
-        let _ = writeln!(err, "{object}: {written} of {count} octets were put");
+        let _ = writeln!(err, "{object}: {written} of {count} octets were written");
     }
     Ok(put.is_whole)
 }
@@ -184,7 +184,7 @@ fn print_longer<M: Machine, E: Write>(
             // if that fails too, only the status is left
             let _ = writeln!(
                 err,
-                "{object} stays longer: {size} octets, of which the first {count} were put"
+                "{object} remains longer: {size} octets, of which the first {count} were written"
             );
             Ok(())
         }
