@@ -28,7 +28,7 @@ WRITES = 60
 LONGEST = 200  # octets of a text
 MANY = 400  # writes after which the log is still short
 LOG_MOST = 1 << 20
-REFUSED = ('is missing or empty', 'is cut off', 'is damaged', 'no database, or a damaged one', 'a database of something else')
+REFUSED = ('is missing or empty', 'is cut off', 'is damaged', 'not a database, or a damaged one', 'a database of another program')
 SECONDS = 120
 WORKERS = 4
 
