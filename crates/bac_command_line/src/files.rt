@@ -126,10 +126,10 @@ pub(crate) fn digits_of<F: OpenFiles, E: Write>(
 }
 
 /// What `explain` takes, and what charts take.
-pub(crate) const CAPTURES_TAKEN: &str = "explain reads pcap and pcapng";
+pub(crate) const CAPTURES_TAKEN: &str = "explain reads only pcap and pcapng";
 
 const CHARTS_TAKEN: &str =
-    "explain reads pcap and pcapng, and draws more than 16 peers with --pairs";
+    "explain reads only pcap and pcapng; with --pairs it draws more than 16 peers";
 
 /// What is told of a script that is not run.
 const NOTHING_HAPPENED: &str = "no event happened";
