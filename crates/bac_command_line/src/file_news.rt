@@ -43,9 +43,7 @@ fn write_news<O: Write>(news: &FileNews<'_>, out: &mut O) -> io::Result<()> {
             write!(out, "differs: wrote {count} octets, read back {there}")
         }
         FileNews::Damaged(name) => write!(out, "{name} does not match the manifest"),
-        FileNews::NotRead(count, _) => {
-            write!(out, "read stopped after {count} octets: ")
-        }
+        FileNews::NotRead(count, _) => { write!(out, "read stopped after {count} octets: ") }
         FileNews::NotPut(written, count, _) => {
             write!(out, "{written} of {count} octets were written: ")
         }

@@ -68,7 +68,8 @@ fn files_in(
 }
 
 /// What stands behind how the ask for the list ended, where it was answered.
-const ADVICE: &[u8] = b"--device N reads the list of device N; arguments such as file:1 name files\n";
+const ADVICE: &[u8] =
+    b"--device N reads the list of device N; arguments such as file:1 name files\n";
 
 /// The files that a peer lists, in the object-list of the device with this instance. None where it does not answer with that: `err` says how the ask ended.
 pub(crate) fn listed_files<M: Machine, E: Write>(

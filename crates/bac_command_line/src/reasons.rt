@@ -232,7 +232,10 @@ fn print_no_serving<E: Write>(given: &ArgMatches<'_>, err: &mut E) -> Status
         Some(text) if read_memory(text).is_none() => {
             let status = complain(err, "bad memory", Status::CommandLine);
             // if that fails too, only the status is left
-            let _ = writeln!(err, "\"{text}\" is invalid: expected 65540 to 1099511627776 octets, such as 512K or 64M");
+            let _ = writeln!(
+                err,
+                "\"{text}\" is invalid: expected 65540 to 1099511627776 octets, such as 512K or 64M"
+            );
             status
         }
         _ => print_bad_address(bad_host(given), err),

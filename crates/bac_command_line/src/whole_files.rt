@@ -108,10 +108,7 @@ fn print_stopped<M: Machine, O: Write, E: Write>(
     let count = got.octets.len();
     // if that fails too, only the status is left
     let _ = match got.fault {
-        Some(fault) => writeln!(
-            err,
-            "{object}: read stopped after {count} octets: {fault}"
-        ),
+        Some(fault) => writeln!(err, "{object}: read stopped after {count} octets: {fault}"),
         None => writeln!(err, "{object}: read stopped after {count} octets"),
     };
     Ok(false)

@@ -187,7 +187,10 @@ pub(crate) fn print_bad_name<E: Write>(
 fn print_no_name<E: Write>(place: LinePlace<'_>, word: &[u8], err: &mut E) -> io::Result<()> {
     write!(err, "{place}bad name: \"")?;
     err.write_all(word)?;
-    writeln!(err, "\" is invalid: expected letters, digits, `_`, `-` and `.` before the colon")
+    writeln!(
+        err,
+        "\" is invalid: expected letters, digits, `_`, `-` and `.` before the colon"
+    )
 }
 
 /// Complains of the line with that number, which is asked of no peer: its first word is none, or it names none.

@@ -23,7 +23,8 @@ fn form_of(kind: &[u8]) -> Option<&'static str> {
         b"real" => "expected a number, such as real:72.5",
         b"double" => "expected a number, such as double:72.5",
         b"real-octets" => "expected 4 octets in hexadecimal, such as real-octets:7FC00000",
-        b"double-octets" => "expected 8 octets in hexadecimal, such as double-octets:7FF8000000000000",
+        b"double-octets" =>
+            "expected 8 octets in hexadecimal, such as double-octets:7FF8000000000000",
         b"octets" => "expected octets in hexadecimal, such as octets:0AFF",
         b"text" => "expected UTF-8, with %25 for a percent sign, such as text:Room%201",
         b"characters" => "expected a set and octets in hexadecimal, such as characters:4:0041",

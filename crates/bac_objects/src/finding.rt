@@ -85,7 +85,7 @@ impl fmt::Display for Wrong {
                 key,
                 near: Some(near),
             } if key.as_str() == *near => {
-                write!(f, "key \"{key}\" requires described = true before the objects")
+                write!(f, "key \"{key}\" requires described = true at the top")
             }
             Wrong::UnknownKey {
                 key,

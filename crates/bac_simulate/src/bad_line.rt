@@ -79,7 +79,12 @@ fn clock_text(alloc: Global, start: &[u8]) -> Result<Option<Vec<u8>>, AllocError
             let late = Vec::from_slice(alloc, b"`clock` must come before the first event")?;
             Ok(Some(late))
         }
-        None => Ok(Some(word_text(alloc, "start", start, "is not a number from 0 to 4294967295")?)),
+        None => Ok(Some(word_text(
+            alloc,
+            "start",
+            start,
+            "is not a number from 0 to 4294967295",
+        )?)),
     }
 }
 
