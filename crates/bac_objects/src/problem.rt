@@ -133,7 +133,7 @@ impl Wanted {
             Wanted::OwnProperty => "each property once",
             Wanted::Value => "table with a value",
             Wanted::OneValue => "one KIND = VALUE",
-            Wanted::LimitedValue => "one KIND = VALUE, with writable, min and max, or one-of",
+            Wanted::LimitedValue => "one KIND = VALUE, with at most writable, min and max, or one-of",
             Wanted::Limits => "min and max, or one-of",
             Wanted::List => "list of values",
             Wanted::Mark => "writable = true or false",

@@ -91,7 +91,7 @@ const BACKUPS: &[Grammar] = &[
     },
     Grammar {
         name: "restore",
-        about: "Writes files that `bac backup` saved back to a device, reads them again, and compares their digests",
+        about: "Restores files that `bac backup` saved, reads them back from the device, and compares their digests",
         after: "Example: bac restore --port 47808 --folder saved\nExample: bac restore --to 192.168.1.20 --folder saved",
         words: RESTORE,
     },

@@ -540,7 +540,7 @@ const KEEP: &[Word] = &[
         form: WordForm::Text("T:I"),
         need: Need::Never,
         against: &[],
-        help: "Forgets the kept values of an object, by type and instance, each by number or name, and prints only those: a server started with FILE again has the values of its document",
+        help: "Forgets what is kept of an object, by type and instance, each by number or name, and prints only that: a server started with FILE again has the values of its document",
     },
     Word {
         name: "P",
