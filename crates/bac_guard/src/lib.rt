@@ -1,0 +1,7 @@
+//! Which sources a node hears, and how much it sends to one address.
+#![tactic(auto)]
+
+mod bucket;
+mod laws;
+
+pub use laws::what_is_sent_is_bounded;
