@@ -2,6 +2,8 @@
 #![tactic(auto)]
 
 mod bucket;
+mod budget;
 mod laws;
 
+pub use budget::Budget;
 pub use laws::what_is_sent_is_bounded;
