@@ -6,4 +6,4 @@ mod budget;
 mod laws;
 
 pub use budget::Budget;
-pub use laws::what_is_sent_is_bounded;
+pub use laws::{what_an_address_is_sent_is_bounded, what_is_sent_is_bounded};
