@@ -58,12 +58,12 @@ module _ (host : ℕ) where
       let same = eqb-true (place_of t.key x.host) (place_of t.key host) e in
       let others = subst (λ (b : Bucket). more ≤ sent_over t.rate rest b) (same_place t x (place_of t.key host) long same) again in
       let one = subst
-          (λ (p : ℕ). (if nat_eq x.host host then sent_in t.rate x.event (bucket_of t x.host) else 0) ≤ sent_in t.rate x.event (bucket_at t p)) same
-          (no_more (nat_eq x.host host) (sent_in t.rate x.event (bucket_of t x.host))) in
+      (λ (p : ℕ). (if nat_eq x.host host then sent_in t.rate x.event (bucket_of t x.host) else 0) ≤ sent_in t.rate x.event (bucket_at t p)) same
+      (no_more (nat_eq x.host host) (sent_in t.rate x.event (bucket_of t x.host))) in
       omega (arith, others, one)
   one_more x t rest long more again false e =
       let others = subst (λ (b : Bucket). more ≤ sent_over t.rate rest b)
-          (other_place t x (place_of t.key host) (eqb-false (place_of t.key x.host) (place_of t.key host) e)) again in
+      (other_place t x (place_of t.key host) (eqb-false (place_of t.key x.host) (place_of t.key host) e)) again in
       let none = none_sent (nat_eq x.host host) (sent_in t.rate x.event (bucket_of t x.host)) (apart t x e) in
       omega (arith, others, none)
 

@@ -1,7 +1,6 @@
 -- How much each address is sent: a table of buckets. Which bucket an address has depends on a key that others do not know; addresses that have the same one
 -- share it.
 use Rattle.std.specs.Prelude.{◌≡◌, ℕ, ◌+◌, ◌*◌, ◌/◌, ◌%◌, ◌^◌, ◌≤◌, nat_eq, Bool, List, [], ◌∷◌, replicate, slice_index_or, slice_set, if◌then◌else◌}
-use Rattle.std.specs.Int.{w32, from_be_bytes}
 use Rattle.bac_guard.specs.declared.bucket.Bucket.{Bucket}
 use Rattle.bac_guard.specs.Buckets.{BURST, Event, after, came_over, elapsed, filled, fits, fresh, sent_in}
 
@@ -14,10 +13,6 @@ pub record Table : Type 0 where
   pub key : ℕ
   pub rate : ℕ
   pub buckets : List Bucket
-
--- an IPv4 address as a number
-abbrev pub number_of : (host : List ℕ) → ℕ
-number_of host = from_be_bytes w32 host
 
 -- which bucket an address has: the upper ten bits of a product of 64 bits
 abbrev pub place_of : (key host : ℕ) → ℕ

@@ -2,7 +2,8 @@
 ghost use Rattle.std.specs.Prelude.{◌≡◌, ◌<◌, IfOk};
 ghost use Rattle.bac_guard.specs.Buckets.{Event};
 ghost use Rattle.bac_guard.specs.Buckets.Event.{Came, Goes};
-ghost use Rattle.bac_guard.specs.Budgets.{PLACES, fits_at, new_table, number_of, place_of, table_after, traffic};
+ghost use Rattle.bac_guard.specs.Addresses.{number_of};
+ghost use Rattle.bac_guard.specs.Budgets.{PLACES, fits_at, new_table, place_of, table_after, traffic};
 
 use crate::bucket::Bucket;
 use std::alloc::{AllocError, Global};
