@@ -1,6 +1,7 @@
 -- Blocks of addresses as text: `any`, or blocks with a comma between each two, as `10.0.0.0/8,192.168.1.7`.
 use Rattle.std.specs.Prelude.{◌≡◌, ◌≢◌, ℕ, ◌+◌, ◌-◌, ◌*◌, ◌%◌, ◌^◌, ◌<◌, ◌≤◌, ◌&&◌, ◌⊎◌, nat_eq, nat_le, nat_lt, Bool, List, [], ◌∷◌, length, codes, slice_get, Option, Some, None, if◌then◌else◌}
 use Rattle.std.specs.List.{before_first, after_first, position_or_len, slice_split}
+use Rattle.std.specs.Bool.{MatchBool}
 use Rattle.std.specs.Str.{bytes_eq}
 use Rattle.std.specs.Net.Addr.{ipv4_bits}
 use Rattle.std.specs.Net.Grammar.{IsIpv4Text}
@@ -104,7 +105,7 @@ pub record HasFlawAt (parts : List (List ℕ)) (place : ℕ) (f : BlockFlaw) : T
 
 -- the text is these blocks, of which there are few enough
 pub record AreFew (text : List ℕ) (blocks : List Block) : Type 0 where
-  pub blocks : AreBlocks (parts_of text) blocks
+  pub each : AreBlocks (parts_of text) blocks
   pub few : length blocks ≤ MOST
 
 abbrev pub IsRefused : (text : List ℕ) → SourcesFault → Type 0
@@ -113,9 +114,9 @@ IsRefused text fault.TooMany = MOST < length (parts_of text)
 
 -- ---- all of it
 
-abbrev pub WORD : List ℕ
-WORD = codes "any"
+abbrev pub ANY_TEXT : List ℕ
+ANY_TEXT = codes "any"
 
 -- the text says that these sources are heard; a word says that all are
 abbrev pub AreSources : (text : List ℕ) → (blocks : List Block) → Type 0
-AreSources text blocks = if bytes_eq text WORD then (blocks ≡ ANY) else AreFew text blocks
+AreSources text blocks = MatchBool (bytes_eq text ANY_TEXT) (blocks ≡ ANY) (AreFew text blocks)

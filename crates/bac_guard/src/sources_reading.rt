@@ -1,7 +1,8 @@
 //! Blocks of addresses as text: `any`, or blocks with a comma between each two, as `10.0.0.0/8,192.168.1.7`.
-ghost use Rattle.std.specs.Prelude.{◌≡◌, ◌∷◌, IfErr, IfOk};
+ghost use Rattle.std.specs.Prelude.{◌≡◌, ◌∷◌, false, IfErr, IfOk, OnErr};
+ghost use Rattle.std.specs.Str.{bytes_eq};
 ghost use Rattle.std.specs.Option.{option_map};
-ghost use Rattle.bac_guard.specs.Texts.{AreFew, AreSources, HasFlaw, IsBlock, IsRefused, address_text, at_most, bits_in, bits_of, is_digit, last_bits, one_digit, parts_in, parts_of, two_digits};
+ghost use Rattle.bac_guard.specs.Texts.{ANY_TEXT, AreFew, AreSources, HasFlaw, IsBlock, IsRefused, address_text, at_most, bits_in, bits_of, is_digit, last_bits, one_digit, parts_in, parts_of, two_digits};
 ghost use Rattle.bac_guard.specs.Views.{blocks_of};
 
 use crate::block::{BITS, Block};
@@ -134,6 +135,7 @@ fn read_blocks(text: &str) -> Result<Sources, SourcesFault>
 pub fn read_sources(text: &str) -> Result<Sources, SourcesFault>
     ensures read { IfOk result (λ s. AreSources text.now (blocks_of s)) }
     ensures refused { IfErr result (IsRefused text.now) }
+    ensures word { OnErr result (bytes_eq text.now ANY_TEXT ≡ false) }
 {
     if text == WORD {
         return Ok(Sources::any());
