@@ -1,9 +1,9 @@
 -- What is sent through a bucket is bounded.
-use Rattle.std.proofs.Common.{◌≡◌, ℕ, zero, ◌+◌, ◌-◌, ◌*◌, ◌≤◌, Bool, true, false, List, [], ◌∷◌, if◌then◌else◌, min, max, refl, ap, sym, subst, ◌∙◌, arith}
+use Rattle.std.proofs.Common.{◌≡◌, ℕ, ◌+◌, ◌-◌, ◌*◌, ◌≤◌, Bool, true, false, List, [], ◌∷◌, if◌then◌else◌, min, max, refl, ap, sym, subst, ◌∙◌, arith}
 use Rattle.std.proofs.Math.Nat.{mul-add}
 use Rattle.std.proofs.lemmas.Bool.{leb-true}
 use Rattle.bac_guard.specs.declared.bucket.Bucket.{Bucket}
-use Rattle.bac_guard.specs.Buckets.{BURST, FULL, MOST, fresh, filled, credited, fits, spent, Event, after, moment_of, came_in, sent_in, came_over, sent_over, latest, elapsed, IsBounded}
+use Rattle.bac_guard.specs.Buckets.{FULL, MOST, fresh, filled, fits, spent, Event, after, moment_of, came_in, sent_in, came_over, sent_over, latest, elapsed, IsBounded}
 
 -- ---- one event
 

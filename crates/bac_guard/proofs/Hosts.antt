@@ -1,10 +1,10 @@
 -- What an address is sent is bounded, since all of it goes through the address's bucket.
-use Rattle.std.proofs.Common.{◌≡◌, ℕ, zero, ◌+◌, ◌*◌, ◌/◌, ◌%◌, ◌^◌, ◌<◌, ◌≤◌, Bool, true, false, List, [], ◌∷◌, if◌then◌else◌, nat_eq, length, refl, ap, sym, subst, ◌∙◌, arith}
-use Rattle.std.proofs.lemmas.Bool.{eqb-true, eqb-false, eq-eqb}
+use Rattle.std.proofs.Common.{◌≡◌, ℕ, ◌+◌, ◌*◌, ◌/◌, ◌%◌, ◌^◌, ◌<◌, ◌≤◌, Bool, true, false, List, [], ◌∷◌, if◌then◌else◌, nat_eq, length, refl, ap, sym, subst, ◌∙◌, arith}
+use Rattle.std.proofs.lemmas.Bool.{eqb-true, eqb-false}
 use Rattle.std.proofs.lemmas.List.{get_or-set_same, get_or-set_other, length-set, length-replicate, get_or-replicate}
 use Rattle.bac_guard.specs.declared.bucket.Bucket.{Bucket}
 use Rattle.bac_guard.specs.Buckets.{Event, after, came_over, elapsed, fresh, sent_in, sent_over}
-use Rattle.bac_guard.specs.Budgets.{Table, Traffic, IsHostBounded, bucket_at, bucket_of, events_at, events_of, new_table, place_of, sent_to, table_after}
+use Rattle.bac_guard.specs.Budgets.{Table, Traffic, IsHostBounded, bucket_at, bucket_of, events_of, new_table, place_of, sent_to, table_after}
 use Rattle.bac_guard.proofs.Bounds.{fresh_bounded}
 
 pub place_within : (key host : ℕ) → place_of key host < 1024

@@ -1,6 +1,6 @@
 -- How much may be sent to the addresses of one bucket. What is left is counted in thousandths of an octet, so that a rate in octets a second fills it exactly by
 -- the millisecond.
-use Rattle.std.specs.Prelude.{ℕ, zero, ◌+◌, ◌-◌, ◌*◌, ◌^◌, ◌≤◌, min, max, nat_le, Bool, List, [], ◌∷◌, if◌then◌else◌}
+use Rattle.std.specs.Prelude.{ℕ, ◌+◌, ◌-◌, ◌*◌, ◌^◌, ◌≤◌, min, max, nat_le, Bool, List, [], ◌∷◌, if◌then◌else◌}
 use Rattle.bac_guard.specs.declared.bucket.Bucket.{Bucket}
 
 -- how many octets a full bucket has: 256 KiB

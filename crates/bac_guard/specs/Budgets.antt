@@ -1,6 +1,6 @@
 -- How much each address is sent: a table of buckets. Which bucket an address has depends on a key that others do not know; addresses that have the same one
 -- share it.
-use Rattle.std.specs.Prelude.{◌≡◌, ℕ, ◌+◌, ◌*◌, ◌/◌, ◌%◌, ◌^◌, ◌≤◌, nat_eq, Bool, List, [], ◌∷◌, replicate, slice_index_or, slice_set, if◌then◌else◌}
+use Rattle.std.specs.Prelude.{ℕ, ◌+◌, ◌*◌, ◌/◌, ◌%◌, ◌^◌, ◌≤◌, nat_eq, Bool, List, [], ◌∷◌, replicate, slice_index_or, slice_set, if◌then◌else◌}
 use Rattle.bac_guard.specs.declared.bucket.Bucket.{Bucket}
 use Rattle.bac_guard.specs.Buckets.{BURST, Event, after, came_over, elapsed, filled, fits, fresh, sent_in}
 

@@ -1,5 +1,5 @@
 -- Each part is a block, or the first one that is none is told.
-use Rattle.std.proofs.Common.{◌∙◌, ◌∷◌, List, ℕ, Option, ap, rules, arith}
+use Rattle.std.proofs.Common.{◌∙◌, ◌∷◌, ap, rules, arith}
 use Rattle.std.specs.Option.{option_map}
 use Rattle.bac_guard.specs.Texts.{parts_in}
 use Rattle.bac_guard.proofs.Parts.{all_read, flaw_at, read_one, too_many}
