@@ -5,3 +5,5 @@ pub mod Views
 pub mod Texts
 pub mod Buckets
 pub mod Budgets
+pub mod Meters
+pub mod Guards

@@ -1,5 +1,5 @@
 //! The two parts of an address of a link, and which of them are no source.
-ghost use Rattle.std.specs.Prelude.{◌≡◌};
+ghost use Rattle.std.specs.Prelude.{◌≡◌, take};
 ghost use Rattle.bac_guard.specs.Addresses.{host_of, port_of};
 ghost use Rattle.bac_guard.specs.Sources.{is_barred, is_loopback};
 
@@ -13,6 +13,14 @@ const GROUP: u64 = 14;
 
 /// The first eight bits of an address of the loopback.
 const LOOPBACK: u64 = 127;
+
+/// The IPv4 address of a link.
+pub(crate) fn host_in(link: [u8; 6]) -> [u8; 4]
+    ensures { result ≡ take 4 link }
+{
+    let [a, b, c, d, _, _] = link;
+    [a, b, c, d]
+}
 
 /// The IPv4 address of a link as a number.
 pub(crate) fn host_of(link: [u8; 6]) -> u32

@@ -6,12 +6,15 @@ mod block;
 mod bucket;
 mod budget;
 mod fault;
+mod guarded;
 mod laws;
+mod meter;
 mod sources;
 mod sources_reading;
 
 pub use budget::Budget;
 pub use fault::{BlockFlaw, SourcesFault};
+pub use guarded::Guarded;
 pub use laws::{what_an_address_is_sent_is_bounded, what_is_sent_is_bounded};
 pub use sources::Sources;
 pub use sources_reading::read_sources;
