@@ -1,8 +1,10 @@
 //! A link that hears only some sources, and sends each address only so much: [`Guarded`]. Programs put it over the link of a node; the methods and their
 //! contracts are the interface.
-ghost use Rattle.std.specs.Prelude.{◌≡◌, ◌≤◌, None, length, IfOk, IfSome};
-ghost use Rattle.bac_driver.specs.Calls.{IsCounted};
+ghost use Rattle.std.specs.Prelude.{◌≡◌, ◌≤◌, true, false, None, length, IfOk, IfSome};
+ghost use Rattle.bac_driver.specs.Calls.{IsCounted, one_more};
 ghost use Rattle.bac_guard.specs.Guards.{IsReceived, IsSent, guard_view, new_guard};
+ghost use Rattle.bac_guard.specs.Meters.{IsCredited, meter_view};
+ghost use Rattle.bac_guard.specs.Sources.{is_heard};
 ghost use Rattle.bac_guard.specs.Views.{blocks_of};
 
 use crate::budget::Budget;
@@ -46,6 +48,24 @@ impl<L: Link, C: Clock> Guarded<L, C> {
             unheard: 0,
             unsent: 0,
         }
+    }
+
+    /// Whether a datagram of so many octets from a link is heard. Then it counts, and otherwise it counts as not heard.
+    fn hears(&mut self, from: LinkAddress, octets: usize) -> bool
+        ensures heard { result ≡ is_heard (blocks_of self.old.sources) from }
+        ensures yes { result ≡ true → IsCredited from octets (meter_view C.told self.old.meter) (meter_view C.told self.new.meter)
+            × (self.new.unheard ≡ self.old.unheard) }
+        ensures no { result ≡ false → (self.new.meter ≡ self.old.meter) × (self.new.unheard ≡ one_more self.old.unheard) }
+        ensures link { self.new.link ≡ self.old.link }
+        ensures sources { self.new.sources ≡ self.old.sources }
+        ensures unsent { self.new.unsent ≡ self.old.unsent }
+    {
+        if !self.sources.hears(from) {
+            self.unheard = self.unheard.saturating_add(1);
+            return false;
+        }
+        self.meter.credit(from, octets);
+        true
     }
 
     /// How many datagrams came from sources that are not heard, at most 2^64 - 1.
@@ -94,14 +114,14 @@ impl<L: Link, C: Clock + Drop> Link for Guarded<L, C> {
         ensures counted { IsCounted result (L.failures self.old.link) (L.failures self.new.link) }
         ensures guarded { IsReceived wait buffer.new result (guard_view L.failures L.calls C.told self.old) (guard_view L.failures L.calls C.told self.new) }
     {
-        let Some((from, octets)) = self.link.recv(buffer, wait)? else {
+        let Some(datagram) = self.link.recv(buffer, wait)? else {
             return Ok(None);
         };
-        if !self.sources.hears(from) {
-            self.unheard = self.unheard.saturating_add(1);
-            return Ok(None);
+        let from = datagram.0;
+        if self.hears(from, datagram.1) {
+            Ok(Some(datagram))
+        } else {
+            Ok(None)
         }
-        self.meter.credit(from, octets);
-        Ok(Some((from, octets)))
     }
 }

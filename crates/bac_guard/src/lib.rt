@@ -11,6 +11,8 @@ mod laws;
 mod meter;
 mod sources;
 mod sources_reading;
+#[cfg(test)]
+mod tests;
 
 pub use budget::Budget;
 pub use fault::{BlockFlaw, SourcesFault};
