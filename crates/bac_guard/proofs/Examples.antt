@@ -36,14 +36,14 @@ parts : (parts_of (codes "a,b") ≡ codes "a" ∷ codes "b" ∷ []) × (parts_of
 parts = (refl, refl, refl)
 
 -- a full bucket of 256 KiB is sent at once, and then nothing; a second later 128 KiB more
-a_second : List Event
+abbrev a_second : List Event
 a_second = Goes 0 262144 ∷ Goes 0 1 ∷ Goes 1000 131072 ∷ Goes 1000 1 ∷ []
 
 filled_at_the_rate : (sent_over 131072 a_second (fresh 0) ≡ 393216) × (elapsed 0 a_second ≡ 1000)
 filled_at_the_rate = (refl, refl)
 
 -- three octets for each that came; a clock that goes back fills nothing
-three_for_one : List Event
+abbrev three_for_one : List Event
 three_for_one = Goes 5 262144 ∷ Came 5 100 ∷ Goes 4 301 ∷ Goes 3 300 ∷ Goes 5 1 ∷ []
 
 three_times : (sent_over 131072 three_for_one (fresh 5) ≡ 262444) × (came_over three_for_one ≡ 100) × (elapsed 5 three_for_one ≡ 0)
