@@ -1,5 +1,5 @@
 -- Worked examples of the definitions, checked by computing.
-use Rattle.std.proofs.Common.{◌≡◌, ℕ, Bool, true, false, List, [], ◌∷◌, Some, None, codes, refl}
+use Rattle.std.proofs.Common.{◌≡◌, ℕ, true, false, List, [], ◌∷◌, Some, None, codes, refl}
 use Rattle.bac_guard.specs.Sources.{ANY, LOCAL, is_heard, block, holds}
 use Rattle.bac_guard.specs.Texts.{bits_in, parts_of}
 use Rattle.bac_guard.specs.Buckets.{Event, came_over, elapsed, sent_over, fresh}

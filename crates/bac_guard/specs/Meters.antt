@@ -1,5 +1,5 @@
 -- What counts of what comes and goes: all, or all but what goes to the loopback and comes from there.
-use Rattle.std.specs.Prelude.{◌≡◌, ℕ, ◌&&◌, not, Bool, true, List, Option, Some, None, MatchOption, if◌then◌else◌}
+use Rattle.std.specs.Prelude.{◌≡◌, ℕ, ◌&&◌, Bool, true, List, Option, Some, None, MatchOption, if◌then◌else◌}
 use Rattle.bac_driver.specs.Moments.{Told, with_moment}
 use Rattle.bac_guard.specs.Addresses.{host_of}
 use Rattle.bac_guard.specs.Sources.{is_loopback}
