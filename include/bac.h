@@ -1,14 +1,15 @@
 /* bac.h: a proved BACnet/IP node (ReadProperty, WriteProperty, AtomicReadFile, AtomicWriteFile, with segmentation in both directions; ANSI/ASHRAE 135) inside
- * a program of your own. You keep the socket, the clock and the objects; the node answers and asks. docs/C.md explains the words, and leads to a first program.
+ * a program of your own. Your program owns the socket and the clock. The node has a copy of the objects; it answers requests, and sends its own. docs/C.md
+ * explains the words, and leads to a first program.
  *
- * Link libbac_c.a and a heap (examples/c/heap.c), or the archive of `make install`, which has one. C99 and C++, on x86-64 (of level x86-64-v2) and aarch64
- * Linux. The library has no target of 32 bits.
+ * Link libbac_c.a and a heap (examples/c/heap.c), or the archive of `make -C include install`, which has one. C99 and C++, on x86-64 (x86-64-v2 or later) and
+ * aarch64 Linux. The library has no target of 32 bits.
  *
  * Rules of every call
  * - A bac_node begins as BAC_NODE_EMPTY, is never copied, and its members are never touched. Used before bac_open, opened twice, used after bac_close or closed
- *   twice, it does no harm: a call with a status answers BAC_NOT_OPEN or BAC_ALREADY_OPEN, any other 0 or false (bac_next_due: UINT64_MAX).
+ *   twice, it does no harm: a call with a status returns BAC_NOT_OPEN or BAC_ALREADY_OPEN, any other 0 or false (bac_next_due: UINT64_MAX).
  * - After a status that is not BAC_OK the node is as it was, and no ticket or length is written to its place. After BAC_NO_MEMORY the same call may be made
- *   again: wait before that, as what was due stays due, and bac_next_due stays in the past. A datagram that is not heard is lost, and its sender repeats it.
+ *   again: wait before that, as what was due stays due, and bac_next_due stays in the past. A datagram that was refused so is lost, and its sender repeats it.
  * - A call whose node is const leaves the node as it was. Even so, no other call of that node may run beside it.
  * - Moments are milliseconds of one clock that never goes back, from any start.
  * - A link is four octets of IPv4 address and two of UDP port, the high one first, as sockaddr_in has them.
@@ -54,7 +55,7 @@ typedef struct bac_node {
 typedef enum bac_status {
     BAC_OK = 0,
     BAC_CLOCK_BACK = 1,       /* the moment is before the latest one that the node was told */
-    BAC_NO_MEMORY = 2,        /* memory was refused */
+    BAC_NO_MEMORY = 2,        /* memory was refused, by the heap or by the member memory of bac_settings */
     BAC_NOT_OPEN = 3,         /* not opened, or closed */
     BAC_NOT_STARTED = 4,      /* open, and not started */
     BAC_ALREADY_OPEN = 5,
@@ -66,8 +67,8 @@ typedef enum bac_status {
     BAC_SELF_PEER = 11,       /* the peer is at the node's own link */
     BAC_TOO_LONG = 12,        /* more octets than can be sent (65,535 of a request), or kept */
     BAC_NEEDS_SEGMENTS = 13,  /* the peer takes no segments, or fewer than are needed */
-    BAC_NO_INVOKE_ID = 14,    /* all 256 invoke IDs are held for that peer, each for 135,000 ms from when its ask was first sent, even if that has ended; or
-                                 the node restarted less than 75,001 ms ago */
+    BAC_NO_INVOKE_ID = 14,    /* all 256 invoke IDs are held for that peer, each for 135,000 ms from when its request was first sent, even if that has ended;
+                                 or the node restarted less than 75,001 ms ago */
     BAC_NO_SLOT = 15,         /* all client slots are held, each as long as an invoke ID */
     BAC_NO_SUCH_OBJECT = 16,
     BAC_NO_SUCH_PROPERTY = 17,
@@ -79,37 +80,37 @@ typedef struct bac_settings {
     size_t size;           /* sizeof(bac_settings), 48 in each version from 1.1 on: a library refuses settings of another size (BAC_BAD_SETTINGS) */
     uint8_t link[6];       /* its own link */
     uint8_t max_apdu;      /* the longest APDU that it takes: 0 to 5 for 50, 128, 206, 480, 1024 and 1476 octets */
-    bool takes_segments;   /* whether it takes replies in segments */
+    bool takes_segments;   /* whether it takes responses in segments */
     uint8_t max_segments;  /* how many: 0 to 7 for unspecified, 2, 4, 8, 16, 32, 64 and more */
     uint8_t window;        /* the greatest window that it proposes or grants: 1 to 64 segments */
-    size_t client_slots;   /* how many asks it holds, each until 135,000 ms after it was first sent, also once it has ended: 1 to 65,536. Each takes 30 octets
-                              from the start, whether it is in use or not */
+    size_t client_slots;   /* how many client requests it holds, each until 135,000 ms after it was first sent, even if it has ended: 1 to 65,536. Each takes
+                              30 octets from the start, whether it is in use or not */
     size_t reply_slots;    /* how many requests it remembers, each for 65,000 ms: 1 to 65,536. Where all slots are held, a new one is answered by Abort 0.
-                              Each takes 30 octets from the start, and some 240 in all while it remembers a short reply */
-    bool reuse_invoke_ids; /* whether a client, of another make say, may use an invoke ID again as soon as its transaction is over (clause 5.4).
-                              false: for 65,000 ms an equal request of the same peer under the same invoke ID gets the old answer and is not performed, a read
-                              too (no answer if that went in segments, and was acknowledged or aborted); another one is answered by Abort 0. So a peer gets
-                              at most 256 new requests in 65,000 ms.
-                              true: a read whose reply is one APDU is performed each time that it comes, and takes no slot; a longer reply holds its slot until
-                              its last segment is acknowledged, or the peer aborts it. A different request of that peer under that invoke ID ends the kept
-                              reply and is performed. A write that equals the last request of the same peer under its invoke ID, within 65,000 ms, is a
-                              repeat: it gets the old answer and is not performed again, even if bac_set_value changed the value since. A request in
-                              segments counts as a repeat if the last request came in segments too, and either begins with the same service and first
+                              Each takes 30 octets from the start, and some 240 in all while it remembers a short response */
+    bool reuse_invoke_ids; /* whether a client, of another vendor say, may use an invoke ID again as soon as its transaction is over (clause 5.4).
+                              false: for 65,000 ms an equal request of the same client under the same invoke ID gets the old response and is not performed, a
+                              read too (no answer if that went in segments, and was acknowledged or aborted); another one is answered by Abort 0. So a client
+                              can send at most 256 new requests in 65,000 ms.
+                              true: a read whose response is one APDU is performed each time that it comes, and takes no slot; a longer response holds its slot
+                              until its last segment is acknowledged, or the client aborts it. A different request of that client under that invoke ID ends
+                              the kept response and is performed. A write that equals the last request of the same client under its invoke ID, within 65,000
+                              ms, is a repeat: it gets the old response and is not performed again, even if bac_set_value changed the value since. A request
+                              in segments counts as a repeat if the last request came in segments too, and either begins with the same service and first
                               segment, or had more than 256 segments. Later segments are not compared */
     uint8_t later[3];      /* 0: room for members of later versions */
-    uint32_t memory;       /* how many octets of requests and replies it keeps for those that ask it, 65,540 and more; 0: 67,108,864. Set 131,072 or more: a
-                              new request, and each of its segments, is heard only if 65,539 octets are free beside its own; otherwise bac_on answers
-                              BAC_NO_MEMORY. No room is needed by a repeat of a request that was received whole, or, with reuse_invoke_ids, by a read
-                              whose reply is one APDU. The heap may hold twice as many octets, and 2 kB a slot in use */
+    uint32_t memory;       /* how many octets of clients' requests and of responses it keeps, 65,540 and more; 0: 67,108,864. Set 131,072 or more: a new
+                              request, and each of its segments, is accepted only if 65,539 octets are free beside its own; otherwise bac_on returns
+                              BAC_NO_MEMORY. No room is needed by a repeat of a request that was received whole, or, with reuse_invoke_ids, by a read whose
+                              response is one APDU. The heap may hold twice as many octets, and 2 kB a slot in use */
 } bac_settings;
 
-/* APDUs of 1476 octets, any number of segments, windows of 32, 64 slots at each end (64 asks in 135,000 ms, 64 requests in 65,000), at that link; clients may
- * not use an invoke ID again, and it keeps up to 64 MiB. */
+/* APDUs of 1476 octets, any number of segments, windows of 32, 64 slots at each end (64 requests of its own in 135,000 ms, 64 of clients in 65,000), at that
+ * link; clients may not use an invoke ID again, and it keeps up to 64 MiB. */
 #define BAC_SETTINGS(a, b, c, d, port_high, port_low) \
     { sizeof(bac_settings), { (uint8_t)(a), (uint8_t)(b), (uint8_t)(c), (uint8_t)(d), (uint8_t)(port_high), (uint8_t)(port_low) }, \
       5, true, 7, 32, 64, 64, false, { 0 }, 0 }
 
-/* Whom a node asks, and what that device takes; codes as in bac_settings. It has no network number: a node asks nothing behind a router. */
+/* To whom a client request goes, and what that device takes; codes as in bac_settings. It has no network number: none goes behind a router. */
 typedef struct bac_target {
     uint8_t link[6];
     uint8_t max_apdu;
@@ -139,7 +140,7 @@ typedef enum bac_how {
     BAC_PLACED = 8     /* a file was written: the octets begin at `position` in the file */
 } bac_how;             /* after BAC_ABORT, BAC_TIMED_OUT and BAC_EXPIRED the request may have been performed all the same */
 
-/* How an ask ended. */
+/* How a client request ended. */
 typedef struct bac_ending {
     uint64_t ticket;
     bac_how how;
@@ -150,7 +151,7 @@ typedef struct bac_ending {
 
 /* A request that the node performed. */
 typedef struct bac_act {
-    uint8_t link[6];      /* the peer's link, or that of the router it is behind */
+    uint8_t link[6];      /* the client's link, or that of the router it is behind */
     uint8_t service;      /* 6 AtomicReadFile, 7 AtomicWriteFile, 12 ReadProperty, 15 WriteProperty; 0: none was performed */
     bool done;            /* false where it was answered with an Error, and changed nothing */
     uint16_t object_type;
@@ -262,8 +263,8 @@ bac_status bac_add_file(bac_node *node, const uint8_t *octets, size_t len, bool 
 bac_status bac_start(bac_node *node, const bac_settings *settings);
 
 /* The same at a moment, for a node that ran before, at this link, and lost what it remembered: its program or its host was started anew. List the objects as
- * they are now. For 65,000 ms each new request is turned away (Abort, reason 0), so that none of the earlier life is performed twice; but with
- * reuse_invoke_ids a read whose reply is one APDU is performed. For 75,000 ms each ask is refused (BAC_NO_INVOKE_ID). */
+ * they are now. For 65,000 ms each new request is turned away (Abort, reason 0), so that none of the earlier run is performed twice; but with
+ * reuse_invoke_ids a read whose response is one APDU is performed. For 75,000 ms each client request is refused (BAC_NO_INVOKE_ID). */
 bac_status bac_start_restarted(bac_node *node, const bac_settings *settings, uint64_t now);
 
 /* Writes to refused the first object that bac_start refuses, and why; BAC_FLAW_NONE exactly where it takes all that are listed. Not for
@@ -272,9 +273,10 @@ bac_status bac_start_restarted(bac_node *node, const bac_settings *settings, uin
  * of the two, unless another flaw comes first. The node stays as it was. BAC_NOT_OPEN; BAC_ALREADY_STARTED; BAC_NO_MEMORY. */
 bac_status bac_start_problem(const bac_node *node, bac_refused *refused);
 
-/* Starts the node as bac_start does, with objects of any type and any properties: those that a document with `described = true` has. The object-list of the
- * device is computed too. Present-values of the types 0, 1 and 2 are a Real, of 3, 4 and 5 Enumerated 0 or 1, of 13, 14 and 19 an Unsigned from 1 on. There is
- * exactly one device, no two objects have one name, and there are at most 819. Other properties may have any values, and no other is required.
+/* Starts the node as bac_start does, with objects of any type and any properties: those that a document (docs/OBJECTS.md) with `described = true` has. The
+ * object-list of the device is computed too. Present-values of the types 0, 1 and 2 are a Real, of 3, 4 and 5 Enumerated 0 or 1, of 13, 14 and 19 an Unsigned
+ * from 1 on. There is exactly one device, no two objects have one name, and there are at most 819. Other properties may have any values, and no other is
+ * required.
  * BAC_NOT_OPEN; BAC_ALREADY_STARTED; BAC_BAD_SETTINGS; BAC_NO_MEMORY; BAC_BAD_OBJECT: bac_problem says which, and why. */
 bac_status bac_start_described(bac_node *node, const bac_settings *settings);
 
@@ -287,7 +289,7 @@ bac_status bac_problem(const bac_node *node, bac_refused *refused);
 
 /* ---- through a power cut: what the network may write, kept by the program in cells. docs/C.md, "Through a power cut", has the order of the calls.
  *
- * A cell is octets at a place. A place is a number below 2^55 that stands for a property, or for a part of a file, in each life of the node and in each version
+ * A cell is octets at a place. A place is a number below 2^55 that stands for a property, or for a part of a file, in each run of the node and in each version
  * of the library: `bac serve --keep` has the same. A property has one cell. A file has one for each 1,024 octets, or what is left of them, and then one for how
  * many those are. What the network may not write has none: list it as it is. */
 
@@ -317,14 +319,15 @@ bac_status bac_start_house(bac_node *node, const bac_settings *settings);
  * datagram is dropped. */
 bac_status bac_on(bac_node *node, uint64_t now, const uint8_t from[6], const uint8_t *octets, size_t len);
 
-/* Does all that is due, or nothing: repeats, and asks that end. BAC_NOT_OPEN, BAC_NOT_STARTED, BAC_CLOCK_BACK, BAC_NO_MEMORY: then wait, as all stays due. */
+/* Does all that is due, or nothing: repeats, and client requests that end. BAC_NOT_OPEN, BAC_NOT_STARTED, BAC_CLOCK_BACK, BAC_NO_MEMORY: then wait, as all
+ * stays due. */
 bac_status bac_tick(bac_node *node, uint64_t now);
 
 /* The first moment at which bac_tick does anything; UINT64_MAX: none, or no node that is started. It stays in the past while ticks are refused memory: a loop
  * that waits until then has to wait some milliseconds more after BAC_NO_MEMORY, or it spins. */
 uint64_t bac_next_due(const bac_node *node);
 
-/* ---- asks: requests of this node to another device. Each ask has a ticket, which bac_end names later; send what bac_send has, as after bac_on
+/* ---- client requests, to another device. Each has a ticket, which bac_end names later; send what bac_send has, as after bac_on
  *
  * BAC_NOT_OPEN; BAC_NOT_STARTED; BAC_BAD_REQUEST exactly where a number is outside its range or the octets to be written are no data. Then the first of
  * BAC_CLOCK_BACK, BAC_SELF_PEER, BAC_TOO_LONG, BAC_NEEDS_SEGMENTS, BAC_NO_INVOKE_ID and BAC_NO_SLOT that holds, or BAC_NO_MEMORY: memory may be refused before
@@ -359,8 +362,8 @@ bac_status bac_ask_get(bac_node *node, uint64_t now, const bac_target *target, u
 size_t bac_sends(const bac_node *node);
 size_t bac_send(const bac_node *node, size_t index, uint8_t to[6], uint8_t *out, size_t room);
 
-/* How many asks have ended, and how each did, with the octets that came (at most 65,535): look after each bac_on and each bac_tick. At an index that is not
- * below bac_ends 0, and nothing is written. */
+/* How many client requests have ended, and how each did, with the octets that came (at most 65,535): look after each bac_on and each bac_tick. At an index that
+ * is not below bac_ends 0, and nothing is written. */
 size_t bac_ends(const bac_node *node);
 size_t bac_end(const bac_node *node, size_t index, bac_ending *ending, uint8_t *out, size_t room);
 
@@ -372,7 +375,7 @@ size_t bac_performed(const bac_node *node, bac_act *act, uint8_t *out, size_t ro
  * nothing is written to it. */
 bool bac_written(const bac_node *node, bac_reference *written);
 
-/* Why the last datagram was dropped: 0 it was not, 1 no BVLL that the node hears (also a broadcast or a forwarded NPDU), 2 no NPDU, 3 routed elsewhere, 4 a
+/* Why the last datagram was dropped: 0 it was not, 1 no BVLL that the node takes (also a broadcast or a forwarded NPDU), 2 no NPDU, 3 routed elsewhere, 4 a
  * network message, 5 no APDU, 6 from the node's own link. */
 uint32_t bac_cause(const bac_node *node);
 
@@ -465,7 +468,7 @@ static inline char *bac_name_text(bac_kind kind, uint32_t number, char *out, siz
     return out;
 }
 
-/* The text of how an ask ended. */
+/* The text of how a client request ended. */
 static inline const char *bac_how_text(bac_how how)
 {
     static const char *const texts[] = { "values", "done", "error", "reject", "abort", "timed out", "expired", "content", "placed" };

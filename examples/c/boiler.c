@@ -1,4 +1,5 @@
-/* A device with one temperature, on this host's UDP port 47808: the whole program of docs/C.md. */
+/* A device with one temperature, on this host's UDP port 47808: the whole program of docs/C.md. Each run starts as the very first one at its address: a device
+ * that runs again has to call another start, as main says. */
 #define _POSIX_C_SOURCE 200809L
 #include "bac.h"
 #include <arpa/inet.h>
@@ -15,7 +16,7 @@ static uint64_t moment(void) /* milliseconds of a clock that never goes back */
     return (uint64_t)t.tv_sec * 1000 + (uint64_t)t.tv_nsec / 1000000;
 }
 
-static void send_all(bac_node *node, int s) /* after each bac_on, bac_tick and ask */
+static void send_all(bac_node *node, int s) /* after each bac_on, bac_tick and bac_ask_.. */
 {
     uint8_t to[6], out[1514];
     for (size_t i = 0; i < bac_sends(node); i++) {
@@ -33,14 +34,15 @@ int main(void)
 {
     bac_node node = BAC_NODE_EMPTY;
     bac_settings settings = BAC_SETTINGS(127, 0, 0, 1, 0xBA, 0xC0); /* its address and the octets of htons(47808): the socket has them too */
-    settings.reuse_invoke_ids = true;                               /* clients may be of other makes */
+    settings.reuse_invoke_ids = true;                               /* clients may be other vendors' */
     uint8_t value[5];
     bac_put_float(value, 20.0f);
     bac_status status = bac_open(&node);
     if (!status) { status = bac_add_object(&node, 8, 77, (const uint8_t *)"boiler", 6); }             /* device 77 */
     if (!status) { status = bac_add_object(&node, 0, 1, (const uint8_t *)"supply-temperature", 18); } /* analog-input 1 */
     if (!status) { status = bac_add_property(&node, 85, value, 5, false); }                           /* its present-value, read only */
-    if (!status) { status = bac_start_described(&node, &settings); }                                  /* after a reset: bac_start_described_restarted */
+    /* The first start at this address; at each later one: bac_start_described_restarted(&node, &settings, moment()). */
+    if (!status) { status = bac_start_described(&node, &settings); }
 
     struct sockaddr_in here;
     memset(&here, 0, sizeof here);

@@ -63,7 +63,7 @@ int main(void)
 {
     bac_node node = BAC_NODE_EMPTY;
     bac_settings settings = BAC_SETTINGS(127, 0, 0, 1, 0xBA, 0xC0);
-    settings.reuse_invoke_ids = true; /* clients may be of other makes */
+    settings.reuse_invoke_ids = true; /* clients may be other vendors' */
     bac_refused refused;
     bac_status status = bac_open(&node);
     if (!status) { status = list_device(&node); }

@@ -16,7 +16,7 @@ refuse() {
     python3 "$memory/refuse.py" "$@" || echo failed > "$work/failed"
 }
 
-for crate in ${*:-bac_tests bac_all_rows}; do
+for crate in ${*:-bac_tests bac_stack_rows}; do
     cd "$top/crates/$crate"
     rest=
     if [ -f stdin ]; then

@@ -7,7 +7,7 @@ import subprocess
 import sys
 import tempfile
 
-TEXTS = {'tiles': 'a database of something else', 'letter': 'no database, or a damaged one'}
+TEXTS = {'tiles': 'a database of another program', 'letter': 'not a database, or a damaged one'}
 
 
 def make(folder):

@@ -1,5 +1,5 @@
 #!/usr/bin/env python3
-"""Holds the frames of captures in crates/bac_all_rows/stdin against tshark: each that carries a datagram, by the file stdout beside it, must
+"""Holds the frames of captures in crates/bac_stack_rows/stdin against tshark: each that carries a datagram, by the file stdout beside it, must
 carry it there too, and no other may. Prints what differs and is not known to, and a count. Needs tshark; needs no build."""
 import ipaddress
 import os
@@ -12,7 +12,7 @@ import tempfile
 
 import captures
 
-ROWS = os.path.join(os.path.dirname(__file__), "../../crates/bac_all_rows")
+ROWS = os.path.join(os.path.dirname(__file__), "../../crates/bac_stack_rows")
 SECTION = "@ captures\n"
 FRAME = re.compile(r"^(.*); (\d+) ([0-9A-F]*)$", re.M)
 CARRIED = re.compile(r"^(.*); (.*)$", re.M)

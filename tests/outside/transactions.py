@@ -125,7 +125,7 @@ class Transaction:
             return ['  unanswered']
         if self.answer.whole:
             return []
-        return ['  aborted by the server' if self.broken_off else '  answer began, not whole']
+        return ['  aborted by the server' if self.broken_off else '  incomplete answer']
 
     def lines(self):
         asked = [f'  asked at={self.request.moment} {counts(self.request)}']

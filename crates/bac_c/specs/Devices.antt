@@ -1,8 +1,9 @@
 -- What a call makes of what is behind a handle.
 use Rattle.std.specs.Prelude.{◌≡◌, ℕ, List, [], Option, None, MatchOption}
 use Rattle.bac_world.specs.Node.{Node, Outcome}
-use Rattle.bac_world.specs.ReusingNodes.{NodeHears}
-use Rattle.bac_node.specs.Memory.{KeepsWithin}
+use Rattle.bac_node.specs.Memory.{IsWithin}
+use Rattle.bac_transaction.specs.Views.{rules_view}
+use Rattle.bac_node.specs.Serving.{NodeHearsBy}
 use Rattle.bac_node.specs.Views.{outcome_view}
 use Rattle.bac_c.specs.declared.device.Device.{Device}
 
@@ -18,24 +19,24 @@ IsIdle d = d.node ≡ None
 abbrev pub Runs : (Node → Type 0) → Device → Type 0
 Runs p d = MatchOption d.node ⊥ p
 
--- the settings that its node is told at each call
-abbrev pub HasSettingsOf : Device → Device → Type 0
-HasSettingsOf d e = (e.reuse_invoke_ids ≡ d.reuse_invoke_ids) × (e.memory ≡ d.memory)
+-- the rules that its node is told at each call
+abbrev pub HasRulesOf : Device → Device → Type 0
+HasRulesOf d e = e.rules ≡ d.rules
 
--- a node ran before and runs after, with the same settings, and what came of it is there to be read
+-- a node ran before and runs after, with the same rules, and what came of it is there to be read
 abbrev pub Ran : (Node → Node → Outcome → Type 0) → Device → Device → Type 0
-Ran goes d e = MatchOption d.node ⊥ (λ m. MatchOption e.node ⊥ (λ n. goes m n (outcome_view e.outcome))) × HasSettingsOf d e
+Ran goes d e = MatchOption d.node ⊥ (λ m. MatchOption e.node ⊥ (λ n. goes m n (outcome_view e.outcome))) × HasRulesOf d e
 
 abbrev pub HasRun : (Node → Node → Outcome → Type 0) → (old new : Option Device) → Type 0
 HasRun goes old new = MatchOption old ⊥ (λ d. MatchOption new ⊥ (λ e. Ran goes d e))
 
--- a datagram came to a node of this setting
+-- a datagram came to a node of these rules
 abbrev pub Heard : (now : ℕ) → (from octets : List ℕ) → Device → Device → Type 0
-Heard now from octets d e = Ran (NodeHears d.reuse_invoke_ids now from octets) d e
+Heard now from octets d e = Ran (NodeHearsBy (rules_view d.rules) now from octets) d e
 
 -- its node keeps no more octets than before, or no more than it may
 abbrev pub KeepsSoMuch : Device → Device → Type 0
-KeepsSoMuch d e = MatchOption d.node ⊥ (λ m. MatchOption e.node ⊥ (KeepsWithin d.memory m))
+KeepsSoMuch d e = MatchOption d.node ⊥ (λ m. MatchOption e.node ⊥ (IsWithin d.rules.memory m))
 
 abbrev pub HasKept : (old new : Option Device) → Type 0
 HasKept old new = MatchOption old ⊥ (λ d. MatchOption new ⊥ (KeepsSoMuch d))

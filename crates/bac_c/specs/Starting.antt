@@ -13,6 +13,8 @@ use Rattle.bac_world.specs.Node.{Node}
 use Rattle.bac_node.specs.Fresh.{fresh_node, large_slots_fit, made_node, window_fits}
 use Rattle.bac_node.specs.declared.config.Config.{Config}
 use Rattle.bac_node.specs.declared.memory.TheConstants.{MEMORY}
+use Rattle.bac_transaction.specs.Given as given
+use Rattle.bac_transaction.specs.declared.rules.Rules.{Rules}
 use Rattle.bac_c.specs.Devices.{IsIdle}
 use Rattle.bac_c.specs.declared.device.Device.{Device}
 use Rattle.bac_c.specs.declared.records.Settings.{Settings}
@@ -32,6 +34,10 @@ are_zeros later = list_all (λ octet. octet == 0) later
 -- how many octets a node may keep by that member: 64 MiB where it is 0
 abbrev pub memory_of : (memory : ℕ) → ℕ
 memory_of memory = if memory == 0 then MEMORY else memory
+
+-- the rules by which a node serves
+abbrev pub rules_by : Settings → Rules
+rules_by s = record (given.rules_of s.reuse_invoke_ids) { memory = Some (memory_of s.memory) }
 
 -- enough for a request, which needs room for 65,539 octets beside its own
 abbrev pub memory_fits : (memory : ℕ) → Bool
@@ -104,9 +110,9 @@ pub record IsHouseWith (s : Settings) (node : Option Node) : Type 0 where
 abbrev pub IsReady : Settings → Device → Type 0
 IsReady s d = IsIdle d × IsTrue (is_right s)
 
--- whether its clients may use invoke IDs again, and how much it may keep, is as the settings say
+-- the rules by which it serves are as the settings say
 abbrev pub IsSetBy : Settings → Device → Type 0
-IsSetBy s d = (d.reuse_invoke_ids ≡ s.reuse_invoke_ids) × (d.memory ≡ memory_of s.memory)
+IsSetBy s d = d.rules ≡ rules_by s
 
 -- the node runs with the listed objects, as the settings say
 abbrev pub HasStarted : (List Object → Store → Type 0) → Settings → (restart : Option ℕ) → (old new : Option Device) → Type 0

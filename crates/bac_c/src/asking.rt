@@ -76,6 +76,7 @@ impl Device {
                     effect: None,
                     ended: Vec::new(alloc),
                     dropped: None,
+                    turned_away: false,
                 };
                 Ok(ticket)
             }

@@ -9,21 +9,20 @@ ghost use Rattle.bac_c.specs.Statuses.{fault_number, NOT_STARTED};
 
 use crate::fault::Fault;
 use crate::kept::Kept;
-use bac_node::{MEMORY, Node, NodeFault, Outcome};
+use bac_node::{Node, NodeFault, Outcome};
 use bac_store::Object;
+use bac_transaction::Rules;
 use std::alloc::Global;
 
-/// The objects and the kept cells that are listed for a node, the node once it is started, whether its clients may use invoke IDs again, how many octets it
-/// may keep, and what came of the last call that did something.
+/// The objects and the kept cells that are listed for a node, the node once it is started, the rules by which it serves,
+/// and what came of the last call that did something.
 #[derive(Drop)]
 pub struct Device {
     pub listed: Vec<Object>,
     pub kept: Kept,
     pub node: Option<Node>,
-    /// As the settings of the start say; false before it.
-    pub reuse_invoke_ids: bool,
-    /// How many octets its node may keep, as the settings of the start say; 64 MiB before it.
-    pub memory: usize,
+    /// The rules by which its node serves, as the settings of the start say; the strict ones before it.
+    pub rules: Rules,
     pub outcome: Outcome,
 }
 
@@ -39,6 +38,7 @@ pub fn no_outcome(alloc: Global) -> Outcome
         effect: None,
         ended: Vec::new(alloc),
         dropped: None,
+        turned_away: false,
     }
 }
 
@@ -54,13 +54,12 @@ impl Device {
             listed: Vec::new(alloc),
             kept: Kept::new(alloc),
             node: None,
-            reuse_invoke_ids: false,
-            memory: MEMORY,
+            rules: Rules::strict(),
             outcome: no_outcome(alloc),
         }
     }
 
-    /// A datagram comes from a link, at a moment in milliseconds, to a node of its setting.
+    /// A datagram comes from a link, at a moment in milliseconds, to a node of its rules.
     pub fn on(&mut self, now: u64, from: [u8; 6], octets: &[u8]) -> Result<(), Fault>
         ensures went { OnOk result (Heard now from octets.now self.old self.new) }
         ensures within { OnOk result (KeepsSoMuch self.old self.new) }
@@ -71,12 +70,11 @@ impl Device {
         ensures few { IfErr result (λ e. fault_number e ≤ NOT_STARTED) }
         ensures err { OnErr result (self.new ≡ self.old) }
     {
-        let reuse = self.reuse_invoke_ids;
-        let memory = self.memory;
+        let rules = self.rules;
         let Some(node) = &mut self.node else {
             return Err(Fault::NotStarted);
         };
-        match node.hear_within(reuse, memory, now, from, octets) {
+        match node.hear(&rules, now, from, octets) {
             Ok(outcome) => {
                 self.outcome = outcome;
                 Ok(())

@@ -21,7 +21,7 @@ use crate::kept_fault::KeptFault;
 use crate::listed::copied_objects;
 use crate::records::Settings;
 use crate::rule::Rule;
-use crate::settings::{config_of, memory_of};
+use crate::settings::{config_of, rules_by};
 use crate::starting::node_of;
 use bac_node::{Config, Node};
 use bac_store::Store;
@@ -66,8 +66,7 @@ impl Device {
         self.listed = Vec::new(alloc);
         self.kept = Kept::new(alloc);
         self.node = Some(node);
-        self.reuse_invoke_ids = settings.reuse_invoke_ids;
-        self.memory = memory_of(settings);
+        self.rules = rules_by(settings);
         self.outcome = no_outcome(alloc);
     }
 

@@ -1,12 +1,13 @@
 //! The settings of a node, as a C program says them.
 ghost use Rattle.std.specs.Prelude.{◌≡◌, true, IfOk, IsErrOf, IsTrue, OnErr};
 ghost use Rattle.bac_node.specs.Fresh.{has_large_slots, window_fits};
-ghost use Rattle.bac_c.specs.Starting.{IsConfigOf, are_zeros, is_right, memory_fits, memory_of};
+ghost use Rattle.bac_c.specs.Starting.{IsConfigOf, are_zeros, is_right, memory_fits, memory_of, rules_by};
 
 use crate::fault::Fault;
 use crate::records::Settings;
 use bac_apdu::Limits;
 use bac_node::{Config, MEMORY};
+use bac_transaction::Rules;
 
 /// How many octets the settings of this version have.
 pub const SETTINGS_SIZE: usize = 48;
@@ -32,7 +33,7 @@ fn is_memory(memory: u32) -> bool
 }
 
 /// How many octets a node may keep: 64 MiB where the settings say 0.
-pub fn memory_of(settings: &Settings) -> usize
+fn memory_of(settings: &Settings) -> usize
     ensures { result ≡ memory_of settings.now.memory }
 {
     if settings.memory == 0 {
@@ -40,6 +41,13 @@ pub fn memory_of(settings: &Settings) -> usize
     } else {
         settings.memory as usize
     }
+}
+
+/// The rules by which a node serves.
+pub fn rules_by(settings: &Settings) -> Rules
+    ensures { result ≡ rules_by settings.now }
+{
+    Rules::of(settings.reuse_invoke_ids).within(memory_of(settings))
 }
 
 /// The configuration of a node; `BadSettings` exactly where one is outside its range.

@@ -16,7 +16,7 @@ use crate::handle::Handle;
 use crate::listed::copied_objects;
 use crate::records::Settings;
 use crate::rule::Rule;
-use crate::settings::{config_of, memory_of};
+use crate::settings::{config_of, rules_by};
 use bac_node::{Config, NewNodeFault, Node};
 use bac_store::{Store, house};
 use std::alloc::Global;
@@ -91,8 +91,7 @@ impl Device {
         let node = node_of(alloc, config, store, restart)?;
         self.listed = Vec::new(alloc);
         self.node = Some(node);
-        self.reuse_invoke_ids = settings.reuse_invoke_ids;
-        self.memory = memory_of(settings);
+        self.rules = rules_by(settings);
         self.outcome = no_outcome(alloc);
         Ok(())
     }
@@ -119,8 +118,7 @@ impl Device {
         let node = node_of(alloc, config, store, None)?;
         self.listed = Vec::new(alloc);
         self.node = Some(node);
-        self.reuse_invoke_ids = settings.reuse_invoke_ids;
-        self.memory = memory_of(settings);
+        self.rules = rules_by(settings);
         self.outcome = no_outcome(alloc);
         Ok(())
     }

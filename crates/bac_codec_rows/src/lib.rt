@@ -1,7 +1,7 @@
 //! Plays rows of text and prints the result of each: octets and texts that are read and written again, words, segments, tables of slots,
 //! what an end answers, and stores.
 //!
-//! The section `codecs` of bac_all_rows/stdin holds the rows, and that of stdout what has to be printed. A row begins with `=`, what plays it, and its title. Each of its lines
+//! The section `codecs` of bac_stack_rows/stdin holds the rows, and that of stdout what has to be printed. A row begins with `=`, what plays it, and its title. Each of its lines
 //! begins with a verb; the line is printed after `> `, and its result below. A line that has no meaning prints `?`: stdin has no such line.
 #![tactic(auto)]
 

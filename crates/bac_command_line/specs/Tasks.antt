@@ -4,18 +4,22 @@ use Rattle.std.specs.Option.{option_map}
 use Rattle.bac_npdu.specs.Views.{peer_view}
 use Rattle.bac_text.specs.declared.status.Status.{Status}
 use Rattle.bac_text.specs.declared.status.Status.TheVariants as status
-use Rattle.bac_command_line.specs.Asked.{AreAskedFrom}
-use Rattle.bac_command_line.specs.Copied.{AreDecodedCopied}
-use Rattle.bac_command_line.specs.Explaining.{IsJsonFile, IsPageFile}
-use Rattle.bac_command_line.specs.Files.{IsChartedFile, IsCheckedFile, IsExplainedFile, IsShownFile, IsSimulatedFile}
-use Rattle.bac_command_line.specs.Json as json
-use Rattle.bac_command_line.specs.Keeping.{Databases, IsListed, IsServedKept}
-use Rattle.bac_command_line.specs.Lines.{AreCheckedLines, IsDecodedFrom}
-use Rattle.bac_command_line.specs.Looking.{IsServedLooking}
-use Rattle.bac_command_line.specs.Stores.{IsAnsweredFrom, IsServedFrom}
-use Rattle.bac_command_line.specs.AskedOne.{IsAskedFrom}
-use Rattle.bac_command_line.specs.Online.{Clocks, IsPair, Links}
-use Rattle.bac_command_line.specs.WholeFiles.{IsFiled}
+use Rattle.bac_asking.specs.Asked.{AreAskedFrom}
+use Rattle.bac_reading.specs.Copied.{AreDecodedCopied}
+use Rattle.bac_reading.specs.Explaining.{IsJsonFile, IsPageFile}
+use Rattle.bac_reading.specs.Files.{IsChartedFile, IsCheckedFile, IsExplainedFile, IsShownFile, IsSimulatedFile}
+use Rattle.bac_reading.specs.Json as json
+use Rattle.bac_serving.specs.Forgetting.{Forgettings, IsForgotten}
+use Rattle.bac_serving.specs.Keeping.{Databases, IsListed, IsServedKept}
+use Rattle.bac_serving.specs.Listing.{Listings, Lists}
+use Rattle.bac_reading.specs.Lines.{AreCheckedLines, IsDecodedFrom}
+use Rattle.bac_serving.specs.Looking.{IsServedLooking}
+use Rattle.bac_serving.specs.Stores.{IsAnsweredFrom, IsServedFrom}
+use Rattle.bac_asking.specs.AskedOne.{IsAskedFrom}
+use Rattle.bac_environment.specs.Sockets.{Clocks, Links}
+use Rattle.bac_asking.specs.Online.{IsPair}
+use Rattle.bac_asking.specs.WholeFiles.{IsFiled}
+use Rattle.bac_serving.specs.declared.listing.ListForm.TheVariants as form
 use Rattle.bac_command_line.specs.declared.task.Task.{Task}
 use Rattle.bac_command_line.specs.declared.task.Task.TheVariants as task
 
@@ -51,8 +55,8 @@ IsPerformed IsAt IsOn IsClock IsOnDatabase (task.ServeLooking serving objects) s
     IsServedLooking IsAt (option_map (λ p. p.now) objects) IsOn IsClock s serving old new
 IsPerformed IsAt IsOn IsClock IsOnDatabase (task.ServeKept serving objects path) s old new =
     IsServedKept IsAt (option_map (λ p. p.now) objects) IsOnDatabase IsOn IsClock s serving path.now old new
-IsPerformed IsAt IsOn IsClock IsOnDatabase (task.Keep path) s old new = IsListed s old new
-IsPerformed IsAt IsOn IsClock IsOnDatabase (task.KeepJson path) s old new = IsListed s old new
+IsPerformed IsAt IsOn IsClock IsOnDatabase (task.Keep path loss) s old new = IsListed s old new
+IsPerformed IsAt IsOn IsClock IsOnDatabase (task.KeepJson path loss) s old new = IsListed s old new
 IsPerformed IsAt IsOn IsClock IsOnDatabase (task.Forget forgetting) s old new = IsListed s old new
 IsPerformed IsAt IsOn IsClock IsOnDatabase (task.Ask asking peer words) s old new =
     IsAskedFrom IsAt IsOn IsClock s asking (peer_view peer) (map (λ w. w.now) words.now) old new
@@ -61,3 +65,15 @@ IsPerformed IsAt IsOn IsClock IsOnDatabase (task.AskLines asking default path) s
 IsPerformed IsAt IsOn IsClock IsOnDatabase (task.Files file work) s old new = IsFiled s
 IsPerformed IsAt IsOn IsClock IsOnDatabase task.Pair s old new = IsPair IsOn IsClock s old new
 IsPerformed IsAt IsOn IsClock IsOnDatabase (task.Tell telling) s old new = IsTold s
+
+-- if it is to list, what is kept was printed
+abbrev pub ListsAsAsked : Listings → Task → Status → (old new : Option (List ℕ)) → Type 0
+ListsAsAsked IsOnListed (task.Keep path loss) s old new = Lists IsOnListed s form.Lines path.now old new
+ListsAsAsked IsOnListed (task.KeepJson path loss) s old new = Lists IsOnListed s form.Objects path.now old new
+ListsAsAsked IsOnListed _ s old new = ⊤
+
+-- if it is to forget, that was forgotten
+abbrev pub ForgetsAsAsked : Forgettings → Task → Status → (old new : Option (List ℕ)) → Type 0
+ForgetsAsAsked IsOnForgotten (task.Forget f) s old new =
+    IsForgotten IsOnForgotten s f.path.now f.object.now (option_map (λ p. p.now) f.property) old new
+ForgetsAsAsked IsOnForgotten _ s old new = ⊤

@@ -1,29 +1,23 @@
 //! Doing what a command line asks for: over any files, links and writers.
-ghost use Rattle.bac_command_line.specs.Files.{OnFile};
-ghost use Rattle.bac_command_line.specs.Forgetting.{ForgetsAsAsked, OnForgotten};
-ghost use Rattle.bac_command_line.specs.Keeping.{OnDatabase};
-ghost use Rattle.bac_command_line.specs.Listing.{ListsAsAsked, OnListed};
-ghost use Rattle.bac_command_line.specs.Online.{OnClock, OnPort};
-ghost use Rattle.bac_command_line.specs.Tasks.{IsPerformed};
+ghost use Rattle.bac_environment.specs.Files.{OnFile};
+ghost use Rattle.bac_serving.specs.Forgetting.{OnForgotten};
+ghost use Rattle.bac_serving.specs.Keeping.{OnDatabase};
+ghost use Rattle.bac_serving.specs.Listing.{OnListed};
+ghost use Rattle.bac_environment.specs.Sockets.{OnClock, OnPort};
+ghost use Rattle.bac_command_line.specs.Tasks.{ForgetsAsAsked, IsPerformed, ListsAsAsked};
 
-use crate::asking_lines::ask_lines;
-use crate::copied::decode_copied;
-use crate::environment::Environment;
-use crate::explaining::{explain_html, explain_json};
-use crate::file_task::do_with_files;
-use crate::files::{OpenFiles, chart, check, explain, show, simulate};
-use crate::forgetting::forget_kept;
-use crate::json::{check_json, check_json_lines, decode_json};
-use crate::keeping::serve_kept;
-use crate::lines::{check_lines, decode};
-use crate::listing::{ListForm, list_kept};
-use crate::looking::serve_looking;
-use crate::objects::{answer, serve};
-use crate::online::Machine;
+use crate::machine::Machine;
 use crate::reasons::print_no_task;
 use crate::task::{Task, task_of};
 use crate::telling::tell;
-use crate::{file_words, online};
+use crate::told::{Told, is_brief};
+use bac_asking::{ask, ask_lines, do_with_files, pair};
+use bac_environment::{Environment, OpenFiles};
+use bac_reading::{
+    chart, check, check_json, check_json_lines, check_lines, decode, decode_copied, decode_json,
+    explain, explain_html, explain_json, show, simulate,
+};
+use bac_serving::{ListForm, answer, forget_kept, list_kept, serve, serve_kept, serve_looking};
 use bac_text::{Status, no_memory};
 use bac_words::{Telling, matches};
 use clap::error::ErrorKind;
@@ -78,21 +72,23 @@ fn perform<F: OpenFiles, M: Machine, O: Write, E: Write>(
             objects,
             path,
         } => serve_kept(environment, &serving, objects, path, out, err),
-        Task::Keep(path) => list_kept(environment, path, ListForm::Lines, out, err),
-        Task::KeepJson(path) => list_kept(environment, path, ListForm::Objects, out, err),
+        Task::Keep { path, loss } => list_kept(environment, path, loss, ListForm::Lines, out, err),
+        Task::KeepJson { path, loss } => {
+            list_kept(environment, path, loss, ListForm::Objects, out, err)
+        }
         Task::Forget(forgetting) => forget_kept(environment, forgetting, out, err),
         Task::Ask {
             asking,
             peer,
             words,
-        } => file_words::ask(environment, &asking, peer, words, out, err),
+        } => ask(environment, &asking, peer, words, out, err),
         Task::AskLines {
             asking,
             default,
             path,
         } => ask_lines(environment, &asking, default, path, out, err),
         Task::Files { task, work } => do_with_files(environment, &task, work, out, err),
-        Task::Pair => online::pair(alloc, environment.machine, out, err),
+        Task::Pair => pair(alloc, environment.machine, out, err),
         Task::Tell(telling) => tell(telling, out, err),
     }
 }
@@ -107,7 +103,8 @@ fn asks_version(words: &[String]) -> bool {
 
 /// Does what the words of a command line ask for; the first word is the program's name. `--version` alone does what the command `version` does.
 ///
-/// Words of no form: clap's text on `err`, and `CommandLine`. Out of memory: `no memory` on `err`.
+/// Words of no form: clap's text on `err`, and `CommandLine`. Out of memory: `no memory` on `err`. Where a brief command line fails and standard error is no
+/// terminal, `err` gets one line; otherwise what went wrong, and why.
 pub fn run<F: OpenFiles, M: Machine, O: Write, E: Write>(
     alloc: Global,
     words: &[String],
@@ -133,8 +130,11 @@ pub fn run<F: OpenFiles, M: Machine, O: Write, E: Write>(
         files,
         machine,
     };
-    match task_of(&matches, machine.shows_progress()) {
-        Some(task) => perform(&environment, task.from_source(machine), out, err),
-        None => print_no_task(&matches, err),
+    let is_terminal = machine.shows_progress();
+    let tells_why = is_terminal || !is_brief(&matches);
+    let mut told = Told::new(err, tells_why);
+    match task_of(&matches, is_terminal, tells_why) {
+        Some(task) => perform(&environment, task.from_source(machine), out, &mut told),
+        None => print_no_task(&matches, &mut told),
     }
 }

@@ -1,25 +1,33 @@
 //! The files, sockets and clock of a system.
-ghost use Rattle.std.specs.Prelude.{◌≡◌, ⊤, true};
+ghost use Rattle.std.specs.Prelude.{◌≡◌, ⊤, true, IfOk};
 ghost use Rattle.bac_driver.specs.Clocks.{latest_told};
 ghost use Rattle.bac_driver.specs.Udp.{bound_host, bound_port, udp_address};
+ghost use Rattle.bac_guard.specs.Guards.{IsGuardedBy, link_below};
 ghost use Rattle.bac_keep_file.specs.Made.{HasEmptyTable};
 ghost use Rattle.sqlite_store.specs.FileStore.{view};
 ghost use Rattle.sqlite_trees.specs.View.{IsClean};
 
-use crate::client_pair::{ClientPair, pair_at};
-use crate::files::OpenFiles;
-use crate::online::Machine;
+use crate::client_key::key_of_host;
+use crate::machine::Machine;
+use crate::replacing::{make_private, put_out, remove_empty, rename, replace};
+use bac_asking::{ClientSockets, NoPair};
 use bac_driver::{MonotonicClock, UdpLink};
-use bac_keep_file::{KeptFile, OpenFault};
+use bac_environment::{OpenFiles, Sockets};
+use bac_guard::{Guard, Guarded};
+use bac_keep::KeepFault;
+use bac_keep_file::{Checkpoint, KeptFile, Loss, OpenFault};
 use bac_npdu::LinkAddress;
+use bac_pairs::{ClientPair, PairKey, left_at, pair_at};
+use bac_serving::{Databases, StandardInput};
 use mio::unix::SourceFd;
 use mio::{Events, Interest, Poll, Token};
-use std::fs::{OpenFile, OpenOptions};
-use std::io::{ErrorKind, Read, Write};
+use std::cell::Cell;
+use std::fs::{File, OpenOptions};
+use std::io::{ErrorKind, Read};
 use std::net::{Ipv4Addr, Net, SocketAddr, UdpSocket};
-use std::rt::Files;
+use std::random::RandomSource;
 use std::time::{Duration, SystemTime, UNIX_EPOCH};
-use std::{fs, io};
+use std::{fs, io, thread};
 
 /// The file that is standard input, which `-` stands for.
 const STANDARD_INPUT: &str = "/dev/stdin";
@@ -33,11 +41,20 @@ const IS_A_DIRECTORY: i32 = 21;
 /// How often standard input is read at one look.
 const READS: usize = 64;
 
+/// How often a client rests at the most until the share of its port is over. Each rest is as long as the share goes on by the time of day, which may be corrected
+/// meanwhile.
+const MOST_RESTS: u32 = 100;
+
+/// The first moment of a monotonic clock.
+const CLOCK_START: u64 = 0;
+
 /// What a runtime has: the files, sockets and clock that command lines run on.
 #[derive(Drop)]
 pub struct System<'a, R> {
     runtime: &'a R,
     shows_progress: bool,
+    /// The key of this host, once it was read.
+    key: Cell<Option<PairKey>>,
 }
 
 impl<'a, R> System<'a, R> {
@@ -46,6 +63,7 @@ impl<'a, R> System<'a, R> {
         System {
             runtime,
             shows_progress,
+            key: Cell::new(None),
         }
     }
 }
@@ -57,6 +75,25 @@ impl System<'_, HostRuntime> {
         now.duration_since(UNIX_EPOCH).ok()
     }
 
+    /// The same in microseconds.
+    fn moment(&self) -> Option<u64> {
+        u64::try_from(self.since_epoch()?.as_micros()).ok()
+    }
+
+    /// The key of this host.
+    fn key(&self) -> Result<PairKey, NoPair> {
+        if let Some(key) = self.key.get() {
+            return Ok(key);
+        }
+        match key_of_host(self.runtime) {
+            Ok(key) => {
+                self.key.set(Some(key));
+                Ok(key)
+            }
+            Err(_) => Err(NoPair::NoKey),
+        }
+    }
+
     /// A socket that is connected to a link, and has sent nothing.
     fn connected(&self, link: LinkAddress) -> io::Result<UdpSocket> {
         let [a, b, c, d, high, low] = link;
@@ -66,6 +103,13 @@ impl System<'_, HostRuntime> {
         socket.connect(SocketAddr::from((Ipv4Addr::new(a, b, c, d), port)))?;
         Ok(socket)
     }
+}
+
+/// A number that others do not know: the system's randomness. With it they cannot choose addresses that share a bucket.
+fn random_key<R: RandomSource>(source: &R) -> io::Result<u64> {
+    let mut octets = [0; 8];
+    source.fill_bytes(&mut octets)?;
+    Ok(u64::from_le_bytes(octets))
 }
 
 /// Whether the system says of standard input that a read does not wait: something is there, or it has ended. A file, which it has no such word of, never lets a
@@ -105,12 +149,12 @@ fn is_at_end(runtime: &HostRuntime) -> io::Result<bool> {
     Ok(false)
 }
 
-impl<R: Files> OpenFiles for System<'_, R> {
-    type File = R::File;
+impl OpenFiles for System<'_, HostRuntime> {
+    type File = File;
 
     ghost is_file = { λ _ _. ⊤ };
 
-    fn open(&self, path: &str) -> io::Result<R::File> {
+    fn open(&self, path: &str) -> io::Result<File> {
         let path = if path == "-" { STANDARD_INPUT } else { path };
         let file = fs::open(self.runtime, path)?;
         // it opens, and a read of it would fail, behind a text without its name
@@ -121,18 +165,15 @@ impl<R: Files> OpenFiles for System<'_, R> {
     }
 
     fn write(&self, path: &str, octets: &[u8]) -> io::Result<()> {
-        let mut file = fs::create(self.runtime, path)?;
-        file.write_all(octets)?;
-        file.flush()?;
-        match file.sync_all() {
-            // (a pipe or a terminal has nothing to sync)
-            Err(error) if error.kind() == ErrorKind::InvalidInput => Ok(()),
-            synced => synced,
-        }
+        replace(self.runtime, path, octets)
+    }
+
+    fn write_out(&self, path: &str, octets: &[u8]) -> io::Result<()> {
+        put_out(self.runtime, path, octets)
     }
 
     fn rename(&self, from: &str, to: &str) -> io::Result<()> {
-        fs::rename(self.runtime, from, to)
+        rename(self.runtime, from, to)
     }
 
     fn make_folder(&self, path: &str) -> io::Result<()> {
@@ -140,37 +181,64 @@ impl<R: Files> OpenFiles for System<'_, R> {
     }
 }
 
-impl<'a> Machine for System<'a, HostRuntime> {
-    type Link = UdpLink;
+impl<'a> Sockets for System<'a, HostRuntime> {
+    type Link = Guarded<UdpLink, MonotonicClock<'a, HostRuntime>>;
 
     type Timer = MonotonicClock<'a, HostRuntime>;
 
-    type Database = KeptFile;
-
-    ghost is_bound = { λ host port l address. (bound_host l ≡ host) × (bound_port l ≡ port) × (udp_address l ≡ address) };
+    ghost is_bound = { λ host port l address. (bound_host (link_below l) ≡ host) × (bound_port (link_below l) ≡ port) × (udp_address (link_below l) ≡ address) };
 
     ghost is_made = { λ c. latest_told c ≡ 0 };
 
-    ghost is_database = { λ _ is_new d. is_new ≡ true → IsClean (view d) → HasEmptyTable (view d) };
-
-    fn bind(&self, host: [u8; 4], port: u16) -> io::Result<(UdpLink, LinkAddress)> {
+    fn bind(&self, host: [u8; 4], port: u16, guard: &Guard) -> io::Result<(Self::Link, LinkAddress)>
+        ensures bound { IfOk result (λ b. (bound_host (link_below b.0) ≡ host) × (bound_port (link_below b.0) ≡ port) × (udp_address (link_below b.0) ≡ b.1)) }
+        ensures guarded { IfOk result (λ b. IsGuardedBy 0 guard.now b.0) }
+    {
+        let key = random_key(self.runtime)?;
+        let clock = MonotonicClock::new(self.runtime)?;
         let link = UdpLink::bind_at(self.runtime, host, port)?;
         let address = link.address();
-        Ok((link, address))
+        match guard.over(self.runtime.alloc(), key, CLOCK_START, link, clock) {
+            Ok(guarded) => Ok((guarded, address)),
+            Err(_) => Err(io::Error::from(ErrorKind::OutOfMemory)),
+        }
     }
 
     fn timer(&self) -> Option<MonotonicClock<'a, HostRuntime>> {
         MonotonicClock::new(self.runtime).ok()
     }
 
-    /// That of the time of day.
-    fn pair(&self) -> Option<ClientPair> {
-        let moment = u64::try_from(self.since_epoch()?.as_micros()).ok()?;
-        Some(pair_at(moment))
-    }
-
     fn time_of_day(&self) -> Option<u64> {
         u64::try_from(self.since_epoch()?.as_millis()).ok()
+    }
+}
+
+impl ClientSockets for System<'_, HostRuntime> {
+    /// That of the time of day and the key of this host.
+    fn pair(&self) -> Result<ClientPair, NoPair> {
+        let key = self.key()?;
+        match self.moment() {
+            Some(moment) => Ok(pair_at(&key, moment)),
+            None => Err(NoPair::NoClock),
+        }
+    }
+
+    fn outlast(&self, pair: ClientPair) -> bool {
+        let Ok(key) = self.key() else {
+            return false;
+        };
+        let mut is_held = false;
+        for _ in 0..MOST_RESTS {
+            let Some(moment) = self.moment() else {
+                return false;
+            };
+            if pair_at(&key, moment) != pair {
+                return is_held;
+            }
+            is_held = true;
+            thread::sleep(self.runtime, Duration::from_micros(left_at(moment)));
+        }
+        false
     }
 
     /// That of a socket that is connected to the link, which sends nothing.
@@ -189,9 +257,29 @@ impl<'a> Machine for System<'a, HostRuntime> {
             Err(error) => Some(error),
         }
     }
+}
 
-    fn open_database(&self, path: &str) -> Result<(KeptFile, bool), OpenFault> {
-        bac_keep_file::open(self.runtime, path)
+impl Databases for System<'_, HostRuntime> {
+    type Database = KeptFile;
+
+    ghost is_database = { λ _ is_new d. is_new ≡ true → IsClean (view d) → HasEmptyTable (view d) };
+
+    /// A file that is made is its owner's alone, and its log too.
+    fn open_database(&self, path: &str, loss: Loss) -> Result<(KeptFile, bool), OpenFault> {
+        let is_made = make_private(self.runtime, path);
+        match bac_keep_file::open(self.runtime, path, loss) {
+            Ok(opened) => Ok(opened),
+            Err(fault) => {
+                if is_made {
+                    remove_empty(self.runtime, path);
+                }
+                Err(fault)
+            }
+        }
+    }
+
+    fn close_database(&self, database: &mut KeptFile) -> Result<(), KeepFault> {
+        database.make_whole()
     }
 
     /// That of opening it so.
@@ -206,11 +294,15 @@ impl<'a> Machine for System<'a, HostRuntime> {
             Err(error) => Some(error),
         }
     }
+}
 
+impl StandardInput for System<'_, HostRuntime> {
     fn has_input_ended(&self) -> bool {
         is_at_end(self.runtime).unwrap_or(true)
     }
+}
 
+impl Machine for System<'_, HostRuntime> {
     fn shows_progress(&self) -> bool {
         self.shows_progress
     }

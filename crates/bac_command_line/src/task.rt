@@ -1,16 +1,14 @@
 //! What a command line asks for.
-use crate::asking::{Asking, asking_of, default_of, peer_of};
-use crate::copied::{Copied, copied_of, is_copied};
-use crate::file_task::{FileTask, FileWork, backup_of, file_task_of, work_of};
-use crate::files::{CaptureFile, ScriptFile};
-use crate::forgetting::Forgetting;
-use crate::online::Machine;
-use crate::seconds::bad_pace;
-use crate::selecting::{chart_of, options_of};
-use crate::serving::Serving;
-use crate::serving_words::serving_of;
+use crate::machine::Machine;
+use bac_asking::{
+    Asking, FileTask, FileWork, asking_of, backup_of, bad_pace, default_of, file_task_of, peer_of,
+    work_of,
+};
 use bac_explain_report::{ChartOptions, ReportOptions};
+use bac_keep_file::Loss;
 use bac_npdu::Peer;
+use bac_reading::{CaptureFile, Copied, ScriptFile, chart_of, copied_of, is_copied, options_of};
+use bac_serving::{Forgetting, Serving, serving_of};
 use bac_simulate::View;
 use bac_words::Telling;
 use clap::ArgMatches;
@@ -92,9 +90,15 @@ pub(crate) enum Task<'m, 'a> {
         path: &'a str,
     },
     /// What the file at this path keeps.
-    Keep(&'a str),
+    Keep {
+        path: &'a str,
+        loss: Loss,
+    },
     /// The same as objects of JSON.
-    KeepJson(&'a str),
+    KeepJson {
+        path: &'a str,
+        loss: Loss,
+    },
     /// That the file at a path forgets something.
     Forget(Forgetting<'a>),
     /// The request that some words are.
@@ -138,10 +142,14 @@ fn view_of(given: &ArgMatches<'_>) -> Option<View> {
 }
 
 /// The file of a capture, with the port that is given. None where no file is.
-fn capture_of<'a>(given: &ArgMatches<'a>) -> Option<CaptureFile<'a>> {
+fn capture_of<'a>(given: &ArgMatches<'a>, tells_why: bool) -> Option<CaptureFile<'a>> {
     let path = given.get_str("FILE")?;
     let port = given.get_one("port");
-    Some(CaptureFile { path, port })
+    Some(CaptureFile {
+        path,
+        port,
+        reasons: tells_why,
+    })
 }
 
 impl<'m, 'a> Task<'m, 'a> {
@@ -167,10 +175,11 @@ impl<'m, 'a> Task<'m, 'a> {
 }
 
 /// None where there is no subcommand, or its word is missing; clap refuses such words itself. Also where an address is none of IPv4. On a terminal
-/// the progress of asks is shown, and what is wrong with a line of a script.
+/// the progress of asks is shown. Where the command line tells why it fails, so does the task.
 pub(crate) fn task_of<'m, 'a>(
     matches: &'m ArgMatches<'a>,
     is_terminal: bool,
+    tells_why: bool,
 ) -> Option<Task<'m, 'a>> {
     match matches.subcommand()? {
         ("answer", given) => {
@@ -199,14 +208,16 @@ pub(crate) fn task_of<'m, 'a>(
             let in_words = given.get_flag("text");
             Some(Task::CheckLines { in_words, path })
         }
-        ("check", given) if given.get_flag("json") => Some(Task::CheckJson(capture_of(given)?)),
+        ("check", given) if given.get_flag("json") => {
+            Some(Task::CheckJson(capture_of(given, tells_why)?))
+        }
         ("check", given) => {
-            let capture = capture_of(given)?;
+            let capture = capture_of(given, tells_why)?;
             let in_words = given.get_flag("text");
             Some(Task::Check { in_words, capture })
         }
         ("explain", given) => {
-            let capture = capture_of(given)?;
+            let capture = capture_of(given, tells_why)?;
             if let Some(options) = chart_of(given) {
                 return Some(Task::Chart { options, capture });
             }
@@ -225,7 +236,7 @@ pub(crate) fn task_of<'m, 'a>(
             let script = ScriptFile {
                 path,
                 notes,
-                reasons: is_terminal || notes,
+                reasons: tells_why,
             };
             match view_of(given) {
                 Some(view) => Some(Task::Show { view, script }),
@@ -257,10 +268,15 @@ pub(crate) fn task_of<'m, 'a>(
                     property,
                 }));
             }
+            let loss = if given.get_flag("accept-loss") {
+                Loss::Accepted
+            } else {
+                Loss::Refused
+            };
             if given.get_flag("json") {
-                return Some(Task::KeepJson(path));
+                return Some(Task::KeepJson { path, loss });
             }
-            Some(Task::Keep(path))
+            Some(Task::Keep { path, loss })
         }
         ("ask", given) if bad_pace(given).is_some() => None,
         ("ask", given) => {

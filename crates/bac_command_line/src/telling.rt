@@ -6,7 +6,7 @@ use bac_words::Telling;
 use std::io::Write;
 
 /// Tells of the program. A name of no command: `no command`, and that name, on `err`.
-#[tactic(auto, using(crate::proofs::Told::failed_told))]
+#[tactic(auto, using(crate::proofs::FirstLines::failed_told))]
 pub(crate) fn tell<O: Write, E: Write>(telling: Telling<'_>, out: &mut O, err: &mut E) -> Status
     ensures { IsTold result }
 {

@@ -50,7 +50,7 @@ round_of Sees p old effects new t =
             carried = t.round.carried;
             node = t.round.node;
             buffer = t.round.buffer;
-            reuse = t.round.reuse;
+            rules = t.round.rules;
             told = t.round.told;
           };
       counted = t.counted;

@@ -7,8 +7,8 @@ use Rattle.bac_requester.specs.declared.ask_fault.AskFault.TheVariants as fault
 abbrev pub ask_fault_words : AskFault → List ℕ
 ask_fault_words fault.NoSlot = codes "no slot is free"
 ask_fault_words fault.NoInvokeId = codes "no invoke ID is free for the peer"
-ask_fault_words fault.NeedsSegments = codes "the peer takes no segments, or fewer than the request needs"
-ask_fault_words fault.TooLong = codes "the data pass 65,535 octets"
+ask_fault_words fault.NeedsSegments = codes "the peer accepts no segments, or fewer than the request needs"
+ask_fault_words fault.TooLong = codes "the data exceed 65,535 octets"
 ask_fault_words fault.SelfPeer = codes "the peer is at the node's own link"
 ask_fault_words fault.ClockBack = codes "the clock went back"
 ask_fault_words fault.NoMemory = codes "no memory"

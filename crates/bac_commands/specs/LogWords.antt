@@ -34,7 +34,7 @@ dropped_words why.NetworkMessage = codes "network message"
 
 abbrev pub cause_words : Cause → List ℕ
 cause_words (NoFrame why) = dropped_words why
-cause_words NoApdu = codes "no APDU"
+cause_words NoApdu = codes "invalid APDU"
 cause_words OwnLink = codes "from its own link"
 
 -- ---- what came

@@ -26,7 +26,7 @@ pub(crate) fn cause_words(alloc: Global, cause: &Cause) -> Result<String, AllocE
         Cause::Npdu(fault) => layer_words(alloc, "npdu", *fault),
         Cause::Routed => String::from_str(alloc, "to be routed"),
         Cause::NetworkMessage => String::from_str(alloc, "network message"),
-        Cause::Apdu => String::from_str(alloc, "no APDU"),
+        Cause::Apdu => String::from_str(alloc, "invalid APDU"),
         Cause::OwnLink => String::from_str(alloc, "from its own link"),
     }
 }

@@ -11,8 +11,8 @@ pub fn ask_fault_words(fault: AskFault) -> &'static str
     match fault {
         AskFault::ClockBack => "the clock went back",
         AskFault::SelfPeer => "the peer is at the node's own link",
-        AskFault::TooLong => "the data pass 65,535 octets",
-        AskFault::NeedsSegments => "the peer takes no segments, or fewer than the request needs",
+        AskFault::TooLong => "the data exceed 65,535 octets",
+        AskFault::NeedsSegments => "the peer accepts no segments, or fewer than the request needs",
         AskFault::NoInvokeId => "no invoke ID is free for the peer",
         AskFault::NoSlot => "no slot is free",
         AskFault::NoMemory => "no memory",

@@ -12,7 +12,7 @@ pub use bac_driver::{
     AskEnd, BoundNode, Clock, Link, LinkFault, MonotonicClock, NoObserver, Observer, Question,
     RunLimit, Turn, TurnFault, UdpLink, WaitLimit, pair, sends_of,
 };
-pub use bac_node::{Cause, Config, MEMORY, NewNodeFault, Node, NodeFault, Outcome, Reuse};
+pub use bac_node::{Cause, Config, MEMORY, NewNodeFault, Node, NodeFault, Outcome};
 pub use bac_npdu::{Address, LinkAddress, Peer, Route};
 pub use bac_requester::{AskFault, Asked, Ended, Ending};
 pub use bac_responder::{Act, Effect};
@@ -24,6 +24,7 @@ pub use bac_service::{
 pub use bac_store::{
     Change, ChangeFault, FILE_LIMIT, File, Object, Property, Store, StoreFault, VALUE_LIMIT, house,
 };
+pub use bac_transaction::{ReadRule, Rules};
 pub use bac_value::{
     BitString, CharacterString, Data, DataBuf, NoMemory, ObjectIdentifier, OctetString, Value,
 };

@@ -5,10 +5,12 @@ use Rattle.bac_protocol.specs.Service.{Octets}
 use Rattle.bac_protocol.specs.Wire.{is_from_client}
 use Rattle.bac_store.specs.Stores.{Store}
 use Rattle.bac_transaction.specs.Ends.{Act}
-use Rattle.bac_world.specs.Node.{IsHeardBy, Node, NodeOn, Outcome}
-use Rattle.bac_node.specs.Remembering.{IsHeardRememberingBy, NodeHearsBy, NodeRemembering}
-use Rattle.bac_node.specs.declared.reuse.Reuse.{Reuse}
-use Rattle.bac_node.specs.declared.reuse.Reuse.TheVariants as reuse_of
+use Rattle.bac_apdu.specs.Apdu.{Apdu}
+use Rattle.bac_npdu.specs.Peers.{PeerView}
+use Rattle.bac_world.specs.Node.{Node, Outcome}
+use Rattle.bac_node.specs.Serving.{IsHeardSoBy, NodeHearsBy, NodeServes}
+use Rattle.bac_transaction.specs.Views.{rules_view}
+use Rattle.bac_transaction.specs.declared.rules.Rules.{Rules}
 use Rattle.bac_world.specs.Services.{ArePerformed, Performed, store_after}
 use Rattle.bac_driver.specs.Rounds.{HoldsTurnFrom, IsReplied}
 use Rattle.bac_driver.specs.Runs.{Timed}
@@ -26,67 +28,46 @@ are_replied s (Some a) (Some p) performed = record { reply = performed.what.repl
 
 -- ---- a datagram
 
-store_on : (now : ℕ) (from octets : Octets) (old new : Node) (o : Outcome) → NodeOn now from octets old new o → new.store ≡ store_after old.store o.performed
-store_on now from octets old new o (inl d) =
-    ap (λ (n : Node). n.store) d.node ∙ sym (ap (λ (x : Outcome). store_after old.store x.performed) d.outcome)
-store_on now from octets old new o (inr z) = go (is_from_client z.apdu) z.heard
-  where
-    go : (server : Bool) → IsHeardBy server z.peer z.apdu now old new o → new.store ≡ store_after old.store o.performed
-    go true turn = ap (λ (n : Node). n.store) turn.node
-    go false turn = ap (λ (n : Node). n.store) turn.node ∙ sym (ap (store_after old.store) turn.performed)
-
-store_reusing : (remember now : ℕ) (from octets : Octets) (old new : Node) (o : Outcome) → NodeRemembering remember now from octets old new o
+store_hears : (rules : Rules) (now : ℕ) (from octets : Octets) (old new : Node) (o : Outcome) → NodeHearsBy (rules_view rules) now from octets old new o
     → new.store ≡ store_after old.store o.performed
-store_reusing remember now from octets old new o (inl d) =
-    ap (λ (n : Node). n.store) d.node ∙ sym (ap (λ (x : Outcome). store_after old.store x.performed) d.outcome)
-store_reusing remember now from octets old new o (inr z) = go (is_from_client z.apdu) z.heard
+store_hears rules now from octets old new o hears = go hears.serves
   where
-    go : (server : Bool) → IsHeardRememberingBy remember server z.peer z.apdu now old new o → new.store ≡ store_after old.store o.performed
-    go true turn = ap (λ (n : Node). n.store) turn.node
-    go false turn = ap (λ (n : Node). n.store) turn.node ∙ sym (ap (store_after old.store) turn.performed)
+    by : (away : Bool) (server : Bool) (peer : PeerView) (a : Apdu) → IsHeardSoBy (rules_view rules) away server peer a now old new o
+        → new.store ≡ store_after old.store o.performed
+    by away true peer a served = ap (λ (n : Node). n.store) served.turn.node
+    by away false peer a turn = ap (λ (n : Node). n.store) turn.0.node ∙ sym (ap (store_after old.store) turn.0.performed)
 
--- of a node of any setting
-store_hears : (reuse : Reuse) (now : ℕ) (from octets : Octets) (old new : Node) (o : Outcome) → NodeHearsBy reuse now from octets old new o
-    → new.store ≡ store_after old.store o.performed
-store_hears (reuse_of.Remembering remember) now from octets old new o hears = store_reusing remember now from octets old new o hears
-store_hears reuse_of.Never now from octets old new o hears = store_on now from octets old new o hears
+    go : NodeServes (rules_view rules) hears.away now from octets old new o → new.store ≡ store_after old.store o.performed
+    go (inl d) = ap (λ (n : Node). n.store) d.0.node ∙ sym (ap (λ (x : Outcome). store_after old.store x.performed) d.0.outcome)
+    go (inr z) = by hears.away (is_from_client z.apdu) z.peer z.apdu z.heard
 
-replied_on : (now : ℕ) (from octets : Octets) (old new : Node) (o : Outcome) → NodeOn now from octets old new o → IfSome o.performed (IsReplied old.store)
-replied_on now from octets old new o (inl d) = none_replied old.store o.performed (ap (λ (x : Outcome). x.performed) d.outcome)
-replied_on now from octets old new o (inr z) = go (is_from_client z.apdu) z.heard
-  where
-    go : (server : Bool) → IsHeardBy server z.peer z.apdu now old new o → IfSome o.performed (IsReplied old.store)
-    go true turn = are_replied old.store _ o.performed turn.performed
-    go false turn = none_replied old.store o.performed turn.performed
-
-replied_reusing : (remember now : ℕ) (from octets : Octets) (old new : Node) (o : Outcome) → NodeRemembering remember now from octets old new o
+replied_hears : (rules : Rules) (now : ℕ) (from octets : Octets) (old new : Node) (o : Outcome) → NodeHearsBy (rules_view rules) now from octets old new o
     → IfSome o.performed (IsReplied old.store)
-replied_reusing remember now from octets old new o (inl d) = none_replied old.store o.performed (ap (λ (x : Outcome). x.performed) d.outcome)
-replied_reusing remember now from octets old new o (inr z) = go (is_from_client z.apdu) z.heard
+replied_hears rules now from octets old new o hears = go hears.serves
   where
-    go : (server : Bool) → IsHeardRememberingBy remember server z.peer z.apdu now old new o → IfSome o.performed (IsReplied old.store)
-    go true turn = are_replied old.store _ o.performed turn.performed
-    go false turn = none_replied old.store o.performed turn.performed
+    by : (away : Bool) (server : Bool) (peer : PeerView) (a : Apdu) → IsHeardSoBy (rules_view rules) away server peer a now old new o
+        → IfSome o.performed (IsReplied old.store)
+    by away true peer a served = are_replied old.store _ o.performed served.turn.performed
+    by away false peer a turn = none_replied old.store o.performed turn.0.performed
 
-replied_hears : (reuse : Reuse) (now : ℕ) (from octets : Octets) (old new : Node) (o : Outcome) → NodeHearsBy reuse now from octets old new o
-    → IfSome o.performed (IsReplied old.store)
-replied_hears (reuse_of.Remembering remember) now from octets old new o hears = replied_reusing remember now from octets old new o hears
-replied_hears reuse_of.Never now from octets old new o hears = replied_on now from octets old new o hears
+    go : NodeServes (rules_view rules) hears.away now from octets old new o → IfSome o.performed (IsReplied old.store)
+    go (inl d) = none_replied old.store o.performed (ap (λ (x : Outcome). x.performed) d.0.outcome)
+    go (inr z) = by hears.away (is_from_client z.apdu) z.peer z.apdu z.heard
 
 -- ---- both steps
 
-store_heard : (reuse : Reuse) (now : ℕ) (buffer : Octets) (came : Option (Octets × ℕ)) (old new : Node) (heard : Option Outcome)
-    → Hears reuse now buffer came old new heard → new.store ≡ store_after old.store (performed_of heard)
-store_heard reuse now buffer None old new heard hears =
+store_heard : (rules : Rules) (now : ℕ) (buffer : Octets) (came : Option (Octets × ℕ)) (old new : Node) (heard : Option Outcome)
+    → Hears rules now buffer came old new heard → new.store ≡ store_after old.store (performed_of heard)
+store_heard rules now buffer None old new heard hears =
     ap (λ (n : Node). n.store) hears.1 ∙ sym (ap (λ (h : Option Outcome). store_after old.store (performed_of h)) hears.0)
-store_heard reuse now buffer (Some d) old new None hears = ap (λ (n : Node). n.store) hears.same
-store_heard reuse now buffer (Some d) old new (Some o) hears = store_hears reuse now d.0 (take d.1 buffer) old new o hears
+store_heard rules now buffer (Some d) old new None hears = ap (λ (n : Node). n.store) hears.same
+store_heard rules now buffer (Some d) old new (Some o) hears = store_hears rules now d.0 (take d.1 buffer) old new o hears
 
-replied_heard : (reuse : Reuse) (now : ℕ) (buffer : Octets) (came : Option (Octets × ℕ)) (old new : Node) (heard : Option Outcome)
-    → Hears reuse now buffer came old new heard → IfSome (performed_of heard) (IsReplied old.store)
-replied_heard reuse now buffer None old new heard hears = none_replied old.store (performed_of heard) (ap performed_of hears.0)
-replied_heard reuse now buffer (Some d) old new None hears = tt
-replied_heard reuse now buffer (Some d) old new (Some o) hears = replied_hears reuse now d.0 (take d.1 buffer) old new o hears
+replied_heard : (rules : Rules) (now : ℕ) (buffer : Octets) (came : Option (Octets × ℕ)) (old new : Node) (heard : Option Outcome)
+    → Hears rules now buffer came old new heard → IfSome (performed_of heard) (IsReplied old.store)
+replied_heard rules now buffer None old new heard hears = none_replied old.store (performed_of heard) (ap performed_of hears.0)
+replied_heard rules now buffer (Some d) old new None hears = tt
+replied_heard rules now buffer (Some d) old new (Some o) hears = replied_hears rules now d.0 (take d.1 buffer) old new o hears
 
 store_ticked : (now : ℕ) (old new : Node) (ticked : Option Outcome) → Ticks now old new ticked → new.store ≡ old.store
 store_ticked now old new None ticks = ap (λ (n : Node). n.store) ticks.same
@@ -98,11 +79,11 @@ pub store_held : (began : ℕ) (p : WaitLimit) (turn : Turn) (old new : Timed) �
     → new.bound_node.node.store ≡ store_after old.bound_node.node.store (performed_of turn.heard)
 store_held began p turn old new holds =
     store_ticked _ holds.takes.middle new.bound_node.node turn.ticked holds.takes.ticks
-    ∙ store_heard holds.middle.reuse _ _ turn.received holds.middle.node holds.takes.middle turn.heard holds.takes.hears
+    ∙ store_heard holds.middle.rules _ _ turn.received holds.middle.node holds.takes.middle turn.heard holds.takes.hears
     ∙ ap (λ (n : Node). store_after n.store (performed_of turn.heard)) holds.receives.node
 
 pub replied_held : (began : ℕ) (p : WaitLimit) (turn : Turn) (old new : Timed) → HoldsTurnFrom began p old turn new
     → IfSome (performed_of turn.heard) (IsReplied old.bound_node.node.store)
 replied_held began p turn old new holds =
     subst (λ (n : Node). IfSome (performed_of turn.heard) (IsReplied n.store)) holds.receives.node
-    (replied_heard holds.middle.reuse _ _ turn.received holds.middle.node holds.takes.middle turn.heard holds.takes.hears)
+    (replied_heard holds.middle.rules _ _ turn.received holds.middle.node holds.takes.middle turn.heard holds.takes.hears)

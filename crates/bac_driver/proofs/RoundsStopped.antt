@@ -38,7 +38,7 @@ pub first_stops : (e : RoundFault) (p : WaitLimit) (began : ℕ) (old new : Time
     → TurnStops e began p (timed old.bound_node told) new → FirstStops e p old new
 first_stops round.Link p began old new told early told_is stops =
     let fails = stops.1 in
-    record { now = began; told = fails.told ∙ told_is; timely = stops.0; node = fails.node; count = fails.count; calls = fails.calls; reuse = fails.reuse }
+    record { now = began; told = fails.told ∙ told_is; timely = stops.0; node = fails.node; count = fails.count; calls = fails.calls; rules = fails.rules }
 first_stops round.ClockBack p began old new told early told_is stops =
     record {
       now = began;

@@ -121,9 +121,9 @@ pub round_taken : {S : Type 0} (Sees : Watcher S) (p : WaitLimit) (first turns s
     (middle new : Timed) (state : S) → HoldsOne Sees p first old begun → HoldsMore Sees first turns begun (observed middle state) → length turns ≤ ROUND
     → sent ≡ turns
     → IsCarried (sends_of_all sent) lost middle.bound_node new.bound_node → new.bound_node.node ≡ middle.bound_node.node
-    → new.bound_node.buffer ≡ middle.bound_node.buffer → new.bound_node.reuse ≡ middle.bound_node.reuse → new.told ≡ middle.told
+    → new.bound_node.buffer ≡ middle.bound_node.buffer → new.bound_node.rules ≡ middle.bound_node.rules → new.told ≡ middle.told
     → effects ≡ performed_in sent → TakesRound Sees p old effects (observed new state)
-round_taken Sees p first turns sent effects lost old begun middle new state one more few is carried node buffer reuse told counted =
+round_taken Sees p first turns sent effects lost old begun middle new state one more few is carried node buffer rules told counted =
     record {
       turns = turns;
       round =
@@ -143,7 +143,7 @@ round_taken Sees p first turns sent effects lost old begun middle new state one 
             carried = subst (λ (ts : List Turn). IsCarried (sends_of_all ts) lost middle.bound_node new.bound_node) is carried;
             node = node;
             buffer = buffer;
-            reuse = reuse;
+            rules = rules;
             told = told;
           };
       counted = counted ∙ ap performed_in is;

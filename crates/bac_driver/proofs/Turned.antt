@@ -1,14 +1,16 @@
 -- A turn, of its two parts.
-use Rattle.std.proofs.Common.{◌≡◌, ℕ, ◌+◌, ◌<◌, ◌≤◌, min, Bool, true, false, inl, inr, List, [], ◌∷◌, ◌++◌, map, take, length, get_or}
+use Rattle.std.proofs.Common.{◌≡◌, ℕ, ◌+◌, ◌<◌, ◌≤◌, min, Bool, true, false, inl, inr, Option, Some, None, List, [], ◌∷◌, ◌++◌, map, take, length, get_or}
 use Rattle.std.proofs.Common.{ap, sym, subst, ◌∙◌, arith, append_assoc, length-append}
 use Rattle.std.proofs.lemmas.List.{append-nil, map-append, take_more}
 use Rattle.bac_protocol.specs.Service.{Octets}
 use Rattle.bac_protocol.specs.Wire.{is_from_client}
-use Rattle.bac_world.specs.Node.{IsHeardBy, Node, NodeOn, Outcome}
-use Rattle.bac_node.specs.Memory.{KeepsWithin, kept_octets}
-use Rattle.bac_node.specs.Remembering.{IsHeardRememberingBy, NodeHearsBy, NodeRemembering}
-use Rattle.bac_node.specs.declared.reuse.Reuse.{Reuse}
-use Rattle.bac_node.specs.declared.reuse.Reuse.TheVariants as reuse_of
+use Rattle.bac_apdu.specs.Apdu.{Apdu}
+use Rattle.bac_npdu.specs.Peers.{PeerView}
+use Rattle.bac_world.specs.Node.{Node, Outcome}
+use Rattle.bac_node.specs.Memory.{IsWithin, kept_octets}
+use Rattle.bac_node.specs.Serving.{IsHeardSoBy, NodeHearsBy, NodeServes}
+use Rattle.bac_transaction.specs.Views.{rules_view}
+use Rattle.bac_transaction.specs.declared.rules.Rules.{Rules}
 use Rattle.bac_transaction.specs.Sends.{Datagram}
 use Rattle.bac_driver.specs.Calls.{Calls, MOST}
 use Rattle.bac_driver.specs.BoundNodes.{BoundNode}
@@ -17,31 +19,21 @@ use Rattle.bac_driver.specs.Turns.{Acts, Hears, Ticks, Turn, call_of, counted, w
 use Rattle.bac_driver.proofs.Counts.{counted_both, with_more}
 
 -- a datagram that comes at a moment leaves the latest one of the node no later
-on_in_time : (now : ℕ) (from octets : Octets) (old new : Node) (o : Outcome) → NodeOn now from octets old new o → new.latest ≤ now
-on_in_time now from octets old new o (inl d) = subst (λ (n : Node). n.latest ≤ now) (sym d.node) (omega arith)
-on_in_time now from octets old new o (inr z) = go (is_from_client z.apdu) z.heard
+pub heard_in_time : (rules : Rules) (now : ℕ) (from octets : Octets) (old new : Node) (o : Outcome) → NodeHearsBy (rules_view rules) now from octets old new o → new.latest ≤ now
+heard_in_time rules now from octets old new o hears = go hears.serves
   where
-    go : (server : Bool) → IsHeardBy server z.peer z.apdu now old new o → new.latest ≤ now
-    go true turn = subst (λ (n : Node). n.latest ≤ now) (sym turn.node) (omega arith)
-    go false turn = subst (λ (n : Node). n.latest ≤ now) (sym turn.node) (omega arith)
+    by : (away : Bool) (server : Bool) (peer : PeerView) (a : Apdu) → IsHeardSoBy (rules_view rules) away server peer a now old new o → new.latest ≤ now
+    by away true peer a served = subst (λ (n : Node). n.latest ≤ now) (sym served.turn.node) (omega arith)
+    by away false peer a turn = subst (λ (n : Node). n.latest ≤ now) (sym turn.0.node) (omega arith)
 
--- nor where clients may use invoke IDs again
-reusing_in_time : (remember now : ℕ) (from octets : Octets) (old new : Node) (o : Outcome) → NodeRemembering remember now from octets old new o → new.latest ≤ now
-reusing_in_time remember now from octets old new o (inl d) = subst (λ (n : Node). n.latest ≤ now) (sym d.node) (omega arith)
-reusing_in_time remember now from octets old new o (inr z) = go (is_from_client z.apdu) z.heard
-  where
-    go : (server : Bool) → IsHeardRememberingBy remember server z.peer z.apdu now old new o → new.latest ≤ now
-    go true turn = subst (λ (n : Node). n.latest ≤ now) (sym turn.node) (omega arith)
-    go false turn = subst (λ (n : Node). n.latest ≤ now) (sym turn.node) (omega arith)
-
-pub heard_in_time : (reuse : Reuse) (now : ℕ) (from octets : Octets) (old new : Node) (o : Outcome) → NodeHearsBy reuse now from octets old new o
-    → new.latest ≤ now
-heard_in_time (reuse_of.Remembering remember) now from octets old new o hears = reusing_in_time remember now from octets old new o hears
-heard_in_time reuse_of.Never now from octets old new o hears = on_in_time now from octets old new o hears
+    go : NodeServes (rules_view rules) hears.away now from octets old new o → new.latest ≤ now
+    go (inl d) = subst (λ (n : Node). n.latest ≤ now) (sym d.0.node) (omega arith)
+    go (inr z) = by hears.away (is_from_client z.apdu) z.peer z.apdu z.heard
 
 -- where nothing changed, its server's end keeps as much
-pub stays_within : (memory : ℕ) (old new : Node) → new ≡ old → KeepsWithin memory old new
-stays_within memory old new same = let all = ap kept_octets same in omega (arith, all)
+pub stays_within : (memory : Option ℕ) (old new : Node) → new ≡ old → IsWithin memory old new
+stays_within None old new same = tt
+stays_within (Some memory) old new same = let all = ap kept_octets same in omega (arith, all)
 
 -- what a step sends goes to the link
 pub record IsSentBy (sends : List Datagram) (lost : ℕ) (failures after : ℕ) (calls calls_after : Calls) : Type 0 where
@@ -90,27 +82,27 @@ one_more_sent view turns i turn lost more now f g h l m n within is sends after 
 
 -- what the node makes of what had come, over the octets that the bound node had in its buffer
 pub taken : (now : ℕ) (seen : Octets) (before old new : BoundNode) (middle : Node) (turn : Turn) → before ≡ old → seen ≡ before.buffer → turn.at ≡ now
-    → turn.lost ≡ 0 → new.calls ≡ before.calls → new.failures ≡ before.failures → new.buffer ≡ before.buffer → new.reuse ≡ before.reuse
-    → Hears before.reuse now seen turn.received before.node middle turn.heard → Ticks now middle new.node turn.ticked → IsTaken now old turn new
-taken now seen before old new middle turn is seen_is at none calls failures same reuse hears ticks =
+    → turn.lost ≡ 0 → new.calls ≡ before.calls → new.failures ≡ before.failures → new.buffer ≡ before.buffer → new.rules ≡ before.rules
+    → Hears before.rules now seen turn.received before.node middle turn.heard → Ticks now middle new.node turn.ticked → IsTaken now old turn new
+taken now seen before old new middle turn is seen_is at none calls failures same rules hears ticks =
     subst (λ (o : BoundNode). IsTaken now o turn new) is
     (record {
       at = at;
       middle = middle;
-      hears = subst (λ (b : Octets). Hears before.reuse now b turn.received before.node middle turn.heard) seen_is hears;
+      hears = subst (λ (b : Octets). Hears before.rules now b turn.received before.node middle turn.heard) seen_is hears;
       ticks = ticks;
       lost = none;
       calls = calls;
       failures = failures;
       buffer = same;
-      reuse = reuse;
+      rules = rules;
     })
 
 -- a turn that sends then what it sends, from a bound node that is so after both steps
 pub acted : (now : ℕ) (old middle before new : BoundNode) (turn sent : Turn) (lost : ℕ) → before ≡ middle → IsTaken now old turn middle
-    → sent ≡ record turn { lost = lost } → new.node ≡ before.node → new.buffer ≡ before.buffer → new.reuse ≡ before.reuse
+    → sent ≡ record turn { lost = lost } → new.node ≡ before.node → new.buffer ≡ before.buffer → new.rules ≡ before.rules
     → IsSentBy (sends_in turn) lost before.failures new.failures before.calls new.calls → Acts now old sent new
-acted now old middle before new turn sent lost same taken is node buffer reuse sends =
+acted now old middle before new turn sent lost same taken is node buffer rules sends =
     let takes = subst (λ (m : BoundNode). IsTaken now old turn m) (sym same) taken in
     subst (λ (t : Turn). Acts now old t new) (sym is)
     (record {
@@ -125,5 +117,5 @@ acted now old middle before new turn sent lost same taken is node buffer reuse s
             most = sends.most;
           };
       buffer = buffer ∙ takes.buffer;
-      reuse = reuse ∙ takes.reuse;
+      rules = rules ∙ takes.rules;
     })

@@ -40,7 +40,7 @@ pub record IsBegun (now : ℕ) (q : Question) (old : BoundNode) (ticket : ℕ) (
   pub lost : ℕ
   pub carried : IsCarried sends lost old new
   pub buffer : new.buffer ≡ old.buffer
-  pub reuse : new.reuse ≡ old.reuse
+  pub rules : new.rules ≡ old.rules
 
 -- the same at the moment of the clock
 pub record Asks (q : Question) (old : Timed) (ticket : ℕ) (new : Timed) : Type 0 where

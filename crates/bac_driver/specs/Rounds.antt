@@ -70,13 +70,13 @@ sends_of_all (turn ∷ turns) = sends_in turn ++ sends_of_all turns
 pub record IsTaken (now : ℕ) (old : BoundNode) (turn : Turn) (new : BoundNode) : Type 0 where
   pub at : turn.at ≡ now
   pub middle : Node
-  pub hears : Hears old.reuse now old.buffer turn.received old.node middle turn.heard
+  pub hears : Hears old.rules now old.buffer turn.received old.node middle turn.heard
   pub ticks : Ticks now middle new.node turn.ticked
   pub lost : turn.lost ≡ 0
   pub calls : new.calls ≡ old.calls
   pub failures : new.failures ≡ old.failures
   pub buffer : new.buffer ≡ old.buffer
-  pub reuse : new.reuse ≡ old.reuse
+  pub rules : new.rules ≡ old.rules
 
 -- a turn that began at a moment, not before the node's latest one; after the call to receive the clock gave another moment, and the node acted at the later of
 -- both; nothing was sent
@@ -131,7 +131,7 @@ pub record IsRound {S : Type 0} (Sees : Watcher S) (p : WaitLimit) (turns : List
   pub carried : IsCarried (sends_of_all turns) lost middle.bound_node new.timed.bound_node
   pub node : new.timed.bound_node.node ≡ middle.bound_node.node
   pub buffer : new.timed.bound_node.buffer ≡ middle.bound_node.buffer
-  pub reuse : new.timed.bound_node.reuse ≡ middle.bound_node.reuse
+  pub rules : new.timed.bound_node.rules ≡ middle.bound_node.rules
   pub told : new.timed.told ≡ middle.told
 
 -- so many requests were performed in it
@@ -159,7 +159,7 @@ pub record LinkFails (old new : Timed) : Type 0 where
   pub node : new.bound_node.node ≡ old.bound_node.node
   pub count : new.bound_node.failures ≡ one_more old.bound_node.failures
   pub calls : new.bound_node.calls ≡ with_call old.bound_node.calls FailedReceive
-  pub reuse : new.bound_node.reuse ≡ old.bound_node.reuse
+  pub rules : new.bound_node.rules ≡ old.bound_node.rules
 
 -- why a turn was not held that was to begin at that moment
 abbrev pub HoldFails : TurnFault → (began : ℕ) → (old new : Timed) → Type 0

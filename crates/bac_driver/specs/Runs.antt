@@ -52,7 +52,7 @@ pub record CannotReceive (old new : Timed) : Type 0 where
   pub node : new.bound_node.node ≡ old.bound_node.node
   pub count : new.bound_node.failures ≡ one_more old.bound_node.failures
   pub calls : new.bound_node.calls ≡ with_call old.bound_node.calls FailedReceive
-  pub reuse : new.bound_node.reuse ≡ old.bound_node.reuse
+  pub rules : new.bound_node.rules ≡ old.bound_node.rules
 
 -- the clock gave a moment before the latest one of the node; nothing else has changed
 pub record GoesBack (old new : Timed) : Type 0 where

@@ -9,8 +9,9 @@ use Rattle.bac_driver.specs.Calls.Call.{Send}
 use Rattle.bac_world.specs.Node.{Cause, Node, Outcome, NodeTick}
 use Rattle.bac_world.specs.Services.{Performed}
 use Rattle.bac_node.specs.Calls.{IsForNoneOpen, IsNotHeard}
-use Rattle.bac_node.specs.Remembering.{NodeHearsBy}
-use Rattle.bac_node.specs.declared.reuse.Reuse.{Reuse}
+use Rattle.bac_node.specs.Serving.{NodeHearsBy}
+use Rattle.bac_transaction.specs.Views.{rules_view}
+use Rattle.bac_transaction.specs.declared.rules.Rules.{Rules}
 use Rattle.bac_node.specs.Waiting.{IsDueBy}
 use Rattle.bac_requester.specs.Timers.{LAST_MOMENT}
 use Rattle.bac_driver.specs.BoundNodes.{BoundNode}
@@ -68,14 +69,14 @@ pub record IsUnheard (from octets : Octets) (old new : Node) : Type 0 where
   pub same : new ≡ old
 
 -- the node takes a datagram, or drops it
-abbrev pub HearsOne : (reuse : Reuse) → (now : ℕ) → (from octets : Octets) → (old new : Node) → (heard : Option Outcome) → Type 0
-HearsOne reuse now from octets old new None = IsUnheard from octets old new
-HearsOne reuse now from octets old new (Some o) = NodeHearsBy reuse now from octets old new o
+abbrev pub HearsOne : (rules : Rules) → (now : ℕ) → (from octets : Octets) → (old new : Node) → (heard : Option Outcome) → Type 0
+HearsOne rules now from octets old new None = IsUnheard from octets old new
+HearsOne rules now from octets old new (Some o) = NodeHearsBy (rules_view rules) now from octets old new o
 
 -- the one that came, if one did; its octets are the first of the buffer
-abbrev pub Hears : (reuse : Reuse) → (now : ℕ) → (buffer : Octets) → (came : Option (Octets × ℕ)) → (old new : Node) → (heard : Option Outcome) → Type 0
-Hears reuse now buffer None old new heard = (heard ≡ None) × (new ≡ old)
-Hears reuse now buffer (Some d) old new heard = HearsOne reuse now d.0 (take d.1 buffer) old new heard
+abbrev pub Hears : (rules : Rules) → (now : ℕ) → (buffer : Octets) → (came : Option (Octets × ℕ)) → (old new : Node) → (heard : Option Outcome) → Type 0
+Hears rules now buffer None old new heard = (heard ≡ None) × (new ≡ old)
+Hears rules now buffer (Some d) old new heard = HearsOne rules now d.0 (take d.1 buffer) old new heard
 
 -- a tick failed to allocate, and nothing has changed: so it may be where something is due
 pub record IsUnticked (now : ℕ) (old new : Node) : Type 0 where
@@ -117,17 +118,17 @@ pub record Receives (p : WaitLimit) (now : ℕ) (old : BoundNode) (came : Option
   pub told : new.calls ≡ with_call old.calls (received wait new.buffer (Ok came))
   pub count : new.failures ≡ old.failures
   pub node : new.node ≡ old.node
-  pub reuse : new.reuse ≡ old.reuse
+  pub rules : new.rules ≡ old.rules
 
 -- the node took what had come and did all that was due, and what it sent went to the link
 pub record Acts (now : ℕ) (old : BoundNode) (turn : Turn) (new : BoundNode) : Type 0 where
   pub at : turn.at ≡ now
   pub middle : Node
-  pub hears : Hears old.reuse now old.buffer turn.received old.node middle turn.heard
+  pub hears : Hears old.rules now old.buffer turn.received old.node middle turn.heard
   pub ticks : Ticks now middle new.node turn.ticked
   pub carried : IsCarried (sends_of turn.heard ++ sends_of turn.ticked) turn.lost old new
   pub buffer : new.buffer ≡ old.buffer
-  pub reuse : new.reuse ≡ old.reuse
+  pub rules : new.rules ≡ old.rules
 
 -- both, one after the other, each at its moment
 pub record IsTurn (p : WaitLimit) (began now : ℕ) (old : BoundNode) (turn : Turn) (new : BoundNode) : Type 0 where

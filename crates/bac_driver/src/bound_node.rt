@@ -7,7 +7,6 @@ ghost use Rattle.bac_transaction.specs.Ends.{is_slot_live};
 ghost use Rattle.bac_driver.specs.Calls.{one_more, with_call};
 ghost use Rattle.bac_driver.specs.Calls.Call.{FailedReceive};
 ghost use Rattle.bac_node.specs.Calls.{Refuses};
-ghost use Rattle.bac_node.specs.Remembering.{as_ever, is_reusing};
 ghost use Rattle.bac_driver.specs.BoundNodes.{BUFFER};
 ghost use Rattle.bac_driver.specs.Rounds.{IsTaken, OnlyReceives, sends_of_all};
 ghost use Rattle.bac_driver.specs.Turns.{Acts, IsCarried, IsTurn, Receives};
@@ -26,9 +25,10 @@ use crate::step::{on_due, on_received};
 use crate::turn::{Received, Turn};
 use crate::wait_limit::{WaitLimit, wait_until};
 use crate::{Clock, Link};
-use bac_node::{MEMORY, Node, Reuse};
+use bac_node::Node;
 use bac_requester::AskFault;
 use bac_store::{Change, ChangeFault};
+use bac_transaction::Rules;
 use bac_value::NoMemory;
 use std::alloc::Global;
 use std::marker::Model;
@@ -46,9 +46,7 @@ pub struct BoundNode<L: Link> {
     node: Node,
     link: L,
     buffer: Vec<u8>,
-    reuse: Reuse,
-    // how many octets its server's end may keep; contracts see nothing of it
-    memory: usize,
+    rules: Rules,
 }
 
 impl<L: Link> Model for BoundNode<L> {
@@ -57,19 +55,19 @@ impl<L: Link> Model for BoundNode<L> {
 
     ghost Value = { stations.BoundNode };
 
-    ghost view = { λ s. record { node = s.node; failures = L.failures s.link; calls = L.calls s.link; buffer = s.buffer.items; reuse = s.reuse } };
+    ghost view = { λ s. record { node = s.node; failures = L.failures s.link; calls = L.calls s.link; buffer = s.buffer.items; rules = s.rules } };
 
     ghost invariant = { λ s. length s.buffer.items ≡ stations.BUFFER };
 }
 
 impl<L: Link> BoundNode<L> {
-    /// Binds a node to a link. It does not let clients use invoke IDs again ([`set_reuse`](BoundNode::set_reuse)). `NoMemory` where the buffer can't be
+    /// Binds a node to a link. It takes all datagrams by these rules, as [`Node::hear`](bac_node::Node::hear) does. `NoMemory` where the buffer can't be
     /// allocated.
-    pub fn new(alloc: Global, node: Node, link: L) -> Result<BoundNode<L>, NoMemory>
+    pub fn new(alloc: Global, node: Node, link: L, rules: Rules) -> Result<BoundNode<L>, NoMemory>
         ensures node { IfOk result (λ s. s.node ≡ node) }
         ensures failures { IfOk result (λ s. s.failures ≡ L.failures link) }
         ensures calls { IfOk result (λ s. s.calls ≡ L.calls link) }
-        ensures reuse { IfOk result (λ s. s.reuse ≡ Reuse.Never) }
+        ensures rules { IfOk result (λ s. s.rules ≡ rules) }
     {
         let mut buffer = Vec::new(alloc);
         buffer.resize(BUFFER, 0)?;
@@ -77,43 +75,22 @@ impl<L: Link> BoundNode<L> {
             node,
             link,
             buffer,
-            reuse: Reuse::Never,
-            memory: MEMORY,
+            rules,
         })
     }
 
-    /// Sets whether its node lets clients use an invoke ID again as soon as its transaction is over (clause 5.4): where `reuse` is true, it takes datagrams as
-    /// [`Node::on_reusing`](bac_node::Node::on_reusing) does, otherwise as [`Node::on`](bac_node::Node::on). Call it before the first turn, and keep the
-    /// setting: a node takes all its datagrams one way.
-    pub fn set_reuse(&mut self, reuse: bool)
-        ensures { self.new ≡ record self.old { reuse = as_ever reuse } }
+    /// Sets the rules anew. Call it before the first turn: a node takes all its datagrams by the same rules.
+    pub fn set_rules(&mut self, rules: Rules)
+        ensures { self.new ≡ record self.old { rules = rules } }
     {
-        self.reuse = Reuse::of(reuse);
+        self.rules = rules;
     }
 
-    /// As `set_reuse` of true, of a node that remembers a request no longer than so many milliseconds from its beginning on, once it is over: an equal one gets
-    /// the kept reply only so long, and is then performed again. It is for clients that ask everything under one invoke ID. No request is remembered for more than
-    /// 65,000 ms, which is what `set_reuse` sets.
-    pub fn set_remember(&mut self, remember: u64)
-        ensures { self.new ≡ record self.old { reuse = Reuse.Remembering remember } }
+    /// The rules by which its node serves.
+    pub fn rules(&self) -> Rules
+        ensures { result ≡ self.now.rules }
     {
-        self.reuse = Reuse::Remembering(remember);
-    }
-
-    /// Whether its node lets clients use invoke IDs again.
-    pub fn reuse(&self) -> bool
-        ensures { result ≡ is_reusing self.now.reuse }
-    {
-        self.reuse.is_reusing()
-    }
-
-    /// Sets how many octets of service data its server's end may keep, in place of [`MEMORY`](bac_node::MEMORY): 64 MiB. A datagram that might make it keep more
-    /// is lost as where memory runs out, and the turn has heard nothing ([`Node::hear_within`](bac_node::Node::hear_within)); a request that can make it keep more
-    /// needs room for 65,539 octets beside its own. What is kept already stays.
-    pub fn set_memory(&mut self, memory: usize)
-        ensures { self.new ≡ self.old }
-    {
-        self.memory = memory;
+        self.rules
     }
 
     /// Its node.
@@ -184,7 +161,7 @@ impl<L: Link> BoundNode<L> {
         ensures told { IsErrOf result TurnFault.Link → self.new.calls ≡ with_call self.old.calls FailedReceive }
         ensures unsent { OnlyReceives self.old.calls self.new.calls }
         ensures err { OnErr result (self.new.node ≡ self.old.node) }
-        ensures reuse { self.new.reuse ≡ self.old.reuse }
+        ensures rules { self.new.rules ≡ self.old.rules }
     {
         if now < self.node.latest() {
             return Err(TurnFault::ClockBack);
@@ -200,14 +177,7 @@ impl<L: Link> BoundNode<L> {
         ensures taken { IsTaken now self.old (turn_view result) self.new }
         ensures received { result.received ≡ received }
     {
-        let heard = on_received(
-            &mut self.node,
-            self.reuse,
-            self.memory,
-            now,
-            received,
-            &self.buffer,
-        );
+        let heard = on_received(&mut self.node, &self.rules, now, received, &self.buffer);
         let ticked = on_due(&mut self.node, now);
         Turn {
             at: now,
@@ -223,7 +193,7 @@ impl<L: Link> BoundNode<L> {
         ensures carried { IsCarried (sends_of_all (map turn_view turns.now)) result self.old self.new }
         ensures node { self.new.node ≡ self.old.node }
         ensures buffer { self.new.buffer ≡ self.old.buffer }
-        ensures reuse { self.new.reuse ≡ self.old.reuse }
+        ensures rules { self.new.rules ≡ self.old.rules }
     {
         send_turns(&mut self.link, turns)
     }
@@ -234,7 +204,7 @@ impl<L: Link> BoundNode<L> {
         requires timely { self.old.node.latest ≤ now }
         ensures acted { Acts now self.old (turn_view result) self.new }
         ensures received { result.received ≡ received }
-        ensures reuse { self.new.reuse ≡ self.old.reuse }
+        ensures rules { self.new.rules ≡ self.old.rules }
     {
         let mut turn = self.take(now, received);
         turn.lost = send_turn(&mut self.link, &turn);
@@ -257,7 +227,7 @@ impl<L: Link> BoundNode<L> {
         ensures failed { IsErrOf result TurnFault.Link → self.new.failures ≡ one_more self.old.failures }
         ensures told { IsErrOf result TurnFault.Link → self.new.calls ≡ with_call self.old.calls FailedReceive }
         ensures err { OnErr result (self.new.node ≡ self.old.node) }
-        ensures reuse { self.new.reuse ≡ self.old.reuse }
+        ensures rules { self.new.rules ≡ self.old.rules }
     {
         let received = self.receive(now, &WaitLimit::BRIEF)?;
         Ok(self.act(now, received))
@@ -278,7 +248,7 @@ impl<L: Link> BoundNode<L> {
         ensures failed { IsErrOf result TurnFault.Link → self.new.failures ≡ one_more self.old.failures }
         ensures told { IsErrOf result TurnFault.Link → self.new.calls ≡ with_call self.old.calls FailedReceive }
         ensures err { OnErr result (self.new.node ≡ self.old.node) }
-        ensures reuse { self.new.reuse ≡ self.old.reuse }
+        ensures rules { self.new.rules ≡ self.old.rules }
         ensures clock { OnErr result (C.told clock.new ≡ C.told clock.old) }
     {
         let received = self.receive(began, wait_limit)?;

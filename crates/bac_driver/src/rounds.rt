@@ -50,6 +50,19 @@ impl<K: Keeper> Round<K> {
         &self.keeper
     }
 
+    /// Its keeper, when there are no more rounds.
+    pub fn into_keeper(self) -> K
+        ensures { result ≡ keeper_of self }
+    {
+        let Round {
+            keeper,
+            turns: _,
+            performed: _,
+            is_changed: _,
+        } = self;
+        keeper
+    }
+
     /// Forgets the turns of the round before.
     fn clear(&mut self)
         ensures turns { turns_of self.new ≡ [] }

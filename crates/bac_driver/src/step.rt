@@ -1,33 +1,33 @@
 //! The two steps of a turn: the node takes the datagram that has come, and ticks. `BoundNode::act` calls both; all here is private to the crate.
 ghost use Rattle.std.specs.Prelude.{◌≤◌, length, IfSome};
 ghost use Rattle.std.specs.Option.{option_map};
-ghost use Rattle.bac_node.specs.Memory.{KeepsWithin};
+ghost use Rattle.bac_node.specs.Memory.{IsWithin};
 ghost use Rattle.bac_node.specs.Views.{outcome_view};
 ghost use Rattle.bac_driver.specs.Turns.{Hears, Ticks};
 
 use crate::turn::Received;
-use bac_node::{Node, NodeFault, Outcome, Reuse};
+use bac_node::{Node, NodeFault, Outcome};
+use bac_transaction::Rules;
 
-/// The node takes the datagram that has come, the first octets of the buffer. None where none has come, where taking it fails to allocate, or where its server's
-/// end might keep more than `memory` octets then: in each case nothing has changed.
+/// The node takes the datagram that has come, the first octets of the buffer, by its rules. None where none has come, or where memory can't be allocated for it or
+/// has no room: in each case nothing has changed.
 #[tactic(auto, using(crate::proofs::Turned::heard_in_time, crate::proofs::Turned::stays_within))]
 pub(crate) fn on_received(
     node: &mut Node,
-    reuse: Reuse,
-    memory: usize,
+    rules: &Rules,
     now: u64,
     received: Received,
     buffer: &[u8],
 ) -> Option<Outcome>
     requires within { IfSome received (λ d. d.1 ≤ length buffer.now) }
     requires timely { node.old.latest ≤ now }
-    ensures heard { Hears reuse now buffer.now received node.old node.new (option_map outcome_view result) }
+    ensures heard { Hears rules.now now buffer.now received node.old node.new (option_map outcome_view result) }
     ensures timely { node.new.latest ≤ now }
-    ensures within { KeepsWithin memory node.old node.new }
+    ensures within { IsWithin rules.now.memory node.old node.new }
 {
     let datagram = received?;
     let from = datagram.0;
-    match node.hear_by(reuse, memory, now, from, &buffer[..datagram.1]) {
+    match node.hear(rules, now, from, &buffer[..datagram.1]) {
         Ok(outcome) => Some(outcome),
         Err(NodeFault::NoMemory) => None,
         Err(NodeFault::ClockBack) => unreachable!(),

@@ -21,7 +21,8 @@ const MOST_WAIT: u64 = 86_400_000;
 const LOCAL_HOST: [u8; 4] = [127, 0, 0, 1];
 
 /// A UDP socket. A call of `recv` with a wait of 0 milliseconds returns at once right after one that took a datagram, so that what is there is taken
-/// without a pause; otherwise it waits 1, so that no loop spins. None waits longer than a day.
+/// without a pause; otherwise it waits 1, so that no loop spins. None waits longer than a day. A datagram that fills the buffer is dropped, since it may be the
+/// beginning of a longer one.
 #[derive(Drop)]
 pub struct UdpLink {
     socket: UdpSocket,
@@ -191,7 +192,9 @@ impl Link for UdpLink {
             Ok((len, from)) => match link_of(from) {
                 Some(from) => {
                     self.took = true;
-                    Ok(Some((from, len)))
+                    // a full buffer may hold the beginning of a longer datagram
+                    let is_whole = len < buffer.len();
+                    Ok(is_whole.then_some((from, len)))
                 }
                 None => Ok(None),
             },

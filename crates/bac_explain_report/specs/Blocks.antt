@@ -54,7 +54,7 @@ naks_text naks = if naks == 0 then [] else codes "  negative SegmentACKs=" ++ (d
 
 -- the end of the reply was not seen, perhaps because the server aborted it
 abbrev pub part_text : (broken_off : Bool) → List ℕ
-part_text broken_off = if broken_off then codes "  aborted by the server\n" else codes "  answer began, not whole\n"
+part_text broken_off = if broken_off then codes "  aborted by the server\n" else codes "  incomplete answer\n"
 
 abbrev pub rest_text : (broken_off : Bool) → Option SentView → List ℕ
 rest_text broken_off None = codes "  unanswered\n"

@@ -110,7 +110,7 @@ fn part_text(broken_off: bool) -> &'static str
     if broken_off {
         "  aborted by the server\n"
     } else {
-        "  answer began, not whole\n"
+        "  incomplete answer\n"
     }
 }
 

@@ -23,7 +23,7 @@ pub enum FollowFault {
         fault: ChangeFault,
     },
     /// The document differs in more than values and octets of files: in its objects, their names or properties, or in what may be written.
-    #[error("other objects, names, properties, flags or limits than those that are served")]
+    #[error("objects, names, properties, flags or limits differ from those served")]
     Other {
         /// The first object that is new or differs, in the order that the document has now; if there is none, the first one that is gone, in the order that
         /// it had before. None if each object of either list is like one of the other.

@@ -8,7 +8,7 @@ use Rattle.bac_capture.specs.declared.link.LinkKind.TheVariants as link
 use Rattle.bac_text.specs.DecodedLines.{IsDatagramText}
 
 abbrev pub none_line : List ℕ
-none_line = codes "frame: no datagram of BACnet/IP\n"
+none_line = codes "frame: no BACnet/IP datagram\n"
 
 abbrev pub fault_line : PacketFault → List ℕ
 fault_line fault = codes "frame: " ++ (packet_fault_text fault ++ codes "\n")

@@ -114,12 +114,12 @@ fn print_misfit<E: Write>(
     match found {
         Some(octet) if octet.is_ascii_graphic() => {
             let character = char::from(octet);
-            writeln!(err, "'{character}' does not fit")
+            writeln!(err, "unexpected '{character}'")
         }
-        Some(b' ') => err.writeln("a blank does not fit"),
-        Some(b'\t') => err.writeln("a tab does not fit"),
+        Some(b' ') => err.writeln("unexpected blank"),
+        Some(b'\t') => err.writeln("unexpected tab"),
         Some(b'\r' | b'\n') => err.writeln("the line ends too early"),
-        Some(octet) => writeln!(err, "the octet {octet:02X} does not fit"),
+        Some(octet) => writeln!(err, "unexpected octet {octet:02X}"),
         None => err.writeln("the text ends too early"),
     }
 }

@@ -6,7 +6,7 @@ use thiserror::Error;
 #[derive(Clone, Copy, Debug, PartialEq, Eq, Error)]
 pub enum FormFault {
     /// The character found at this place, or the end of the text there, does not fit the form.
-    #[error("line {}, column {}: not of this form", .position.line, .position.column)]
+    #[error("line {}, column {}: invalid in this form", .position.line, .position.column)]
     Misfit {
         position: Position,
         found: Option<u8>,

@@ -33,7 +33,7 @@ pub(crate) fn show_layers<W: Write>(
 fn print_none<W: Write>(out: &mut W) -> io::Result<()>
     ensures { OnOk result (Appends (W.contents out.old) (W.contents out.new) none_line) }
 {
-    out.write_all(b"frame: no datagram of BACnet/IP\n")
+    out.write_all(b"frame: no BACnet/IP datagram\n")
 }
 
 /// Prints why the datagram of a frame cannot be read.

@@ -1,3 +1,4 @@
+pub mod Causes
 pub mod Cells
 pub mod Held
 pub mod Made

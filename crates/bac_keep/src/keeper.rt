@@ -1,6 +1,7 @@
 //! Who keeps what a node makes of its store.
-ghost use Rattle.std.specs.Prelude.{◌≡◌, ◌⊎◌, ⊤, [], OnOk};
+ghost use Rattle.std.specs.Prelude.{◌≡◌, ◌⊎◌, ⊤, [], IfErr, OnOk};
 ghost use Rattle.bac_store.specs.Stores.{Store as Objects};
+ghost use Rattle.bac_keep.specs.Causes.{IsUnkept, IsUnnoted};
 ghost use Rattle.bac_keep.specs.Made.{IsKeepable, after_made, made_view};
 
 use crate::fault::KeepFault;
@@ -25,6 +26,9 @@ pub trait Keeper: Drop {
     /// The store with all that was noted.
     ghost noted: { Self → Objects };
 
+    /// The database failed or refused between these two moments.
+    ghost failed: { Self → Self → Type 0 };
+
     /// The next start may find this store after a power cut at this moment.
     ghost may_find: { Self → Objects → Type 0 };
 
@@ -34,6 +38,9 @@ pub trait Keeper: Drop {
     ghost base: { Self → Base };
 
     /// Notes what a node has made of its store, which it is now. The next start does not find it before `keep`.
+    ///
+    /// Returns `HighNumber` if it writes a property whose number has more than 22 bits (clause 23.1); `Database` if the database fails or has no memory; `NoMemory`
+    /// if an allocation fails.
     fn note(&mut self, made: &Made<'_>, store: &Store) -> Result<(), KeepFault>
         requires open { IsHonest self.old → IsOpen self.old }
         requires made { IsHonest self.old → store.now ≡ after_made (made_view made.now) (noted self.old) }
@@ -42,16 +49,20 @@ pub trait Keeper: Drop {
         ensures open { OnOk result (IsHonest self.new → IsOpen self.new) }
         ensures noted { OnOk result (IsHonest self.new → noted self.new ≡ store.now) }
         ensures kept { OnOk result (IsHonest self.new → kept self.new ≡ kept self.old) }
+        ensures refused { IfErr result (λ e. IsHonest self.new → IsUnnoted (made_view made.now) (failed self.old self.new) e) }
         ensures crash { IsHonest self.new → (s : Objects) → may_find self.new s → may_find self.old s }
         ensures base { base self.new ≡ base self.old };
 
     /// Keeps all that was noted. At Ok it is on the disk.
+    ///
+    /// Returns `Database` if the database fails or has no memory.
     fn keep(&mut self) -> Result<(), KeepFault>
         requires open { IsHonest self.old → IsOpen self.old }
         ensures honest { IsHonest self.new → IsHonest self.old }
         ensures open { OnOk result (IsHonest self.new → IsOpen self.new) }
         ensures kept { OnOk result (IsHonest self.new → kept self.new ≡ noted self.old) }
         ensures noted { OnOk result (IsHonest self.new → noted self.new ≡ noted self.old) }
+        ensures refused { IfErr result (λ e. IsHonest self.new → IsUnkept (failed self.old self.new) e) }
         ensures crash { IsHonest self.new → (s : Objects) → may_find self.new s → may_find self.old s ⊎ (s ≡ noted self.old) }
         ensures base { base self.new ≡ base self.old };
 
@@ -71,6 +82,8 @@ impl Keeper for KeepsNothing {
     ghost kept = { λ _. [] };
 
     ghost noted = { λ _. [] };
+
+    ghost failed = { λ _ _. ⊥ };
 
     ghost may_find = { λ _ _. ⊤ };
 

@@ -74,6 +74,7 @@ impl Cell {
     /// What it is for; None if no write makes such a cell.
     pub fn part(&self) -> Option<Part>
         ensures is { IfSome result (λ p. self.now.place ≡ place_for p) }
+        ensures small { IfSome result IsSmall }
         ensures none { result ≡ None → IsForNothing self.now.place }
     {
         part_of(self.place)

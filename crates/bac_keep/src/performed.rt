@@ -1,9 +1,11 @@
 //! Noting a request by its reply.
-ghost use Rattle.std.specs.Prelude.{◌≡◌, OnOk};
+ghost use Rattle.std.specs.Prelude.{◌≡◌, IfErr, OnOk};
 ghost use Rattle.bac_service.specs.Views.{reply_view, request_view};
 ghost use Rattle.bac_store.specs.Changes.{after, is_done as is_done_in};
 ghost use Rattle.bac_store.specs.Replies.{reply_to};
 ghost use Rattle.bac_store.specs.Stores.{Store as Objects};
+ghost use Rattle.bac_keep.specs.Causes.{IsUnnoted};
+ghost use Rattle.bac_keep.specs.Made.Made.{Performed};
 
 use crate::fault::KeepFault;
 use crate::keeper::Keeper;
@@ -35,6 +37,7 @@ pub fn note_request<K: Keeper>(
     ensures open { OnOk result (K.IsHonest keeper.new → K.IsOpen keeper.new) }
     ensures noted { OnOk result (K.IsHonest keeper.new → K.noted keeper.new ≡ store.now) }
     ensures kept { OnOk result (K.IsHonest keeper.new → K.kept keeper.new ≡ K.kept keeper.old) }
+    ensures refused { IfErr result (λ e. K.IsHonest keeper.new → IsUnnoted (Performed (request_view request.entry)) (K.failed keeper.old keeper.new) e) }
     ensures crash { K.IsHonest keeper.new → (s : Objects) → K.may_find keeper.new s → K.may_find keeper.old s }
     ensures base { K.base keeper.new ≡ K.base keeper.old }
 {

@@ -45,7 +45,7 @@ pub deletes : (old new : View) (place : ℕ) → IsReady old → (old.is_broken 
     → SetsTree old new 0 (without_rowid (pos place)) → HasCells old (without (is_place place) (cells_of old.trees)) new
 deletes old new place ready ordered sets =
     subst (HasCells old (without (is_place place) (cells_of old.trees))) (sym sets.is) (record {
-      ready = record { table = ready.table; sound = ready.sound; is_open = ready.is_open };
+      ready = record { table = ready.table; plain = ready.plain; sound = ready.sound; is_open = ready.is_open };
       has = λ i q. found-without place (old.trees 0) (ints old ready ordered) q i;
       committed = refl;
     })

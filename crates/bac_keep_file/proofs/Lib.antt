@@ -1,7 +1,9 @@
+mod Causes
 mod Deleting
 mod Documents
 mod Faults
 mod Finding
+mod Idles
 mod Leaving
 mod Puts
 mod RisingRows

@@ -1,5 +1,6 @@
 -- What a put makes of the cells.
-use Rattle.std.proofs.Common.{◌≡◌, ◌≤◌, ℕ, false, List, Some, refl, sym, ap, ◌∙◌, subst}
+use Rattle.std.proofs.Common.{◌≡◌, ◌≤◌, ℕ, ℤ, pos, false, List, [], ◌∷◌, Some, refl, sym, ap, ◌∙◌, subst}
+use Rattle.sqlite_value.specs.declared.value.Value.TheVariants.{Blob, Int, Null}
 use Rattle.sqlite_value.specs.Order.{Row}
 use Rattle.sqlite_trees.specs.Tree.{Trees, put_row, with_tree}
 use Rattle.sqlite_trees.specs.View.{View, IsClean, IsOrdered, SetsTree, doubt}
@@ -10,13 +11,18 @@ use Rattle.bac_keep_file.specs.Rows.{IsRowOf, cells_of}
 use Rattle.bac_keep_file.specs.Steps.{HasCells, IsReady, NoMore}
 use Rattle.bac_keep_file.proofs.Finding.{found-put, ints, there_already}
 
+-- the row of a cell
+pub is_row : (place : ℕ) (octets : List ℕ) (kind instance n : ℤ) (row : Row) → row ≡ Int (pos place) ∷ Null ∷ Blob octets ∷ Int kind ∷ Int instance ∷ Int n ∷ []
+    → IsRowOf place octets row
+is_row place octets kind instance n row is = subst (IsRowOf place octets) (sym is) (record { keyed = refl; holds = refl })
+
 pub puts : (old mid new : View) (place : ℕ) (octets : List ℕ) (row : Row) → IsReady old → (old.is_broken ≡ false → IsOrdered old.shape old.trees) → mid ≡ old
     → IsRowOf place octets row → SetsTree mid new 0 (put_row row) → HasCells old (with_cell place octets (cells_of old.trees)) new
 puts old mid new place octets row ready ordered same is sets =
     let put : new ≡ record old { trees = with_tree old.trees 0 (put_row row (old.trees 0)); cursors = new.cursors } =
     sets.is ∙ ap (λ (v : View). record v { trees = with_tree v.trees 0 (put_row row (v.trees 0)); cursors = new.cursors }) same in
     subst (HasCells old (with_cell place octets (cells_of old.trees))) (sym put) (record {
-      ready = record { table = ready.table; sound = ready.sound; is_open = ready.is_open };
+      ready = record { table = ready.table; plain = ready.plain; sound = ready.sound; is_open = ready.is_open };
       has = λ i q. found-put place octets row is (old.trees 0) (ints old ready ordered) q i;
       committed = refl;
     })
@@ -45,8 +51,9 @@ and_then old mid new cells place octets before now = record {
 }
 
 -- so many chunks are put
-pub record IsPutting {S : Type 0} (view : S → View) (recovers : S → Trees → Type 0) (id : ObjectId) (octets : List ℕ) (old : S) (count : ℕ) (new : S) : Type
+pub record IsPutting {S : Type 0} (view : S → View) (faults : S → ℕ) (recovers : S → Trees → Type 0) (id : ObjectId) (octets : List ℕ) (old : S) (count : ℕ) (new : S) : Type
     0 where
   pub clean : doubt (view old).is_clean ≤ doubt (view new).is_clean
   pub put : IsClean (view new) → HasCells (view old) (with_chunks id octets count (cells_of (view old).trees)) (view new)
+  pub counts : faults old ≤ faults new
   pub crash : NoMore recovers old new

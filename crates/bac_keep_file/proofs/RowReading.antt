@@ -46,7 +46,7 @@ pub begins : (old new : View) (key : Row) → key ≡ [] → IsReady old → new
     → HasReadSome old [] new
 begins old new key empty ready is =
     subst (HasReadSome old []) (sym (is ∙ ap (λ (k : Row). with_cursor old 0 (sought (order_of (old.shape 0)) Forward k (old.trees 0))) empty)) (record {
-      ready = record { table = ready.table; sound = ready.sound; is_open = ready.is_open };
+      ready = record { table = ready.table; plain = ready.plain; sound = ready.sound; is_open = ready.is_open };
       trees = refl;
       committed = refl;
       read = [];
@@ -72,7 +72,7 @@ pub goes_on : (old mid new : View) (cs : List Cell) (c : Cell) (row : Row) → H
 goes_on old mid new cs c row so_far makes next =
     let left : so_far.left ≡ row ∷ next.0 = some_is _ _ (sym so_far.cursor ∙ next.1) in
     subst (HasReadSome old (cs ++ c ∷ [])) (sym next.2) (record {
-      ready = record { table = so_far.ready.table; sound = so_far.ready.sound; is_open = so_far.ready.is_open };
+      ready = record { table = so_far.ready.table; plain = so_far.ready.plain; sound = so_far.ready.sound; is_open = so_far.ready.is_open };
       trees = so_far.trees;
       committed = so_far.committed;
       read = so_far.read ++ row ∷ [];

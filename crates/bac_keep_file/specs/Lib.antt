@@ -1,5 +1,7 @@
 pub mod Faults
 pub mod Forgotten
+pub mod Idle
+pub mod Lost
 pub mod Made
 pub mod Refused
 pub mod Rows

@@ -1,20 +1,25 @@
 -- Why a start from a document and a database is refused.
-use Rattle.std.specs.Prelude.{◌≡◌, ◌⊎◌, false, ℕ, List, [], ◌∷◌, ⊤}
+use Rattle.std.specs.Prelude.{◌≡◌, ◌≤◌, ◌⊎◌, false, ℕ, List, [], ◌∷◌, ⊤}
 use Rattle.bac_value.specs.Views.{object_identifier_view}
 use Rattle.bac_store.specs.Stores.{Store}
 use Rattle.sqlite_value.specs.Order.{Row}
 use Rattle.sqlite_trees.specs.View.{View}
 use Rattle.sqlite_trees.specs.declared.store.Shape.TheVariants.{Table}
+use Rattle.bac_keep.specs.Cells.{NUMBERS}
 use Rattle.bac_keep.specs.Refused.{HasBadCell, IsBadOctets, IsBadValues}
 use Rattle.bac_keep.specs.declared.fault.DatabaseFault.TheVariants.{OutOfMemory}
 use Rattle.bac_keep.specs.declared.fault.KeepFault.{KeepFault}
 use Rattle.bac_keep.specs.declared.fault.KeepFault.TheVariants as fault
 use Rattle.bac_keep_file.specs.Rows.{IsRowOf, cells_of}
 
+-- the first table is missing, or it has a column of REAL values
+abbrev pub HasNoCells : View → Type 0
+HasNoCells v = ¬ ((v.committed_shape 0 ≡ Table) × (v.committed_reals 0 ≡ 0))
+
 -- why a database cannot be used, which was so before a rollback and is so after it
 abbrev pub IsUnready : View → View → KeepFault → Type 0
 IsUnready old new fault.Shut = new.is_open ≡ false
-IsUnready old new fault.NoTable = ¬ (old.committed_shape 0 ≡ Table)
+IsUnready old new fault.NoTable = HasNoCells old
 IsUnready old new _ = ⊥
 
 -- a row that is no cell
@@ -39,10 +44,21 @@ IsUnreadable rows failed fault.BadRow = HasOtherRow rows
 IsUnreadable rows failed fault.NoMemory = ⊤
 IsUnreadable rows failed _ = ⊥
 
+-- why a cell is not put into the table, where `failed` says that the disk failed or refused
+abbrev pub IsUnput : (failed : Type 0) → KeepFault → Type 0
+IsUnput failed (fault.Database e) = (e ≡ OutOfMemory) ⊎ failed
+IsUnput failed fault.NoMemory = ⊤
+IsUnput failed _ = ⊥
+
+-- why the values of the property with this number are not noted
+abbrev pub IsUnnotedValue : (number : ℕ) → (failed : Type 0) → KeepFault → Type 0
+IsUnnotedValue number failed fault.HighNumber = NUMBERS ≤ number
+IsUnnotedValue number failed e = IsUnput failed e
+
 -- why a start is refused, where the database was so before it and is so after it, and `failed` says that the disk failed or refused
 abbrev pub IsRefused : Store → View → View → (failed : Type 0) → KeepFault → Type 0
 IsRefused document old new failed fault.Shut = new.is_open ≡ false
-IsRefused document old new failed fault.NoTable = ¬ (old.committed_shape 0 ≡ Table)
+IsRefused document old new failed fault.NoTable = HasNoCells old
 IsRefused document old new failed (fault.BadValues object n e) = IsBadValues document (cells_of old.committed) (object_identifier_view object) n e
 IsRefused document old new failed (fault.BadOctets object e) = IsBadOctets document (cells_of old.committed) (object_identifier_view object) e
 IsRefused document old new failed (fault.Database e) = (e ≡ OutOfMemory) ⊎ failed

@@ -6,9 +6,10 @@ use Rattle.sqlite_trees.specs.declared.store.Shape.TheVariants.{Table}
 use Rattle.bac_keep.specs.Cells.{Cells}
 use Rattle.bac_keep_file.specs.Rows.{cells_of}
 
--- the store is open, and its table is there; some writes may wait for a commit
+-- the store is open, and its table is there, without a column of REAL values; some writes may wait for a commit
 pub record IsReady (v : View) : Type 0 where
   pub table : v.shape 0 ≡ Table
+  pub plain : v.reals 0 ≡ 0
   pub sound : v.is_broken ≡ false
   pub is_open : IsTrue v.is_open
 

@@ -4,6 +4,7 @@ ghost use Rattle.sqlite_disk.specs.Disk.{MoreFaults};
 ghost use Rattle.sqlite_trees.specs.Tree.{Trees};
 ghost use Rattle.sqlite_trees.specs.View.{IsClean, doubt};
 ghost use Rattle.bac_store.specs.Stores.{Store as Overlaid};
+ghost use Rattle.bac_keep.specs.Causes.{IsUnnoted};
 ghost use Rattle.bac_keep.specs.Made.{IsKeepable, after_made, made_view};
 ghost use Rattle.bac_keep.specs.Overlay.{overlay};
 ghost use Rattle.bac_keep_file.specs.Refused.{IsRefused, IsUnready};
@@ -44,7 +45,7 @@ pub(crate) fn make_ready<S: Store>(database: &mut S) -> Result<(), KeepFault>
     if database.is_broken() {
         return Err(KeepFault::Shut);
     }
-    if database.shape(TABLE) != Shape::Table {
+    if database.shape(TABLE) != Shape::Table || database.reals(TABLE) != 0 {
         return Err(KeepFault::NoTable);
     }
     Ok(())
@@ -66,6 +67,9 @@ fn note_made<S: Store>(
     ensures ready { OnOk result (IsClean (S.view database.new) → IsReady (S.view database.new)) }
     ensures noted { OnOk result (IsClean (S.view database.new) → overlay (cells_of (S.view database.new).trees) document.now ≡ store.now) }
     ensures committed { OnOk result (IsClean (S.view database.new) → (S.view database.new).committed ≡ (S.view database.old).committed) }
+    ensures refused { IfErr result (λ e. IsClean (S.view database.new)
+        → IsUnnoted (made_view made.now) (MoreFaults (S.faults database.old) (S.faults database.new)) e) }
+    ensures counts { S.faults database.old ≤ S.faults database.new }
     ensures crash { NoMore S.recovers database.old database.new }
 {
     stores_are_in_order(document);
@@ -125,7 +129,7 @@ impl<S: Store + Drop> CellKeeper<S> {
     /// Opens the cells of a database over the store of a document, after what no commit has finished is rolled back. Returns the
     /// keeper and the store that they make, which a node starts with.
     ///
-    /// Returns `Shut` if the database can't be used after an earlier failure; `NoTable` if it has no table for cells; `BadRow` if its table has a row
+    /// Returns `Shut` if the database can't be used after an earlier failure; `NoTable` if its first table has no cells, or has a column of REAL values; `BadRow` if its table has a row
     /// that no write makes; `BadValues` or `BadOctets` if the document has a property or a file that can't have what is kept; `Database` if the
     /// database fails; `NoMemory` if an allocation fails. With the fault it returns the database: what it has committed is unchanged.
     pub fn open(
@@ -181,6 +185,8 @@ impl<S: Store + Drop> Keeper for CellKeeper<S> {
     ghost kept = { λ k. overlay (cells_of (S.view k.database).committed) k.document };
 
     ghost noted = { λ k. overlay (cells_of (S.view k.database).trees) k.document };
+
+    ghost failed = { λ k l. MoreFaults (S.faults k.database) (S.faults l.database) };
 
     ghost may_find = { λ k. MayFind S.recovers k.database k.document };
 

@@ -14,13 +14,25 @@ pub enum OpenFault {
     #[error("another process has it open")]
     Locked,
     /// The file is no database, or it is damaged.
-    #[error("no database, or a damaged one")]
+    #[error("not a database, or a damaged one")]
     Damaged,
     /// The file is a database of something else.
-    #[error("a database of something else")]
+    #[error("a database of another program")]
     Foreign,
+    /// The log, the file beside it whose name ends in `-wal`, is missing or empty.
+    #[error("its log is missing")]
+    LogMissing,
+    /// The log ends before what it had.
+    #[error("its log is cut off")]
+    LogCut,
+    /// The log is damaged in front, or before its last commit.
+    #[error("its log is damaged")]
+    LogDamaged,
+    /// The file is missing or empty, and its log is there.
+    #[error("it is missing or empty, but its log exists")]
+    FileMissing,
     /// The file can't be opened or made.
-    #[error("it cannot be opened; a file wanted, or a new one in a folder that may be written")]
+    #[error("it cannot be opened; give a file, or a new one in a folder with write permission")]
     CannotOpen,
     /// The disk failed, or it is full.
     #[error("the disk failed or is full")]

@@ -2,6 +2,7 @@
 #![tactic(auto)]
 
 mod cells;
+mod checkpoint;
 mod fault;
 mod file;
 mod forgetting;
@@ -13,11 +14,15 @@ mod putting;
 mod reading;
 mod selection;
 mod table;
+mod traces;
+mod whole;
 
 pub use cells::CellKeeper;
+pub use checkpoint::Checkpoint;
 pub use fault::OpenFault;
 pub use file::{KeptFile, open, open_files};
 pub use forgetting::forget;
 pub use laws::forgotten_is_of_the_document;
 pub use listing::kept_cells;
 pub use selection::Selection;
+pub use whole::Loss;

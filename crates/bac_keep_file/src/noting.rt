@@ -1,5 +1,6 @@
 //! Noting what a store has now, in the table of a database.
-ghost use Rattle.std.specs.Prelude.{◌≡◌, ◌≤◌, ◌<◌, ◌+◌, ◌*◌, true, length, OnOk, IfSome};
+ghost use Rattle.std.specs.Prelude.{◌≡◌, ◌≤◌, ◌<◌, ◌+◌, ◌*◌, true, length, OnOk, IfErr, IfSome};
+ghost use Rattle.sqlite_disk.specs.Disk.{MoreFaults};
 ghost use Rattle.sqlite_trees.specs.View.{IsClean, doubt};
 ghost use Rattle.bac_value.specs.Views.{object_identifier_view};
 ghost use Rattle.bac_store.specs.Limits.{FILE_LIMIT as FILE_MOST};
@@ -7,12 +8,13 @@ ghost use Rattle.bac_store.specs.Writes.{listed_at};
 ghost use Rattle.bac_keep.specs.Cells.{NUMBERS as MOST_NUMBERS};
 ghost use Rattle.bac_keep.specs.Noted.{chunk_count, octets_noted, values_noted};
 ghost use Rattle.bac_keep.specs.Overlay.{CHUNK as CHUNK_SIZE, chunk, with_chunks, with_file};
+ghost use Rattle.bac_keep_file.specs.Refused.{IsUnnotedValue, IsUnput};
 ghost use Rattle.bac_keep_file.specs.Rows.{cells_of};
 ghost use Rattle.bac_keep_file.specs.Steps.{HasCells, IsReady, NoMore};
 
 use crate::putting::put_cell;
 use bac_keep::{CHUNK, KeepFault, NUMBERS, file_place, value_place};
-use bac_store::Store as Objects;
+use bac_store::{Store as Objects, stores_are_in_order};
 use bac_value::ObjectIdentifier;
 use sqlite_trees::store::Store;
 use std::alloc::Global;
@@ -31,6 +33,8 @@ pub(crate) fn note_values<S: Store>(
     ensures noted { OnOk result (IsClean (S.view database.new)
         → HasCells (S.view database.old) (values_noted store.now (object_identifier_view object) number (cells_of (S.view database.old).trees))
         (S.view database.new)) }
+    ensures refused { IfErr result (λ e. IsClean (S.view database.new) → IsUnnotedValue number (MoreFaults (S.faults database.old) (S.faults database.new)) e) }
+    ensures counts { S.faults database.old ≤ S.faults database.new }
     ensures crash { NoMore S.recovers database.old database.new }
 {
     let Some(listed) = store.listed(object, number) else {
@@ -42,6 +46,7 @@ pub(crate) fn note_values<S: Store>(
     if u64::from(number) >= NUMBERS {
         return Err(KeepFault::HighNumber);
     }
+    stores_are_in_order(store);
     let place = value_place(object, number);
     put_cell(alloc, database, place, listed.octets, object, number)?;
     Ok(())
@@ -50,7 +55,8 @@ pub(crate) fn note_values<S: Store>(
 /// One chunk of a file.
 fn chunk_of(octets: &[u8], at: u8) -> &[u8]
     requires { at * CHUNK_SIZE ≤ length octets.now }
-    ensures { result.now ≡ chunk octets.now at }
+    ensures is { result.now ≡ chunk octets.now at }
+    ensures short { length result.now ≤ CHUNK_SIZE }
 {
     let start = usize::from(at) * CHUNK;
     if octets.len() - start <= CHUNK {
@@ -73,6 +79,8 @@ fn put_chunks<S: Store>(
     ensures put { OnOk result (IsClean (S.view database.new)
         → HasCells (S.view database.old) (with_chunks (object_identifier_view object) octets.now count (cells_of (S.view database.old).trees))
         (S.view database.new)) }
+    ensures refused { IfErr result (λ e. IsClean (S.view database.new) → IsUnput (MoreFaults (S.faults database.old) (S.faults database.new)) e) }
+    ensures counts { S.faults database.old ≤ S.faults database.new }
     ensures crash { NoMore S.recovers database.old database.new }
 {
     for at in 0..count {
@@ -96,6 +104,8 @@ fn put_file<S: Store>(
     ensures put { OnOk result (IsClean (S.view database.new)
         → HasCells (S.view database.old) (with_file (object_identifier_view object) octets.now (chunk_count octets.now) (cells_of (S.view database.old).trees))
         (S.view database.new)) }
+    ensures refused { IfErr result (λ e. IsClean (S.view database.new) → IsUnput (MoreFaults (S.faults database.old) (S.faults database.new)) e) }
+    ensures counts { S.faults database.old ≤ S.faults database.new }
     ensures crash { NoMore S.recovers database.old database.new }
 {
     let count = ((octets.len() + 1023) / CHUNK) as u8;
@@ -117,6 +127,8 @@ pub(crate) fn note_octets<S: Store>(
     ensures noted { OnOk result (IsClean (S.view database.new)
         → HasCells (S.view database.old) (octets_noted store.now (object_identifier_view object) (cells_of (S.view database.old).trees))
         (S.view database.new)) }
+    ensures refused { IfErr result (λ e. IsClean (S.view database.new) → IsUnput (MoreFaults (S.faults database.old) (S.faults database.new)) e) }
+    ensures counts { S.faults database.old ≤ S.faults database.new }
     ensures crash { NoMore S.recovers database.old database.new }
 {
     let Some(file) = store.file(object) else {

@@ -4,8 +4,10 @@ ghost use Rattle.sqlite_trees.specs.View.{IsClean, doubt};
 ghost use Rattle.sqlite.specs.Held.{state};
 ghost use Rattle.bac_keep_file.specs.Made.{HasEmptyTable, HasNoTable};
 
-use crate::fault::OpenFault;
+use crate::checkpoint::Checkpoint;
+use crate::fault::{OpenFault, keep_fault};
 use crate::listing::kept_cells;
+use crate::whole::MARK;
 use bac_keep::{DatabaseFault, KeepFault};
 use sqlite::{Alter, Connection};
 use sqlite_schema::schema::Table;
@@ -67,6 +69,62 @@ fn unread(fault: KeepFault) -> OpenFault {
     }
 }
 
+/// Marks a database: its log has a header.
+fn mark<S: Alter>(database: &mut S) -> Result<(), OpenFault>
+    ensures { doubt (S.Store.view database.old).is_clean ≤ doubt (S.Store.view database.new).is_clean }
+{
+    let done = match database.set_version(MARK) {
+        Ok(()) => database.commit(),
+        Err(error) => Err(error),
+    };
+    match done {
+        Ok(()) => Ok(()),
+        Err(error) => Err(unread(keep_fault(error))),
+    }
+}
+
+/// Makes the file of a database whole.
+fn make_whole<S: Checkpoint>(database: &mut S) -> Result<(), OpenFault>
+    ensures clean { doubt (S.Store.view database.old).is_clean ≤ doubt (S.Store.view database.new).is_clean }
+    ensures same { IsClean (S.Store.view database.new) → IsTrue (S.Store.view database.new).is_open
+        → S.Store.view database.new ≡ S.Store.view database.old }
+{
+    match database.make_whole() {
+        Ok(()) => Ok(()),
+        Err(fault) => Err(unread(fault)),
+    }
+}
+
+/// A database whose file is whole. A new table is marked first, and read back after that.
+pub(crate) fn whole<S: Checkpoint + Drop>(
+    alloc: Global,
+    mut store: S,
+    is_new: bool,
+) -> Result<S, OpenFault>
+    ensures clean { IfOk result (λ r. IsClean (S.Store.view r) → IsClean (S.Store.view store)) }
+    ensures same { IfOk result (λ r. is_new ≡ false → IsClean (S.Store.view r) → IsTrue (S.Store.view r).is_open
+        → S.Store.view r ≡ S.Store.view store) }
+    ensures empty { IfOk result (λ r. is_new ≡ true → IsClean (S.Store.view r) → HasEmptyTable (S.Store.view r)) }
+{
+    if !is_new {
+        make_whole(&mut store)?;
+        return Ok(store);
+    }
+    mark(&mut store)?;
+    make_whole(&mut store)?;
+    read_back(alloc, &mut store)?;
+    Ok(store)
+}
+
+/// A database that was made before databases were marked gets its mark, and is whole.
+pub(crate) fn marked<S: Checkpoint + Drop>(mut store: S) -> Result<S, OpenFault> {
+    if store.version() != MARK {
+        mark(&mut store)?;
+        make_whole(&mut store)?;
+    }
+    Ok(store)
+}
+
 /// Reads a new table back, which has to be empty. Returns `Disk` if it is not.
 fn read_back<S: Store>(alloc: Global, database: &mut S) -> Result<(), OpenFault>
     ensures clean { doubt (S.view database.old).is_clean ≤ doubt (S.view database.new).is_clean }
@@ -85,20 +143,12 @@ fn read_back<S: Store>(alloc: Global, database: &mut S) -> Result<(), OpenFault>
 }
 
 /// The store of a connection, with the table, which is made where there is none; and whether it was made.
-pub(crate) fn store_of<S: Alter + Drop>(
-    alloc: Global,
-    mut conn: Connection<S>,
-) -> Result<(S, bool), OpenFault>
+pub(crate) fn store_of<S: Alter + Drop>(mut conn: Connection<S>) -> Result<(S, bool), OpenFault>
     ensures clean { IfOk result (λ r. IsClean (S.Store.view r.0) → IsClean (S.Store.view conn.store)) }
     ensures none { IfOk result (λ r. r.1 ≡ true → IsTrue (state S.Store conn).is_open → HasNoTable (state S.Store conn).now.trees) }
-    ensures empty { IfOk result (λ r. r.1 ≡ true → IsClean (S.Store.view r.0) → HasEmptyTable (S.Store.view r.0)) }
     ensures same { IfOk result (λ r. r.1 ≡ false → IsClean (S.Store.view r.0) → IsTrue (S.Store.view r.0).is_open
         → (S.Store.view r.0).committed ≡ (state S.Store conn).committed.trees) }
 {
     let is_new = make_table(&mut conn)?;
-    let mut store = into_store(conn);
-    if is_new {
-        read_back(alloc, &mut store)?;
-    }
-    Ok((store, is_new))
+    Ok((into_store(conn), is_new))
 }

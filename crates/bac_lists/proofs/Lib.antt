@@ -2,4 +2,4 @@ pub mod Separated
 pub mod ReadLines
 pub mod LineWords
 mod LineNames
-mod Lists
+pub mod Lists

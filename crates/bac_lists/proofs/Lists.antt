@@ -10,7 +10,7 @@ drop_suc [] i x e = absurd cc
 drop_suc (y ∷ xs) zero x e = ap (λ z. z ∷ xs) (let same : Some y ≡ Some x = e in cc)
 drop_suc (y ∷ xs) (suc i) x e = drop_suc xs i x e
 
-drop_next : {A : Type 0} (xs : List A) (i : ℕ) (x : A) → slice_get xs i ≡ Some x → drop i xs ≡ x ∷ drop (i + 1) xs
+pub drop_next : {A : Type 0} (xs : List A) (i : ℕ) (x : A) → slice_get xs i ≡ Some x → drop i xs ≡ x ∷ drop (i + 1) xs
 drop_next xs i x e = let on : i + 1 ≡ suc i = omega arith in drop_suc xs i x e ∙ ap (λ n. x ∷ drop n xs) (sym on)
 
 pub drop_seen : {A B : Type 0} (f : A → B) (xs : List A) (i : ℕ) (x : A) → slice_get xs i ≡ Some x → drop i (map f xs) ≡ f x ∷ drop (i + 1) (map f xs)

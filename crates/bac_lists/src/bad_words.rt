@@ -15,8 +15,8 @@ use std::{io, str};
 /// Why words are refused of which each alone is good, where the answer is to be printed so.
 fn whole_reason(style: Style) -> &'static str {
     match style {
-        Style::Octets => "--raw writes the octets of a file: a `get` wanted",
-        Style::Numbers | Style::Words => "the octets are too many for a file",
+        Style::Octets => "--raw writes the octets of a file, and requires a `get`",
+        Style::Numbers | Style::Words => "too many octets for a file",
     }
 }
 
@@ -52,10 +52,10 @@ fn add_advice(
     match wanted {
         Wanted::Value => add_value_advice(alloc, word, reason),
         Wanted::Data => reason.extend_from_slice(
-            b": whole values in hexadecimal wanted, or each by its kind, as real:72.5",
+            b": expected complete values in hexadecimal, or values with their kinds, such as real:72.5",
         ),
         Wanted::Octets | Wanted::Position if word.starts_with(b"@") => {
-            reason.extend_from_slice(b": @FILE stands last, and in no list")
+            reason.extend_from_slice(b": @FILE must come last, and is not allowed in a list")
         }
         _ => add_name_like(alloc, wanted, word, reason),
     }
@@ -92,7 +92,7 @@ pub fn bad_word_text(alloc: Global, bad: BadWord<'_>) -> Result<Vec<u8>, AllocEr
 }
 
 /// Why `get T:I` is refused, which asks for a whole file.
-const WHOLE_FILE: &[u8] = b": whole files are read by one ask, not by a list or in rounds";
+const WHOLE_FILE: &[u8] = b": a list or rounds cannot read a whole file";
 
 /// Whether words are `get T:I` with no more behind it.
 fn are_of_whole_file(words: &[&[u8]]) -> bool {
@@ -165,7 +165,7 @@ pub(crate) fn print_open_quote<E: Write>(source: Source<'_>, number: u64, err: &
     // if that fails too, only the status is left
     let _ = writeln!(
         err,
-        "{place}bad words: a text in quotes ends with a quote, and a blank or the end of the line after it"
+        "{place}bad words: a text in quotes must end with a quote, then a blank or the end of the line"
     );
     Status::CommandLine
 }
@@ -187,7 +187,10 @@ pub(crate) fn print_bad_name<E: Write>(
 fn print_no_name<E: Write>(place: LinePlace<'_>, word: &[u8], err: &mut E) -> io::Result<()> {
     write!(err, "{place}bad name: \"")?;
     err.write_all(word)?;
-    writeln!(err, "\" is no NAME: of letters, digits, `_`, `-` and `.`")
+    writeln!(
+        err,
+        "\" is invalid: expected letters, digits, `_`, `-` and `.` before the colon"
+    )
 }
 
 /// Complains of the line with that number, which is asked of no peer: its first word is none, or it names none.
@@ -205,7 +208,7 @@ pub(crate) fn print_no_peer<E: Write>(
         Some(word) if word.first() == Some(&b'@') => print_bad_address(place, *word, err),
         _ => writeln!(
             err,
-            "{place}no address: @A.B.C.D[:P][/NET:MAC] before the request wanted, or --to"
+            "{place}no address: expected @A.B.C.D[:P][/NET:MAC] before the request, or --to"
         ),
     };
     Status::CommandLine
@@ -219,7 +222,7 @@ fn wanted_of_peer(word: &[u8]) -> &'static str {
     let text = text.strip_prefix('@').unwrap_or(text);
     let end = text.split('/').next().unwrap_or(text);
     if read_end(end).is_some() && read_link(end).is_none() {
-        "address of a node"
+        "the address of a node"
     } else {
         PEER_FORM
     }
@@ -232,5 +235,5 @@ fn print_bad_address<E: Write>(place: LinePlace<'_>, word: &[u8], err: &mut E) -
     let wanted = wanted_of_peer(word);
     write!(err, "{place}bad address: \"")?;
     err.write_all(word)?;
-    writeln!(err, "\" is no {wanted}")
+    writeln!(err, "\" is not {wanted}")
 }

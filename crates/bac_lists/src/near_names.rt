@@ -108,6 +108,7 @@ pub(crate) fn name_like(
 
 /// Adds the name that is meant.
 pub(crate) fn add_meant(name: &str, reason: &mut Vec<u8>) -> Result<(), AllocError> {
-    reason.extend_from_slice(b", did you mean ")?;
-    reason.extend_from_slice(name.as_bytes())
+    reason.extend_from_slice(b"; did you mean ")?;
+    reason.extend_from_slice(name.as_bytes())?;
+    reason.extend_from_slice(b"?")
 }

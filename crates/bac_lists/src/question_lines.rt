@@ -273,7 +273,7 @@ fn tell_bad<E: Write>(source: Source<'_>, default: Option<Peer>, lines: &[&[u8]]
         {
             let at = source.line(number);
             // if that fails too, only the status is left
-            let _ = writeln!(err, "{at}bad too, and perhaps more");
+            let _ = writeln!(err, "{at}also invalid; there may be more");
             return;
         }
     }

@@ -15,24 +15,25 @@ fn kind_of(word: &[u8]) -> &[u8] {
 /// The form of the values of a kind; None where it is no kind.
 fn form_of(kind: &[u8]) -> Option<&'static str> {
     Some(match kind {
-        b"null" => "null wanted, alone",
-        b"boolean" => "boolean:true or boolean:false wanted",
-        b"unsigned" => "decimal digits wanted, as unsigned:7",
-        b"signed" => "decimal digits wanted, as signed:-7",
-        b"enumerated" => "decimal digits up to 4294967295 wanted, as enumerated:1",
-        b"real" => "a number wanted, as real:72.5",
-        b"double" => "a number wanted, as double:72.5",
-        b"real-octets" => "4 octets in hexadecimal wanted, as real-octets:7FC00000",
-        b"double-octets" => "8 octets in hexadecimal wanted, as double-octets:7FF8000000000000",
-        b"octets" => "octets in hexadecimal wanted, as octets:0AFF",
-        b"text" => "UTF-8 wanted, with %25 for a percent sign, as text:Room%201",
-        b"characters" => "a set and octets in hexadecimal wanted, as characters:4:0041",
-        b"bits" => "digits 0 and 1 wanted, as bits:0100",
+        b"null" => "expected null alone",
+        b"boolean" => "expected boolean:true or boolean:false",
+        b"unsigned" => "expected decimal digits, such as unsigned:7",
+        b"signed" => "expected decimal digits, such as signed:-7",
+        b"enumerated" => "expected decimal digits up to 4294967295, such as enumerated:1",
+        b"real" => "expected a number, such as real:72.5",
+        b"double" => "expected a number, such as double:72.5",
+        b"real-octets" => "expected 4 octets in hexadecimal, such as real-octets:7FC00000",
+        b"double-octets" =>
+            "expected 8 octets in hexadecimal, such as double-octets:7FF8000000000000",
+        b"octets" => "expected octets in hexadecimal, such as octets:0AFF",
+        b"text" => "expected UTF-8, with %25 for a percent sign, such as text:Room%201",
+        b"characters" => "expected a set and octets in hexadecimal, such as characters:4:0041",
+        b"bits" => "expected digits 0 and 1, such as bits:0100",
         b"date" =>
-            "year, month, day and day of the week wanted, each by digits or *, as date:1991-1-24-4",
+            "expected year, month, day and day of the week, each in digits or *, such as date:1991-1-24-4",
         b"time" =>
-            "hour, minute, second and hundredths wanted, each by digits or *, as time:17:35:45.17",
-        b"object" => "a type and an instance wanted, as object:analog-input:5",
+            "expected hour, minute, second and hundredths, each in digits or *, such as time:17:35:45.17",
+        b"object" => "expected a type and an instance, such as object:analog-input:5",
         _ => return None,
     })
 }
@@ -67,10 +68,10 @@ fn meant_kind(alloc: Global, word: &[u8]) -> Result<Option<&'static str>, AllocE
 
 /// What is wanted in place of a word that names no kind.
 const KINDS: &str =
-    "null, boolean, unsigned, signed, enumerated, real, double, text, characters, octets, bits, date, time or object wanted before the colon";
+    "expected null, boolean, unsigned, signed, enumerated, real, double, text, characters, octets, bits, date, time or object before the colon";
 
 /// What is wanted in place of a word without a colon.
-const ANY_FORM: &str = "a kind, a colon and a value wanted, as real:72.5";
+const ANY_FORM: &str = "expected a kind, a colon and a value, such as real:72.5";
 
 /// Adds what is wanted, behind a colon.
 fn add_wanted(wanted: &str, reason: &mut Vec<u8>) -> Result<(), AllocError> {

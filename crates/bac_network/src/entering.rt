@@ -33,6 +33,7 @@ pub(crate) fn enter(
         effect,
         ended,
         dropped: _dropped,
+        turned_away: _turned_away,
     } = outcome;
     log_endings(log, journal, node, ended);
     log_performed(after, log, journal, node, effect);

@@ -15,7 +15,8 @@ use Rattle.bac_world.specs.Node.{Node, Outcome, IsHeardBy, NodeOn}
 use Rattle.bac_world.proofs.Asking.{accepted_is}
 use Rattle.bac_node.specs.Calls.{IsAsked}
 use Rattle.bac_node.specs.Capacities.{CapacitiesStay, HasSameCapacities}
-use Rattle.bac_world.specs.ReusingNodes.{IsHeardReusingBy, NodeReusing}
+use Rattle.bac_node.specs.Serving.{IsHeardSoBy, NodeServes}
+use Rattle.bac_protocol.specs.Serving.{ServerRules}
 
 module _ (c : Settings) (now : ℕ) (a : Apdu) (e : ClientEnd) (key : PeerKey) where
   held_stays : (number : ℕ) (held : TransactionSlot) → (requester_on_apdu_in_slot c reads_reply now a e key number held).end.capacity ≡ e.capacity
@@ -34,10 +35,10 @@ heard_stays now peer a old new o false turn = subst (HasSameCapacities old) (sym
   servers = refl;
 })
 
-reusing_stays : (now : ℕ) (peer : PeerView) (a : Apdu) (old new : Node) (o : Outcome) (up : Bool) → IsHeardReusingBy up peer a now old new o
-    → HasSameCapacities old new
-reusing_stays now peer a old new o true turn = subst (HasSameCapacities old) (sym turn.node) (record { clients = refl; servers = refl })
-reusing_stays now peer a old new o false turn = heard_stays now peer a old new o false turn
+heard_so_stays : (rules : ServerRules) (away : Bool) (now : ℕ) (peer : PeerView) (a : Apdu) (old new : Node) (o : Outcome) (up : Bool)
+    → IsHeardSoBy rules away up peer a now old new o → HasSameCapacities old new
+heard_so_stays rules away now peer a old new o true served = subst (HasSameCapacities old) (sym served.turn.node) (record { clients = refl; servers = refl })
+heard_so_stays rules away now peer a old new o false turn = heard_stays now peer a old new o false turn.0
 
 asks_stays : (now : ℕ) (peer : PeerView) (limits : Limits) (r : Request) (old new : Node) (x : Asked) → IsAsked now peer limits r old new x
     → HasSameCapacities old new
@@ -48,7 +49,7 @@ asks_stays now peer limits r old new x step =
 pub capacities_stay : CapacitiesStay
 capacities_stay = record {
   on = on;
-  on_reusing = on_reusing;
+  hear = hear;
   tick = λ now old new o step. subst (HasSameCapacities old) (sym step.node) (record { clients = refl; servers = refl });
   commit_tick = λ now node. record { clients = refl; servers = refl };
   ask = asks_stays;
@@ -58,6 +59,7 @@ capacities_stay = record {
     on now from octets old new o (inl d) = subst (HasSameCapacities old) (sym d.node) (record { clients = refl; servers = refl })
     on now from octets old new o (inr z) = heard_stays now z.peer z.apdu old new o (is_from_client z.apdu) z.heard
 
-    on_reusing : (now : ℕ) (from octets : Octets) (old new : Node) (o : Outcome) → NodeReusing now from octets old new o → HasSameCapacities old new
-    on_reusing now from octets old new o (inl d) = subst (HasSameCapacities old) (sym d.node) (record { clients = refl; servers = refl })
-    on_reusing now from octets old new o (inr z) = reusing_stays now z.peer z.apdu old new o (is_from_client z.apdu) z.heard
+    hear : (rules : ServerRules) (away : Bool) (now : ℕ) (from octets : Octets) (old new : Node) (o : Outcome) → NodeServes rules away now from octets old new o
+        → HasSameCapacities old new
+    hear rules away now from octets old new o (inl d) = subst (HasSameCapacities old) (sym d.0.node) (record { clients = refl; servers = refl })
+    hear rules away now from octets old new o (inr z) = heard_so_stays rules away now z.peer z.apdu old new o (is_from_client z.apdu) z.heard

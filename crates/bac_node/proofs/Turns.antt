@@ -1,12 +1,14 @@
 -- What a node's ends do, the node does.
-use Rattle.std.proofs.Common.{◌≡◌, ℕ, true, List, [], ◌++◌, map, Option, Some, None, refl, ap, sym, subst, ◌∙◌}
+use Rattle.std.proofs.Common.{◌≡◌, ℕ, Bool, List, [], ◌++◌, map, Option, Some, None, refl, ap, sym, subst, ◌∙◌}
 use Rattle.std.specs.Option.{option_map}
 use Rattle.bac_apdu.specs.Apdu.{Apdu}
 use Rattle.bac_npdu.specs.Peers.{PeerView}
 use Rattle.bac_store.specs.Stores.{Store}
 use Rattle.bac_transaction.specs.Ends as ends
-use Rattle.bac_transaction.specs.Ends.{ServerEnd, ServerTurn, requester_tick, responder_on_apdu, responder_tick}
-use Rattle.bac_transaction.specs.Remembering.{responder_remembering}
+use Rattle.bac_transaction.specs.Ends.{ServerEnd, ServerTurn, key_of, requester_tick, responder_tick}
+use Rattle.bac_transaction.specs.Serving.{responder_by}
+use Rattle.bac_protocol.specs.Serving.{ServerRules}
+use Rattle.bac_responder.specs.Hearing.{IsHeard}
 use Rattle.bac_transaction.specs.Meanings.{EndedView, IsEndedView}
 use Rattle.bac_transaction.specs.Sends.{Datagram, IsSent, Pairwise}
 use Rattle.bac_transaction.specs.Services as server
@@ -17,11 +19,11 @@ use Rattle.bac_requester.specs.declared.reaction.Reaction.{Reaction}
 use Rattle.bac_responder.specs.Turns.{AreActed, IsServed, performed_by}
 use Rattle.bac_responder.specs.Views.{acted_view}
 use Rattle.bac_responder.specs.declared.served.Act.{Act}
-use Rattle.bac_world.specs.Node.{Node, Outcome, IsHeardBy, IsServerTurn}
+use Rattle.bac_world.specs.Node.{Node, Outcome, IsServerTurn}
 use Rattle.bac_world.specs.Services.{ArePerformed, store_after}
 use Rattle.bac_world.proofs.Pairs.{pairwise_join}
 use Rattle.bac_node.specs.Calls.{IsTickOfBoth}
-use Rattle.bac_node.specs.Remembering.{IsHeardRememberingBy}
+use Rattle.bac_node.specs.Serving.{IsServedBy}
 use Rattle.bac_node.specs.Views.{performed_view}
 
 -- The server's end.
@@ -51,35 +53,16 @@ server_turned_by turn now old v t sent x o did sends ended performed dropped =
       dropped = dropped;
     }
 
-pub server_turned : (now : ℕ) (old : Node) (v : ServerEnd) (t : Store) (peer : PeerView) (a : Apdu) (sent : List Datagram) (x : Option Act) (o : Outcome)
-    → IsServed (responder_on_apdu old.settings now (service_of old.store) peer a old.servers) old.store sent (acted_view x) v t
+pub server_turned_so : (rules : ServerRules) (away : Bool) (now : ℕ) (old at : Node) (v : ServerEnd) (t : Store) (peer : PeerView) (a : Apdu) (sent : List Datagram)
+    (x : Option Act) (o : Outcome) → at ≡ old
+    → IsHeard rules at.settings now (key_of peer a) a at.servers at.store sent (acted_view x) away v t
     → o.sends ≡ sent → o.ended ≡ [] → o.performed ≡ option_map performed_view x → o.dropped ≡ None
-    → IsHeardBy true peer a now old (record old { latest = now; servers = v; store = t }) o
-server_turned now old v t peer a = server_turned_by (responder_on_apdu old.settings now (service_of old.store) peer a old.servers) now old v t
-
-pub server_turned_reusing : (remember now : ℕ) (old : Node) (v : ServerEnd) (t : Store) (peer : PeerView) (a : Apdu) (sent : List Datagram) (x : Option Act) (o : Outcome)
-    → IsServed (responder_remembering remember old.settings now (service_of old.store) peer a old.servers) old.store sent (acted_view x) v t
-    → o.sends ≡ sent → o.ended ≡ [] → o.performed ≡ option_map performed_view x → o.dropped ≡ None
-    → IsHeardRememberingBy remember true peer a now old (record old { latest = now; servers = v; store = t }) o
-server_turned_reusing remember now old v t peer a = server_turned_by (responder_remembering remember old.settings now (service_of old.store) peer a old.servers) now old v t
-
--- The same of a node that is as it was before.
-
-pub server_turned_at : (now : ℕ) (old at : Node) (v : ServerEnd) (t : Store) (peer : PeerView) (a : Apdu) (sent : List Datagram) (x : Option Act) (o : Outcome)
-    → at ≡ old → IsServed (responder_on_apdu at.settings now (service_of at.store) peer a at.servers) at.store sent (acted_view x) v t
-    → o.sends ≡ sent → o.ended ≡ [] → o.performed ≡ option_map performed_view x → o.dropped ≡ None
-    → IsHeardBy true peer a now old (record at { latest = now; servers = v; store = t }) o
-server_turned_at now old at v t peer a sent x o same did sends ended performed dropped =
-    subst (λ (n : Node). IsHeardBy true peer a now n (record at { latest = now; servers = v; store = t }) o) same
-    (server_turned now at v t peer a sent x o did sends ended performed dropped)
-
-pub server_turned_reusing_at : (remember now : ℕ) (old at : Node) (v : ServerEnd) (t : Store) (peer : PeerView) (a : Apdu) (sent : List Datagram) (x : Option Act) (o : Outcome)
-    → at ≡ old → IsServed (responder_remembering remember at.settings now (service_of at.store) peer a at.servers) at.store sent (acted_view x) v t
-    → o.sends ≡ sent → o.ended ≡ [] → o.performed ≡ option_map performed_view x → o.dropped ≡ None
-    → IsHeardRememberingBy remember true peer a now old (record at { latest = now; servers = v; store = t }) o
-server_turned_reusing_at remember now old at v t peer a sent x o same did sends ended performed dropped =
-    subst (λ (n : Node). IsHeardRememberingBy remember true peer a now n (record at { latest = now; servers = v; store = t }) o) same
-    (server_turned_reusing remember now at v t peer a sent x o did sends ended performed dropped)
+    → IsServedBy rules away peer a now old (record at { latest = now; servers = v; store = t }) o
+server_turned_so rules away now old at v t peer a sent x o same did sends ended performed dropped =
+    subst (λ (n : Node). IsServedBy rules away peer a now n (record at { latest = now; servers = v; store = t }) o) same (record {
+      turn = server_turned_by (responder_by rules at.settings now (service_of at.store) peer a at.servers) now at v t sent x o did.turn sends ended performed dropped;
+      told = did.told;
+    })
 
 -- A tick.
 

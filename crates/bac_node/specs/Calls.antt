@@ -1,5 +1,5 @@
 -- What a call of a node does.
-use Rattle.std.specs.Prelude.{◌≡◌, ◌≢◌, ◌⊎◌, ◌<◌, ◌++◌, ℕ, false, map, Result, Ok, Err}
+use Rattle.std.specs.Prelude.{◌≡◌, ◌≢◌, ◌⊎◌, ◌<◌, ◌++◌, ℕ, false, map}
 use Rattle.bac_npdu.specs.Peers.{PeerView}
 use Rattle.bac_apdu.specs.Apdu.{Apdu, Limits}
 use Rattle.bac_apdu.specs.Spelling.{SpellsApdu}
@@ -9,7 +9,6 @@ use Rattle.bac_service.specs.Values.{Request, choice_of}
 use Rattle.bac_protocol.specs.Service.{Octets}
 use Rattle.bac_protocol.specs.Sizes.{RequestFault}
 use Rattle.bac_protocol.specs.Wire.{is_from_client}
-use Rattle.bac_value.specs.declared.memory.NoMemory.{NoMemory}
 use Rattle.bac_transaction.specs.Ends.{Accepted, AskOutcome, AskRefusal, CannotGo, ClientEnd, key_of, requester_ask, requester_tick, responder_tick}
 use Rattle.bac_transaction.specs.Meanings.{IsEndedView}
 use Rattle.bac_transaction.specs.Sends.{IsSent, Pairwise}
@@ -19,10 +18,8 @@ use Rattle.bac_requester.specs.declared.ask_fault.AskFault.{AskFault}
 use Rattle.bac_requester.specs.declared.ask_fault.AskFault.TheVariants as fault
 use Rattle.bac_requester.specs.declared.asking.Asked.{Asked}
 use Rattle.bac_requester.specs.declared.reaction.Reaction.{Reaction}
-use Rattle.bac_world.specs.Node.{Node, Refusal, IsHeardBy, NodeAsks, NodeRefuses}
+use Rattle.bac_world.specs.Node.{Node, Refusal, NodeAsks, NodeRefuses}
 use Rattle.bac_world.specs.Laws.{IsMeaningless}
-use Rattle.bac_node.specs.Views.{outcome_view}
-use Rattle.bac_node.specs.declared.outcome.Outcome.{Outcome}
 
 -- a datagram that a node drops: it comes from the node's own link, or means no APDU of a peer
 abbrev pub IsNotHeard : (link from octets : Octets) → Type 0
@@ -31,11 +28,6 @@ IsNotHeard link from octets = (from ≡ link) ⊎ IsMeaningless from octets
 -- each APDU that a datagram means is for the client's end, which has no transaction open for it
 abbrev pub IsForNoneOpen : (from octets : Octets) → ClientEnd → Type 0
 IsForNoneOpen from octets e = (peer : PeerView) (a : Apdu) → Means SpellsApdu from octets peer a → (is_from_client a ≡ false) × HasNoneOpen e (key_of peer a)
-
--- an APDU of a peer went to the end that it is for, or allocation failed and nothing has changed
-abbrev pub Dispatches : (now : ℕ) → PeerView → Apdu → (old : Node) → Result Outcome NoMemory → (new : Node) → Type 0
-Dispatches now peer a old (Ok o) new = IsHeardBy (is_from_client a) peer a now old new (outcome_view o)
-Dispatches now peer a old (Err e) new = new ≡ old
 
 -- the node after a tick
 abbrev pub ticked : (now : ℕ) → Node → Node

@@ -4,6 +4,5 @@ pub mod Fresh
 pub mod Calls
 pub mod Capacities
 pub mod Waiting
-pub mod Reuse
-pub mod Remembering
+pub mod Serving
 pub mod Memory

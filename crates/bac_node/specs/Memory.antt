@@ -1,6 +1,5 @@
 -- How many octets of service data the server's end of a node keeps.
-use Rattle.std.specs.Prelude.{◌≤◌, ℕ, max}
-use Rattle.bac_transaction.specs.Ends.{ServerTurn}
+use Rattle.std.specs.Prelude.{◌≤◌, ℕ, max, Option, Some, None}
 use Rattle.bac_responder.specs.Kept as servers
 use Rattle.bac_world.specs.Node.{Node}
 
@@ -12,6 +11,7 @@ kept_octets n = servers.kept_octets n.servers.slots
 abbrev pub KeepsWithin : (memory : ℕ) → (old new : Node) → Type 0
 KeepsWithin memory old new = kept_octets new ≤ max (kept_octets old) memory
 
--- so it is after that turn of its server's end
-abbrev pub EndsWithin : (memory : ℕ) → (old : Node) → ServerTurn → Type 0
-EndsWithin memory old turn = servers.kept_octets turn.end.slots ≤ max (kept_octets old) memory
+-- so it is where there is a bound
+abbrev pub IsWithin : (memory : Option ℕ) → (old new : Node) → Type 0
+IsWithin None old new = Unit {0}
+IsWithin (Some memory) old new = KeepsWithin memory old new

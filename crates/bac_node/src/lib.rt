@@ -13,13 +13,11 @@ mod memory;
 mod node;
 mod outcome;
 mod reading;
-mod reuse;
 
 pub use cause::Cause;
 pub use config::Config;
 pub use fault::{NewNodeFault, NodeFault};
-pub use law::{capacities_stay, hears_as_ever, hears_as_long};
+pub use law::{capacities_stay, hears_by_rules};
 pub use memory::MEMORY;
 pub use node::Node;
 pub use outcome::Outcome;
-pub use reuse::Reuse;

@@ -1,6 +1,6 @@
-//! How many octets of service data the server's end of a node keeps at the most. `Node` asks for room before it hears an APDU.
+//! How many octets of service data the server's end of a node keeps at the most.
 
-/// How many octets of service data the server's end of a node keeps at the most, where its caller names no other number: 64 MiB (own number of this profile).
+/// The usual bound on the octets of service data that the server's end of a node keeps, for `Rules::within`: 64 MiB (own number of this profile).
 ///
 /// What counts are the octets of kept requests and replies, and those of segments of requests that are put together, each with four more. Beside them an entry
 /// takes less than two kilobytes, and a vector may have room for twice as many octets as it holds.

@@ -16,24 +16,21 @@ ghost use Rattle.bac_store.specs.ReplyLengths.{DATA_LIMIT, reply_length};
 ghost use Rattle.bac_store.specs.Views.{change_view};
 ghost use Rattle.bac_slots.specs.Slots.{value_at};
 ghost use Rattle.bac_transaction.specs.Keys.{same_key};
-ghost use Rattle.bac_transaction.specs.Ends.{key_of, is_slot_held, is_slot_live, requester_tick, responder_on_apdu, responder_tick};
-ghost use Rattle.bac_transaction.specs.Remembering.{responder_remembering};
-ghost use Rattle.bac_transaction.specs.Services.{service_of};
+ghost use Rattle.bac_transaction.specs.Ends.{key_of, is_slot_held, is_slot_live, requester_tick, responder_tick};
 ghost use Rattle.bac_transaction.specs.Tables.{AreLive, IsOrderlyClient, IsOrderlyServer};
-ghost use Rattle.bac_transaction.specs.Views.{peer_key_view, settings_view};
+ghost use Rattle.bac_transaction.specs.Views.{peer_key_view, rules_view, settings_view};
 ghost use Rattle.bac_protocol.specs.Context.{Settings as Set};
+ghost use Rattle.bac_protocol.specs.Serving.{STRICT};
 ghost use Rattle.bac_protocol.specs.Wire.{is_from_client};
 ghost use Rattle.bac_requester.specs.Reactions.{HasNoneOpen};
 ghost use Rattle.bac_requester.specs.Short.{AreRepliesShort};
-ghost use Rattle.bac_responder.specs.Kept.{keeps_no_more, knows};
 ghost use Rattle.bac_responder.specs.Short.{AreRequestsShort};
 ghost use Rattle.bac_world.specs.Keys.{HasKeysApart};
 ghost use Rattle.bac_world.specs.Node.{NodeOn, NodeTick, IsHeardBy, restarted, with_change};
-ghost use Rattle.bac_world.specs.ReusingNodes.{NodeHears, NodeReusing};
-ghost use Rattle.bac_node.specs.Calls.{Dispatches, IsAsked, IsForNoneOpen, IsNotHeard, IsTickOfBoth, Refuses, ticked};
+ghost use Rattle.bac_node.specs.Calls.{IsAsked, IsForNoneOpen, IsNotHeard, IsTickOfBoth, Refuses, ticked};
 ghost use Rattle.bac_node.specs.Fresh.{fresh_node, has_large_slots, has_slots, has_slots_within, made_node, window_fits, with_first_id};
-ghost use Rattle.bac_node.specs.Memory.{EndsWithin, KeepsWithin, kept_octets};
-ghost use Rattle.bac_node.specs.Remembering.{DispatchesRemembering, IsHeardRememberingBy, NodeHearsBy};
+ghost use Rattle.bac_node.specs.Memory.{IsWithin, kept_octets};
+ghost use Rattle.bac_node.specs.Serving.{DispatchesBy, IsServedBy, NodeServes};
 ghost use Rattle.bac_node.specs.Views.{outcome_view};
 ghost use Rattle.bac_node.specs.Waiting.{IsDueBy, MovesAt, RestsUntil};
 ghost use Rattle.bac_requester.specs.Timers.{LAST_MOMENT};
@@ -43,18 +40,16 @@ mod restarting;
 use crate::config::{Config, settings_of, slots_within};
 use crate::ends::empty_ends;
 use crate::fault::{NewNodeFault, NodeFault};
-use crate::memory::MEMORY;
 use crate::outcome::Outcome;
 use crate::reading::{is_from_client, read_from};
-use crate::reuse::Reuse;
 use bac_apdu::{Apdu, Limits};
 use bac_npdu::{LinkAddress, Peer};
 use bac_requester::{AskFault, Asked, Client, Reaction, Requester};
-use bac_responder::{Responder, ReuseRules, Served, ServerTransaction};
+use bac_responder::{Responder, ServerTransaction, Serving};
 use bac_service::OwnedRequest;
 use bac_slots::IndexSlots;
 use bac_store::{Change, ChangeFault, Store, replies_can_be_sent};
-use bac_transaction::{PeerKey, Settings};
+use bac_transaction::{PeerKey, Rules, Settings};
 use bac_value::NoMemory;
 use std::alloc::Global;
 use std::marker::Model;
@@ -310,98 +305,44 @@ impl Node {
     /// It drops a datagram that comes from the node's own address or means no APDU of a peer: then only the latest moment changes. For such a datagram, and for
     /// an APDU to the client's end that no open transaction waits for, it allocates nothing.
     ///
-    /// `ClockBack` exactly where the moment is before the latest one. `NoMemory` where memory can't be allocated: the caller may drop the datagram, since the
-    /// peer sends it again. After a fault the node is as before.
+    /// It is `hear` with the strict rules, which put no bound on memory: `hear` has one. `ClockBack` exactly where the moment is before the latest one. `NoMemory`
+    /// where memory can't be allocated: the caller may drop the datagram, since the peer sends it again. After a fault the node is as before.
     pub fn on(&mut self, now: u64, from: LinkAddress, octets: &[u8]) -> Result<Outcome, NodeFault>
         ensures went { IfOk result (λ o. NodeOn now from octets.now self.old self.new (outcome_view o)) }
+        ensures away { IfOk result (λ o. NodeServes STRICT o.turned_away now from octets.now self.old self.new (outcome_view o)) }
         ensures early { IsErrOf result NodeFault.ClockBack ↔ (now < self.old.latest) }
         ensures dropped { IsNotHeard self.old.link from octets.now → IsErrOf result NodeFault.NoMemory → ⊥ }
         ensures none_open { IsForNoneOpen from octets.now self.old.clients → IsErrOf result NodeFault.NoMemory → ⊥ }
-        ensures within { OnOk result (KeepsWithin 67108864 self.old self.new) }
         ensures err { OnErr result (self.new ≡ self.old) }
     {
-        self.hear_by(Reuse::Never, MEMORY, now, from, octets)
+        self.hear(&Rules::strict(), now, from, octets)
     }
 
-    /// As `on`, of a node that lets clients use an invoke ID again as soon as its transaction is over (clause 5.4). Call one of both for all datagrams.
+    /// A datagram comes from a link to a node of these rules. Call it with the same rules for all datagrams, or `on` for all.
     ///
-    /// ReadProperty and AtomicReadFile without segments are performed each time that they come, from the store as it then is, unless a request of their peer and
-    /// invoke ID still goes on. They take a slot only where their reply goes in segments, until the SegmentACK that finishes it, or an Abort of their client. A
-    /// kept reply of another request goes again to that request alone: another one ends it and is performed.
+    /// Where reads are performed anew, ReadProperty and AtomicReadFile without segments are performed each time that they come, from the store as it then is,
+    /// unless a request of their peer and invoke ID still goes on. They take a slot only where their reply goes in segments, until the SegmentACK that finishes it,
+    /// or an Abort of their client. A kept reply of another request goes again to that request alone: another one ends it and is performed.
     ///
-    /// The faults are those of `on`.
-    pub fn on_reusing(
-        &mut self,
-        now: u64,
-        from: LinkAddress,
-        octets: &[u8],
-    ) -> Result<Outcome, NodeFault>
-        ensures went { IfOk result (λ o. NodeReusing now from octets.now self.old self.new (outcome_view o)) }
-        ensures early { IsErrOf result NodeFault.ClockBack ↔ (now < self.old.latest) }
-        ensures dropped { IsNotHeard self.old.link from octets.now → IsErrOf result NodeFault.NoMemory → ⊥ }
-        ensures none_open { IsForNoneOpen from octets.now self.old.clients → IsErrOf result NodeFault.NoMemory → ⊥ }
-        ensures within { OnOk result (KeepsWithin 67108864 self.old self.new) }
-        ensures err { OnErr result (self.new ≡ self.old) }
-    {
-        self.hear_within(true, MEMORY, now, from, octets)
-    }
-
-    /// A datagram comes to a node of either setting: as `on_reusing` where `reuse` is true, otherwise as `on`.
+    /// A new request that finds no free slot, or comes while the node waits after a restart, is turned away with an Abort of reason 0; `turned_away` of the outcome
+    /// says so.
+    ///
+    /// The faults are those of `on`; `NoMemory` also where an APDU might make the server's end keep more than `memory` octets of service data: a request is taken
+    /// to need room for its own, and for the longest reply and the place of a segment, 65,539 octets. With less than that, only what needs no room is heard. A repeat of a request that was received whole needs none,
+    /// in segments or not; nor, where reads are performed anew, does a read without segments whose reply is one APDU. What is kept already stays, but for
+    /// entries that are not live, whose place a new one takes.
     pub fn hear(
         &mut self,
-        reuse: bool,
+        rules: &Rules,
         now: u64,
         from: LinkAddress,
         octets: &[u8],
     ) -> Result<Outcome, NodeFault>
-        ensures went { IfOk result (λ o. NodeHears reuse now from octets.now self.old self.new (outcome_view o)) }
+        ensures went { IfOk result (λ o. NodeServes (rules_view rules.now) o.turned_away now from octets.now self.old self.new (outcome_view o)) }
         ensures early { IsErrOf result NodeFault.ClockBack ↔ (now < self.old.latest) }
         ensures dropped { IsNotHeard self.old.link from octets.now → IsErrOf result NodeFault.NoMemory → ⊥ }
         ensures none_open { IsForNoneOpen from octets.now self.old.clients → IsErrOf result NodeFault.NoMemory → ⊥ }
-        ensures within { OnOk result (KeepsWithin 67108864 self.old self.new) }
-        ensures err { OnErr result (self.new ≡ self.old) }
-    {
-        self.hear_within(reuse, MEMORY, now, from, octets)
-    }
-
-    /// As `hear`, with another bound than [`MEMORY`](crate::MEMORY) on the octets of service data that the server's end keeps. `NoMemory` also where an APDU might
-    /// make it keep more than `memory`: a request is taken to need room for its own octets, and for the longest reply and the place of a segment, 65,539 octets.
-    /// A repeat of a request that was received whole needs none, in segments or not; nor, where invoke IDs may be used again, does a read without segments whose
-    /// reply is one APDU. What is kept already stays, but for entries that are not live, whose place a new one takes.
-    pub fn hear_within(
-        &mut self,
-        reuse: bool,
-        memory: usize,
-        now: u64,
-        from: LinkAddress,
-        octets: &[u8],
-    ) -> Result<Outcome, NodeFault>
-        ensures went { IfOk result (λ o. NodeHears reuse now from octets.now self.old self.new (outcome_view o)) }
-        ensures early { IsErrOf result NodeFault.ClockBack ↔ (now < self.old.latest) }
-        ensures dropped { IsNotHeard self.old.link from octets.now → IsErrOf result NodeFault.NoMemory → ⊥ }
-        ensures none_open { IsForNoneOpen from octets.now self.old.clients → IsErrOf result NodeFault.NoMemory → ⊥ }
-        ensures within { OnOk result (KeepsWithin memory self.old self.new) }
-        ensures err { OnErr result (self.new ≡ self.old) }
-    {
-        self.hear_by(Reuse::of(reuse), memory, now, from, octets)
-    }
-
-    /// As `hear_within`, of a node that remembers a request no longer than `reuse` says: an equal one gets the kept reply only so long, and is then performed
-    /// again. With [`Reuse::of`](crate::Reuse::of) it is as `hear_within`. Call it in the same way for all datagrams.
-    #[tactic(auto, using(crate::proofs::Kept::same_kept))]
-    pub fn hear_by(
-        &mut self,
-        reuse: Reuse,
-        memory: usize,
-        now: u64,
-        from: LinkAddress,
-        octets: &[u8],
-    ) -> Result<Outcome, NodeFault>
-        ensures went { IfOk result (λ o. NodeHearsBy reuse now from octets.now self.old self.new (outcome_view o)) }
-        ensures early { IsErrOf result NodeFault.ClockBack ↔ (now < self.old.latest) }
-        ensures dropped { IsNotHeard self.old.link from octets.now → IsErrOf result NodeFault.NoMemory → ⊥ }
-        ensures none_open { IsForNoneOpen from octets.now self.old.clients → IsErrOf result NodeFault.NoMemory → ⊥ }
-        ensures within { OnOk result (KeepsWithin memory self.old self.new) }
+        ensures within { OnOk result (IsWithin rules.now.memory self.old self.new) }
         ensures err { OnErr result (self.new ≡ self.old) }
     {
         if self.is_before(now) {
@@ -414,160 +355,61 @@ impl Node {
                 return Ok(Outcome::dropped(self.alloc, cause));
             }
         };
-        let heard = match reuse {
-            Reuse::Never => self.dispatch(memory, now, &peer, &apdu),
-            Reuse::Remembering(remember) => self.dispatch_reusing(
-                remember, memory, now, &peer, &apdu,
-            ),
-        };
-        Ok(heard?)
+        Ok(self.dispatch(rules, now, &peer, &apdu)?)
     }
 
     /// Gives an APDU to the end that it is for: to the server's where the client of a transaction sends such, otherwise to the client's.
-    #[tactic(auto, using(crate::proofs::Kept::same_kept))]
     fn dispatch(
         &mut self,
-        memory: usize,
+        rules: &Rules,
         now: u64,
         peer: &Peer,
         apdu: &Apdu<'_>,
     ) -> Result<Outcome, NoMemory>
-        ensures within { OnOk result (KeepsWithin memory self.old self.new) }
-        ensures dispatches { Dispatches now (peer_view peer.now) (apdu_view apdu.now) self.old result self.new }
+        ensures dispatches { DispatchesBy (rules_view rules.now) now (peer_view peer.now) (apdu_view apdu.now) self.old result self.new }
+        ensures within { OnOk result (IsWithin rules.now.memory self.old self.new) }
         ensures none_open { is_from_client (apdu_view apdu.now) ≡ false
             → HasNoneOpen self.old.clients (key_of (peer_view peer.now) (apdu_view apdu.now)) → IsErr result → ⊥ }
     {
         if is_from_client(apdu) {
-            self.responder_on_apdu(memory, now, peer, apdu)
+            self.responder_on_apdu(rules, now, peer, apdu)
         } else {
             self.requester_on_apdu(now, peer, apdu)
         }
-    }
-
-    /// As `dispatch`, where invoke IDs may be used again.
-    #[tactic(auto, using(crate::proofs::Kept::same_kept))]
-    fn dispatch_reusing(
-        &mut self,
-        remember: u64,
-        memory: usize,
-        now: u64,
-        peer: &Peer,
-        apdu: &Apdu<'_>,
-    ) -> Result<Outcome, NoMemory>
-        ensures within { OnOk result (KeepsWithin memory self.old self.new) }
-        ensures dispatches { DispatchesRemembering remember now (peer_view peer.now) (apdu_view apdu.now) self.old result self.new }
-        ensures none_open { is_from_client (apdu_view apdu.now) ≡ false
-            → HasNoneOpen self.old.clients (key_of (peer_view peer.now) (apdu_view apdu.now)) → IsErr result → ⊥ }
-    {
-        if is_from_client(apdu) {
-            self.responder_reusing(remember, memory, now, peer, apdu)
-        } else {
-            self.requester_on_apdu(now, peer, apdu)
-        }
-    }
-
-    /// Whether the server's end has room for an APDU, or keeps no more after it.
-    fn has_room(&mut self, memory: usize, now: u64, peer: &Peer, apdu: &Apdu<'_>) -> bool
-        ensures same { self.new ≡ self.old }
-        ensures within { IsTrue result → EndsWithin memory self.old (responder_on_apdu self.old.settings now (service_of self.old.store) (peer_view peer.now)
-            (apdu_view apdu.now) self.old.servers) }
-        ensures needless { knows now (peer_view peer.now) (apdu_view apdu.now) self.old.servers ≡ true → IsTrue result }
-    {
-        replies_can_be_sent(&self.store);
-        if self.servers.has_room_for(now, peer, apdu, memory) {
-            return true;
-        }
-        self.servers.knows(now, peer, apdu)
-    }
-
-    /// As `has_room`, where invoke IDs may be used again.
-    fn has_room_reusing(
-        &mut self,
-        remember: u64,
-        memory: usize,
-        now: u64,
-        peer: &Peer,
-        apdu: &Apdu<'_>,
-    ) -> Result<bool, NoMemory>
-        ensures same { self.new ≡ self.old }
-        ensures within { IfOk result (λ room. IsTrue room → EndsWithin memory self.old (responder_remembering remember self.old.settings now
-            (service_of self.old.store) (peer_view peer.now) (apdu_view apdu.now) self.old.servers)) }
-        ensures needless { IfOk result (λ room. keeps_no_more remember self.old.settings now (service_of self.old.store) (peer_view peer.now) (apdu_view apdu.now)
-            self.old.servers ≡ true → IsTrue room) }
-    {
-        replies_can_be_sent(&self.store);
-        if self.servers.has_room_for(now, peer, apdu, memory) {
-            return Ok(true);
-        }
-        let rules = ReuseRules {
-            settings: self.settings,
-            remember,
-        };
-        self.servers
-            .keeps_no_more(self.alloc, &rules, now, peer, apdu, &self.store)
     }
 
     /// An APDU for the server's end.
     fn responder_on_apdu(
         &mut self,
-        memory: usize,
+        rules: &Rules,
         now: u64,
         peer: &Peer,
         apdu: &Apdu<'_>,
     ) -> Result<Outcome, NoMemory>
-        ensures within { OnOk result (KeepsWithin memory self.old self.new) }
-        ensures heard { IfOk result (λ o. IsHeardBy true (peer_view peer.now) (apdu_view apdu.now) now self.old self.new (outcome_view o)) }
+        ensures heard { IfOk result (λ o. IsServedBy (rules_view rules.now) o.turned_away (peer_view peer.now) (apdu_view apdu.now) now self.old self.new
+            (outcome_view o)) }
+        ensures within { OnOk result (IsWithin rules.now.memory self.old self.new) }
         ensures err { OnErr result (self.new ≡ self.old) }
     {
-        if !self.has_room(memory, now, peer, apdu) {
-            return Err(NoMemory);
-        }
-        let Served { sends, act } = self.servers.on(
-            self.alloc,
-            &self.settings,
-            now,
-            peer,
-            apdu,
-            &mut self.store,
-        )?;
-        self.latest = now;
-        Ok(Outcome {
-            sends,
-            effect: act,
-            ended: Vec::new(self.alloc),
-            dropped: None,
-        })
-    }
-
-    /// An APDU for the server's end, where invoke IDs may be used again.
-    fn responder_reusing(
-        &mut self,
-        remember: u64,
-        memory: usize,
-        now: u64,
-        peer: &Peer,
-        apdu: &Apdu<'_>,
-    ) -> Result<Outcome, NoMemory>
-        ensures within { OnOk result (KeepsWithin memory self.old self.new) }
-        ensures heard { IfOk result (λ o. IsHeardRememberingBy remember true (peer_view peer.now) (apdu_view apdu.now) now self.old self.new (outcome_view o)) }
-        ensures err { OnErr result (self.new ≡ self.old) }
-    {
-        if !self.has_room_reusing(remember, memory, now, peer, apdu)? {
-            return Err(NoMemory);
-        }
-        let rules = ReuseRules {
+        // what is kept of a reply is no longer than memory has room for
+        replies_can_be_sent(&self.store);
+        let serving = Serving {
             settings: self.settings,
-            remember,
+            rules: *rules,
         };
-        let Served { sends, act: effect } = self
+        let served = self
             .servers
-            .on_reusing(self.alloc, &rules, now, peer, apdu, &mut self.store)?;
+            .on(self.alloc, &serving, now, peer, apdu, &mut self.store)?;
+        let Some(turn) = served else {
+            return Err(NoMemory);
+        };
         self.latest = now;
         Ok(Outcome {
-            sends,
-            effect,
+            sends: turn.sends,
+            effect: turn.act,
             ended: Vec::new(self.alloc),
             dropped: None,
+            turned_away: turn.turned_away,
         })
     }
 
@@ -579,6 +421,7 @@ impl Node {
         apdu: &Apdu<'_>,
     ) -> Result<Outcome, NoMemory>
         ensures same { self.new.servers ≡ self.old.servers }
+        ensures away { IfOk result (λ o. o.turned_away ≡ false) }
         ensures heard { IfOk result (λ o. IsHeardBy false (peer_view peer.now) (apdu_view apdu.now) now self.old self.new (outcome_view o)) }
         ensures none_open { HasNoneOpen self.old.clients (key_of (peer_view peer.now) (apdu_view apdu.now)) → IsErr result → ⊥ }
         ensures err { OnErr result (self.new ≡ self.old) }
@@ -590,6 +433,7 @@ impl Node {
             effect: None,
             ended,
             dropped: None,
+            turned_away: false,
         })
     }
 
@@ -602,6 +446,7 @@ impl Node {
     pub fn tick(&mut self, now: u64) -> Result<Outcome, NodeFault>
         ensures went { IfOk result (λ o. NodeTick now self.old self.new (outcome_view o)) }
         ensures early { IsErrOf result NodeFault.ClockBack ↔ (now < self.old.latest) }
+        ensures away { IfOk result (λ o. o.turned_away ≡ false) }
         ensures live { OnOk result (AreLive now self.new.servers.slots) }
         ensures kept { kept_octets self.new ≤ kept_octets self.old }
         ensures due { now < LAST_MOMENT → IsErrOf result NodeFault.NoMemory → IsDueBy now self.old }
@@ -616,6 +461,7 @@ impl Node {
     /// more memory of their own before the node may change; others call [`tick`](Node::tick). The faults are those of `tick`.
     pub fn prepare_tick(&self, now: u64) -> Result<Outcome, NodeFault>
         ensures ticks { IfOk result (λ o. NodeTick now self.now (ticked now self.now) (outcome_view o)) }
+        ensures away { IfOk result (λ o. o.turned_away ≡ false) }
         ensures early { IsErrOf result NodeFault.ClockBack ↔ (now < self.now.latest) }
         ensures due { now < LAST_MOMENT → IsErrOf result NodeFault.NoMemory → IsDueBy now self.now }
     {
@@ -636,6 +482,7 @@ impl Node {
             effect: None,
             ended,
             dropped: None,
+            turned_away: false,
         })
     }
 

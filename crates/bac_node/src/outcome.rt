@@ -1,5 +1,5 @@
 //! What a call of a node returns. Drivers, programs and C read the fields: a change of them is a change of the interface.
-ghost use Rattle.std.specs.Prelude.{◌≡◌};
+ghost use Rattle.std.specs.Prelude.{◌≡◌, false};
 ghost use Rattle.bac_world.specs.Node.{dropped_for};
 ghost use Rattle.bac_node.specs.Views.{cause_view, outcome_view};
 
@@ -23,18 +23,22 @@ pub struct Outcome {
     pub ended: Vec<Ended>,
     /// Why the node dropped the datagram, if it did.
     pub dropped: Option<Cause>,
+    /// Whether the node's server turned a request away: then the one datagram of `sends` is an Abort.
+    pub turned_away: bool,
 }
 
 impl Outcome {
     /// The outcome of a datagram that is dropped. It allocates nothing.
     pub(crate) fn dropped(alloc: Global, cause: Cause) -> Outcome
-        ensures { outcome_view result ≡ dropped_for (cause_view cause) }
+        ensures outcome { outcome_view result ≡ dropped_for (cause_view cause) }
+        ensures away { result.turned_away ≡ false }
     {
         Outcome {
             sends: Vec::new(alloc),
             effect: None,
             ended: Vec::new(alloc),
             dropped: Some(cause),
+            turned_away: false,
         }
     }
 }

@@ -9,10 +9,11 @@ use crate::telling::{framed, print_outcome, print_sends};
 use crate::words::{change_of, first, octets_of, request_of};
 use bac_apdu::read;
 use bac_commands::{print_asked, print_refused};
-use bac_node::{MEMORY, Node, NodeFault, Outcome, Reuse};
+use bac_node::{MEMORY, Node, NodeFault, Outcome};
 use bac_npdu::Peer;
 use bac_requester::{AskFault, Asked};
 use bac_store::ChangeFault;
+use bac_transaction::Rules;
 use std::alloc::Global;
 use std::io::Write;
 
@@ -66,6 +67,11 @@ fn datagram_of(alloc: Global, verb: &str, digits: &str) -> Option<Vec<u8>> {
     framed(alloc, &octets)
 }
 
+/// The rules by which clients may use invoke IDs again or not, with so many octets at the most.
+fn rules_of(reuse: bool, memory: usize) -> Rules {
+    Rules::of(reuse).within(memory)
+}
+
 fn hears(
     alloc: Global,
     node: &mut Node,
@@ -77,7 +83,8 @@ fn hears(
     let (peer, digits) = words.split_once(' ')?;
     let from = link(peer.parse::<u8>().ok()?);
     let octets = datagram_of(alloc, verb, digits)?;
-    told(alloc, node.hear(verb == "reuse", now, from, &octets), out)
+    let rules = rules_of(verb == "reuse", MEMORY);
+    told(alloc, node.hear(&rules, now, from, &octets), out)
 }
 
 /// The sender and the datagram of the words `PEER HEX`, where HEX is an APDU.
@@ -95,9 +102,12 @@ fn remembers(
     out: &mut Vec<u8>,
 ) -> Option<Came> {
     let (milliseconds, words) = first(words);
-    let reuse = Reuse::Remembering(milliseconds.parse::<u64>().ok()?);
+    let rules = Rules {
+        remember: Some(milliseconds.parse::<u64>().ok()?),
+        ..rules_of(true, MEMORY)
+    };
     let (from, octets) = sent_in(alloc, words)?;
-    told(alloc, node.hear_by(reuse, MEMORY, now, from, &octets), out)
+    told(alloc, node.hear(&rules, now, from, &octets), out)
 }
 
 fn hears_within(
@@ -116,7 +126,7 @@ fn hears_within(
     let (from, octets) = sent_in(alloc, words)?;
     match told(
         alloc,
-        node.hear_within(reuse, memory, now, from, &octets),
+        node.hear(&rules_of(reuse, memory), now, from, &octets),
         out,
     )? {
         Came::NoMemory => {

@@ -1,7 +1,7 @@
 //! Plays rows of text and prints what comes of each: single nodes, worlds, nodes on links in memory, a socket of this machine, tables
 //! of many slots, and scripts.
 //!
-//! The section `nodes` of bac_all_rows/stdin holds the rows, and that of stdout what has to be printed. A row begins with `=`, what plays it, and its title. In rows of nodes,
+//! The section `nodes` of bac_stack_rows/stdin holds the rows, and that of stdout what has to be printed. A row begins with `=`, what plays it, and its title. In rows of nodes,
 //! worlds and wires the expected result follows each event: where the result differs, the event's line is printed after `! `, and the result. Only rows
 //! that are wrong on purpose do so. Of other rows each line is printed after `> `, and the result below it, or below all lines. A line that has no meaning
 //! prints `?`.

@@ -4,9 +4,10 @@ use crate::memory_link::{MemoryClock, MemoryLink};
 use crate::words::request_of;
 use bac_apdu::Limits;
 use bac_driver::{BoundNode, Question};
-use bac_node::{Config, Node};
+use bac_node::{Config, MEMORY, Node};
 use bac_npdu::{LinkAddress, Peer};
 use bac_store::house;
+use bac_transaction::Rules;
 use std::alloc::Global;
 use std::cell::RefCell;
 
@@ -44,7 +45,12 @@ pub(crate) type MemoryNode<'a> = BoundNode<MemoryLink<'a>>;
 
 fn node_on<'a>(alloc: Global, medium: &'a RefCell<Medium>, end: End) -> Option<MemoryNode<'a>> {
     let node = house_node(alloc, end.link())?;
-    match BoundNode::new(alloc, node, MemoryLink::new(medium, end)) {
+    match BoundNode::new(
+        alloc,
+        node,
+        MemoryLink::new(medium, end),
+        Rules::strict().within(MEMORY),
+    ) {
         Ok(node) => Some(node),
         Err(_) => None,
     }

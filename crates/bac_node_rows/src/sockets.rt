@@ -3,6 +3,8 @@ use crate::side::house_node;
 use crate::turns::receive;
 use crate::words::octets_of;
 use bac_driver::{BoundNode, Link, MonotonicClock, RunLimit, UdpLink, WaitLimit};
+use bac_node::MEMORY;
+use bac_transaction::Rules;
 use std::alloc::Global;
 use std::io::Write;
 use std::net::Net;
@@ -19,7 +21,7 @@ fn bound<R: Net>(rt: &R) -> Option<UdpLink> {
 /// A node with the house store on a link.
 fn node_on(alloc: Global, link: UdpLink) -> Option<BoundNode<UdpLink>> {
     let node = house_node(alloc, link.address())?;
-    match BoundNode::new(alloc, node, link) {
+    match BoundNode::new(alloc, node, link, Rules::strict().within(MEMORY)) {
         Ok(node) => Some(node),
         Err(_) => None,
     }

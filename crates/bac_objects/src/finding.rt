@@ -79,18 +79,18 @@ impl fmt::Display for Wrong {
     fn fmt<W: fmt::Write>(&self, f: &mut fmt::Formatter<W>) -> fmt::Result {
         match self {
             Wrong::UnknownKey { key, .. } if key.as_str() == "described" => {
-                f.write_str("described = true stands before the first table")
+                f.write_str("described = true must come before the first table")
             }
             Wrong::UnknownKey {
                 key,
                 near: Some(near),
             } if key.as_str() == *near => {
-                write!(f, "key \"{key}\" wants described = true before the objects")
+                write!(f, "key \"{key}\" requires described = true at the top")
             }
             Wrong::UnknownKey {
                 key,
                 near: Some(near),
-            } => write!(f, "unknown key \"{key}\", did you mean {near}"),
+            } => write!(f, "unknown key \"{key}\"; did you mean {near}?"),
             Wrong::UnknownKey { key, near: None } => write!(f, "unknown key \"{key}\""),
             Wrong::Value {
                 wanted,
@@ -99,19 +99,19 @@ impl fmt::Display for Wrong {
             } => write_value(f, *wanted, found, *near),
             Wrong::Limits { limits, found } => {
                 let flaw = DescriptionFlaw::Limits;
-                write!(f, "{flaw}: {limits} wanted, {found} given")
+                write!(f, "{flaw}: expected {limits}, found {found}")
             }
             Wrong::Turned { least, greatest } => {
-                write!(f, "min = {least} above max = {greatest}")
+                write!(f, "min = {least} is greater than max = {greatest}")
             }
             Wrong::Refused(flaw) => write!(f, "{flaw}"),
             Wrong::SameName { object, id } => write_same_name(f, *object, *id),
-            Wrong::SingleObject => f.write_str("[[object]] wanted, [object] given"),
+            Wrong::SingleObject => f.write_str("expected [[object]], found [object]"),
             Wrong::NoToml { error, there } => {
                 let message = error.message();
                 write!(f, "{message}: {there}")
             }
-            Wrong::More => f.write_str("bad too, and perhaps more"),
+            Wrong::More => f.write_str("also invalid; there may be more"),
         }
     }
 }
@@ -122,11 +122,11 @@ fn write_same_name<W: fmt::Write>(
     object: usize,
     id: Option<ObjectIdentifier>,
 ) -> fmt::Result {
-    write!(f, "a name that object {object}")?;
-    if let Some(id) = id {
-        write_id(f, id)?;
+    write!(f, "same name as object {object}")?;
+    match id {
+        Some(id) => write_id(f, id),
+        None => Ok(()),
     }
-    f.write_str(" has")
 }
 
 /// Prints what is wanted and what is there, and the name that is like it, where there is one.
@@ -140,9 +140,9 @@ fn write_value<W: fmt::Write>(
         Wanted::Float => "number",
         _ => wanted.words(),
     };
-    write!(f, "{wanted} wanted, {found} given")?;
+    write!(f, "expected {wanted}, found {found}")?;
     match near {
-        Some(near) => write!(f, ", did you mean {near}"),
+        Some(near) => write!(f, "; did you mean {near}?"),
         None => Ok(()),
     }
 }

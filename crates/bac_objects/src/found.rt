@@ -155,10 +155,10 @@ pub(crate) fn found_words(
 ) -> Result<String, NoMemory> {
     let words = match problem.given {
         Given::Nothing => "nothing",
-        Given::Again => "the same again",
+        Given::Again => "a duplicate",
         _ => match value {
             Some(value) => return at_fault(alloc, value, problem).shown(alloc),
-            None => "another one",
+            None => "something else",
         },
     };
     Ok(String::from_str(alloc, words)?)

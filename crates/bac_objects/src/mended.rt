@@ -55,7 +55,7 @@ fn words_at(alloc: Global, text: &str, place: usize) -> Result<String, NoMemory>
     let before = text.get(..place).unwrap_or("");
     let before = before.rsplit('\n').next().unwrap_or("").trim();
     let before = printed(alloc, before)?;
-    Ok(format!(in alloc; "behind {before}")?)
+    Ok(format!(in alloc; "after {before}")?)
 }
 
 /// Whether a text ends in the head of an object that is one bracket short, and is TOML with no object before.

@@ -116,8 +116,8 @@ pub struct Problem {
 impl Wanted {
     pub(crate) fn words(self) -> &'static str {
         match self {
-            Wanted::Objects => "tables [[object]] alone",
-            Wanted::DescribedObjects => "described and tables [[object]] alone",
+            Wanted::Objects => "only [[object]] tables",
+            Wanted::DescribedObjects => "only described and [[object]] tables",
             Wanted::Table => "table",
             Wanted::ServedType => {
                 "analog-input, analog-value, binary-value, device, file or 128 to 1023"
@@ -125,34 +125,35 @@ impl Wanted {
             Wanted::ObjectType => "object type or 0 to 1023",
             Wanted::Instance => "0 to 4194302",
             Wanted::AnyInstance => "0 to 4194303",
-            Wanted::OwnIdentifier => "type and instance of its own",
+            Wanted::OwnIdentifier => "unique type and instance",
             Wanted::Text => "text",
             Wanted::ShortName => "at most 4091 octets",
             Wanted::Property => "description, present-value or 512 to 4194303",
             Wanted::AnyProperty => "property or 0 to 4194303",
             Wanted::OwnProperty => "each property once",
             Wanted::Value => "table with a value",
-            Wanted::OneValue => "one value by its kind",
-            Wanted::LimitedValue => "one value by its kind, writable, min and max or one-of",
+            Wanted::OneValue => "one KIND = VALUE",
+            Wanted::LimitedValue =>
+                "one KIND = VALUE, with at most writable, min and max, or one-of",
             Wanted::Limits => "min and max, or one-of",
             Wanted::List => "list of values",
             Wanted::Mark => "writable = true or false",
             Wanted::True => "true",
             Wanted::Boolean => "true or false",
-            Wanted::Unsigned => "integer from 0 on",
+            Wanted::Unsigned => "integer of at least 0",
             Wanted::Integer => "integer",
-            Wanted::Float => "number with a point",
-            Wanted::Single => "number of 32 bits",
+            Wanted::Float => "number with a decimal point",
+            Wanted::Single => "number that fits in 32 bits",
             Wanted::Enumerated => "0 to 4294967295",
-            Wanted::Bits => "text of 0 and 1",
+            Wanted::Bits => "text of digits 0 and 1",
             Wanted::Hex => "octets in hexadecimal",
-            Wanted::Spelling => "spelling of values in hexadecimal",
+            Wanted::Spelling => "encoded values in hexadecimal",
             Wanted::Date => "date from 1900 to 2154",
             Wanted::Time => "time of day",
             Wanted::Identifier => "table with type and instance",
             Wanted::Kind(kind) => kind.word(),
             Wanted::State => "enumerated 0 or 1",
-            Wanted::MultiState => "unsigned from 1 on",
+            Wanted::MultiState => "unsigned of at least 1",
             Wanted::ShortValue => "at most 4096 octets",
             Wanted::File => "octets of the file",
             Wanted::ShortFile => "at most 60000 octets",
@@ -171,11 +172,11 @@ impl Given {
             Given::DateTime => "date or time",
             Given::Array => "array",
             Given::Table => "table",
-            Given::Other => "another one",
+            Given::Other => "something else",
             Given::More => "more",
-            Given::Again => "the same again",
+            Given::Again => "a duplicate",
             Given::Kind(kind) => kind.word(),
-            Given::Hex => "spelling of another kind",
+            Given::Hex => "encoded values of another kind",
         }
     }
 }
@@ -184,6 +185,6 @@ impl fmt::Display for Problem {
     fn fmt<W: fmt::Write>(&self, f: &mut fmt::Formatter<W>) -> fmt::Result {
         let wanted = self.wanted.words();
         let given = self.given.words();
-        write!(f, "{wanted} wanted, {given} given")
+        write!(f, "expected {wanted}, found {given}")
     }
 }

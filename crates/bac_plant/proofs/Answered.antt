@@ -1,10 +1,13 @@
 -- Runs in which an ask is answered, and in which the power is cut before.
-use Rattle.std.proofs.Common.{◌≡◌, ℕ, List, [], ◌∷◌, map, slice_index_or, slice_get, true, Option, Some, None, refl, sym, ap, subst, ◌∙◌, arith}
+use Rattle.std.proofs.Common.{◌≡◌, ℕ, List, [], ◌∷◌, map, slice_index_or, slice_get, true, false, Option, Some, None, refl, sym, ap, subst, ◌∙◌, arith}
 use Rattle.bac_protocol.specs.declared.times.TheConstants.{T_OUT}
 use Rattle.bac_requester.specs.Timers.{LAST_MOMENT}
 use Rattle.bac_transaction.specs.Ends.{ClientSlot, TransactionSlot, requester_tick}
 use Rattle.bac_transaction.specs.Ends.TransactionSlot.{Closed, Open}
 use Rattle.bac_protocol.proofs.AtDrift.{lives}
+use Rattle.bac_transaction.specs.Given.{STRICTLY}
+use Rattle.bac_transaction.specs.Views.{rules_view}
+use Rattle.bac_node.specs.Serving.{AreSetTo}
 use Rattle.bac_world.specs.AnsweredRun.{LIMITS, TIME, link, node}
 use Rattle.bac_world.specs.Examples.{REQUEST}
 use Rattle.bac_world.specs.Node.{Node, Outcome, restarted}
@@ -15,7 +18,6 @@ use Rattle.bac_world.specs.World.{Copy, Delivers, DeliversIf, Hears, IsDelivered
 use Rattle.bac_world.proofs.Answered.{ACCEPTED, ANSWER, ASK, ASKED_NODE, LAST, SECOND, THIRD, answer_delivered, answered_run, ask_copied, asks}
 use Rattle.bac_world.proofs.Answered.{copy, datagram, request_delivered}
 use Rattle.bac_node.specs.Waiting.{MovesAt, RestsUntil}
-use Rattle.bac_node.specs.declared.reuse.Reuse.TheVariants as setting
 use Rattle.bac_driver.specs.Asking.{IsBegun}
 use Rattle.bac_driver.specs.BoundNodes.{BoundNode}
 use Rattle.bac_driver.specs.Rounds.{sends_of_all}
@@ -62,10 +64,14 @@ asked_moves = record {
 asked_due : IsDue ASKED_NODE (Some T_OUT)
 asked_due = record { rests = asked_rests; moves = asked_moves }
 
+-- The strict rules are those of a node that lets no client use an invoke ID again.
+strict_set : AreSetTo false (rules_view STRICTLY)
+strict_set = record { reads = refl; remembers = tt }
+
 -- The ask.
 
 abbrev ASKED : BoundNode
-ASKED = record { node = ASKED_NODE; failures = 0; calls = with_calls (Some []) (map call_of (datagram (link 1) ASK ∷ [])); buffer = []; reuse = setting.Never }
+ASKED = record { node = ASKED_NODE; failures = 0; calls = with_calls (Some []) (map call_of (datagram (link 1) ASK ∷ [])); buffer = []; rules = STRICTLY }
 
 abbrev begun : IsBegun 0 (question (peer_at (link 1)) LIMITS REQUEST) (station 0) 0 ASKED
 begun = record {
@@ -76,7 +82,7 @@ begun = record {
   lost = 0;
   carried = record { order = refl; count = refl; most = omega arith };
   buffer = refl;
-  reuse = refl;
+  rules = refl;
 }
 
 abbrev FIRST : Plant
@@ -188,12 +194,12 @@ answered_turns = record {
       so_far = record {
         middle = FIRST;
         so_far = record { middle = OPENING; so_far = refl; last = asked };
-        last = idle_step 253 FIRST 0 ASKED refl refl (Some T_OUT) asked_due asked_calm;
+        last = idle_step 253 FIRST 0 ASKED refl strict_set (Some T_OUT) asked_due asked_calm;
       };
-      last = hearing_step 253 IDLE 1 (station 1) refl refl None fresh_due 0 (link 0) (copy 0 1 ASK).octets request_comes _ served_hears
+      last = hearing_step 253 IDLE 1 (station 1) refl strict_set None fresh_due 0 (link 0) (copy 0 1 ASK).octets request_comes _ served_hears
           (node_in THIRD 1) served_is served_calm;
     };
-    last = hearing_step 253 SERVED 0 waiting refl refl (Some T_OUT) asked_due 1 (link 1) (copy 1 0 ANSWER).octets answer_comes _ answered_hears
+    last = hearing_step 253 SERVED 0 waiting refl strict_set (Some T_OUT) asked_due 1 (link 1) (copy 1 0 ANSWER).octets answer_comes _ answered_hears
         (node_in LAST 0) answered_is answered_calm;
   };
   log = refl;
@@ -220,7 +226,7 @@ abbrev SENT : Plant
 SENT = with_station HELD 1 sent_station
 
 sends_held : AreSent (served_turn ∷ []) held_station sent_station
-sends_held = record { lost = 0; carried = record { order = refl; count = refl; most = omega arith }; node = refl; buffer = refl; reuse = refl }
+sends_held = record { lost = 0; carried = record { order = refl; count = refl; most = omega arith }; node = refl; buffer = refl; rules = refl }
 
 answer_comes_again : IsOfStation 253 SENT 0 1 (link 1) (copy 1 0 ANSWER).octets
 answer_comes_again = record { copy = copy 1 0 ANSWER; there = refl; to = refl; sender = refl; whole = refl; young = omega arith; few = omega arith }
@@ -243,14 +249,14 @@ answered_round = record {
         so_far = record {
           middle = FIRST;
           so_far = record { middle = OPENING; so_far = refl; last = asked };
-          last = idle_step 253 FIRST 0 ASKED refl refl (Some T_OUT) asked_due asked_calm;
+          last = idle_step 253 FIRST 0 ASKED refl strict_set (Some T_OUT) asked_due asked_calm;
         };
-        last = holding_step 253 IDLE 1 (station 1) refl refl None fresh_due 0 (link 0) (copy 0 1 ASK).octets request_comes _ served_hears
+        last = holding_step 253 IDLE 1 (station 1) refl strict_set None fresh_due 0 (link 0) (copy 0 1 ASK).octets request_comes _ served_hears
             (node_in THIRD 1) served_is served_calm;
       };
       last = record { before = held_station; at = refl; after = sent_station; sends = sends_held; is = refl };
     };
-    last = hearing_step 253 SENT 0 waiting refl refl (Some T_OUT) asked_due 1 (link 1) (copy 1 0 ANSWER).octets answer_comes_again _ answered_hears
+    last = hearing_step 253 SENT 0 waiting refl strict_set (Some T_OUT) asked_due 1 (link 1) (copy 1 0 ANSWER).octets answer_comes_again _ answered_hears
         (node_in LAST 0) answered_is answered_calm;
   };
   log = refl;
@@ -278,7 +284,7 @@ idle_run : CutPlantRun 253 (Goes (Takes 0 Nowhere (turn_by_none 0)) ∷ Goes (Be
 idle_run = record {
   middle = cut_plant FIRST;
   so_far = record { middle = CUT_OPENING; so_far = refl; last = record { free = refl; goes = asked; same = refl } };
-  last = record { free = refl; goes = idle_step 253 FIRST 0 ASKED refl refl (Some T_OUT) asked_due asked_calm; same = refl };
+  last = record { free = refl; goes = idle_step 253 FIRST 0 ASKED refl strict_set (Some T_OUT) asked_due asked_calm; same = refl };
 }
 
 loses : LosesTurnAt 253 (cut_plant IDLE) 1 (Station 0) served_turn (record { plant = IDLE; losing = losing_one })
@@ -286,9 +292,9 @@ loses = record {
   before = station 1;
   at = refl;
   after = held_station;
-  holds = holds_now 253 IDLE 1 (station 1) refl refl None fresh_due 0 (link 0) (copy 0 1 ASK).octets request_comes _ served_hears
+  holds = holds_now 253 IDLE 1 (station 1) refl strict_set None fresh_due 0 (link 0) (copy 0 1 ASK).octets request_comes _ served_hears
       (node_in THIRD 1) served_is served_calm;
-  comes = comes_now 253 IDLE 1 (station 1) refl refl None fresh_due 0 (link 0) (copy 0 1 ASK).octets request_comes _ served_hears
+  comes = comes_now 253 IDLE 1 (station 1) refl strict_set None fresh_due 0 (link 0) (copy 0 1 ASK).octets request_comes _ served_hears
       (node_in THIRD 1) served_is served_calm;
   is = refl;
 }
@@ -301,7 +307,7 @@ cuts c b at time = record {
     at = at;
     after = started b;
     node = ap (λ (t : Time). restarted (clock_at t.pace 0).shows b.node.store b.node) (sym time);
-    reuse = refl;
+    rules = refl;
     is = refl;
   };
   losing = refl;
@@ -326,7 +332,7 @@ cut_rounds = record {
       so_far = idle_run;
       last = record {
         free = refl;
-        goes = holding_step 253 IDLE 1 (station 1) refl refl None fresh_due 0 (link 0) (copy 0 1 ASK).octets request_comes _ served_hears
+        goes = holding_step 253 IDLE 1 (station 1) refl strict_set None fresh_due 0 (link 0) (copy 0 1 ASK).octets request_comes _ served_hears
             (node_in THIRD 1) served_is served_calm;
         same = refl;
       };

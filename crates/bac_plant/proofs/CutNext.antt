@@ -57,7 +57,7 @@ can_start overtake stands s same c i at exact after is reuse = record {
       at = at;
       after = after;
       node = is ∙ ap (λ (x : Store). restarted (clock_at c.plant.time.pace exact).shows x stands.node) same;
-      reuse = reuse;
+      rules = reuse;
       is = refl;
     };
     losing = refl;

@@ -5,9 +5,11 @@ pub mod Runs
 pub mod Chained
 pub mod Rounded
 pub mod Next
+pub mod Composed
 pub mod Cut
 pub mod CutEvents
 pub mod CutNext
 pub mod Holding
 pub mod Resting
 pub mod Answered
+pub mod Pauses

@@ -19,8 +19,12 @@ use Rattle.bac_world.specs.World.{ending_fact, is_away, link_at, peer_at, told, 
 use Rattle.bac_journal.specs.Entering.{AreOfPeer, AreOfPeerSo, CanBeCopied, CanEnterSo, CanGoOnSo, CanLeave, Every, IsNoted, IsOfClient, IsOfStranger}
 use Rattle.bac_journal.proofs.GoingOn.{runs_can_go_on_so}
 use Rattle.bac_journal.proofs.Lists.{get_set}
-use Rattle.bac_node.specs.Remembering.{as_ever}
-use Rattle.bac_node.proofs.Remembering.{as_heard}
+use Rattle.bac_transaction.specs.Views.{read_rule_view, rules_view}
+use Rattle.bac_transaction.specs.declared.rules.Rules.{Rules}
+use Rattle.bac_transaction.specs.declared.rules.ReadRule as rule
+use Rattle.bac_transaction.specs.declared.rules.ReadRule.TheVariants as rule_case
+use Rattle.bac_node.specs.Serving.{AreSetTo, reads_anew, reads_of}
+use Rattle.bac_node.proofs.Rules.{hears_as_in_worlds}
 use Rattle.bac_driver.specs.Asking.{IsBegun}
 use Rattle.bac_driver.specs.BoundNodes.{BoundNode}
 use Rattle.bac_driver.specs.Turns as turns
@@ -129,24 +133,25 @@ module _ (u : Reuses) (W overtake : ℕ) (p : Plant) (on : CanGoOnSo u W overtak
       (on.outside i sender sent outside a b o at
       (subst (λ l. NodeHears (u i) (shows p i) l sent a b o) link_is (subst (λ os. NodeHears (u i) (shows p i) from os a b o) whole h))).0
 
-  came_enters : (source : Source) (d : Octets × ℕ) (buffer : Octets) (heard : Option Outcome) → turns.HearsOne (as_ever (u i)) (shows p i) d.0 (take d.1 buffer) a b heard
+  came_enters : (rules : Rules) → AreSetTo (u i) (rules_view rules) → (source : Source) (d : Octets × ℕ) (buffer : Octets) (heard : Option Outcome)
+      → turns.HearsOne rules (shows p i) d.0 (take d.1 buffer) a b heard
       → HandsOver overtake p i source (Some d) buffer → MayEnter (u i) (world_of p) i b heard
-  came_enters source d buffer None h from = tt
-  came_enters Nowhere d buffer (Some o) h from = absurd from
-  came_enters (Station number) d buffer (Some o) h from =
-      copy_enters number d.0 (take d.1 buffer) o from (as_heard (shows p i) a b o d.0 (take d.1 buffer) (u i) h)
-  came_enters (Stranger sender octets) d buffer (Some o) h from =
+  came_enters rules set source d buffer None h from = tt
+  came_enters rules set Nowhere d buffer (Some o) h from = absurd from
+  came_enters rules set (Station number) d buffer (Some o) h from =
+      copy_enters number d.0 (take d.1 buffer) o from ((hears_as_in_worlds (u i) (rules_view rules) set (shows p i) d.0 (take d.1 buffer) a b o).0 h)
+  came_enters rules set (Stranger sender octets) d buffer (Some o) h from =
       outside_enters sender octets d.0 (take d.1 buffer) o from.link_is from.whole (inl from.stranger)
-      (as_heard (shows p i) a b o d.0 (take d.1 buffer) (u i) h)
-  came_enters (Noise sender octets) d buffer (Some o) h from =
+      ((hears_as_in_worlds (u i) (rules_view rules) set (shows p i) d.0 (take d.1 buffer) a b o).0 h)
+  came_enters rules set (Noise sender octets) d buffer (Some o) h from =
       outside_enters sender octets d.0 (take d.1 buffer) o from.link_is from.whole (inr from.meaningless)
-      (as_heard (shows p i) a b o d.0 (take d.1 buffer) (u i) h)
+      ((hears_as_in_worlds (u i) (rules_view rules) set (shows p i) d.0 (take d.1 buffer) a b o).0 h)
 
-  heard_enters : (source : Source) (came : Option (Octets × ℕ)) (buffer : Octets) (heard : Option Outcome)
-      → turns.Hears (as_ever (u i)) (shows p i) buffer came a b heard → HandsOver overtake p i source came buffer → MayEnter (u i) (world_of p) i b heard
-  heard_enters source (Some d) buffer heard h from = came_enters source d buffer heard h from
-  heard_enters source None buffer None h from = tt
-  heard_enters source None buffer (Some o) h from = absurd (let e = h.0 in cc)
+  heard_enters : (rules : Rules) → AreSetTo (u i) (rules_view rules) → (source : Source) (came : Option (Octets × ℕ)) (buffer : Octets) (heard : Option Outcome)
+      → turns.Hears rules (shows p i) buffer came a b heard → HandsOver overtake p i source came buffer → MayEnter (u i) (world_of p) i b heard
+  heard_enters rules set source (Some d) buffer heard h from = came_enters rules set source d buffer heard h from
+  heard_enters rules set source None buffer None h from = tt
+  heard_enters rules set source None buffer (Some o) h from = absurd (let e = h.0 in cc)
 
 tick_enters : (u : Reuses) (W overtake : ℕ) (w : World) → CanGoOnSo u W overtake w → (i : ℕ) (a b : Node) → slice_get w.nodes i ≡ Some a → (ticked : Option Outcome)
     → turns.Ticks (told w i) a b ticked → MayEnter false w i b ticked
@@ -162,6 +167,10 @@ reached_world W overtake p r es w run =
     runs_can_go_on_so u W overtake (world_of r.first) w r.fresh r.timely r.bounded (events_of r.steps ++ es)
     (run_join overtake u (events_of r.steps) es (world_of r.first) (world_of p) w (run_by overtake u r.steps r.first p (λ j. refl) r.run) run)
 
+reads_viewed : (r : rule.ReadRule) → read_rule_view r ≡ reads_of (reads_anew (read_rule_view r))
+reads_viewed rule_case.Kept = refl
+reads_viewed rule_case.Fresh = refl
+
 module _ (W overtake : ℕ) (p : Plant) (r : IsReached W overtake p) (i : ℕ) (before : BoundNode) (at : slice_get p.stations i ≡ Some before) where
   abbrev first_at : slice_get (nodes_of p.stations) i ≡ Some before.node
   first_at = node_at p.stations i before at
@@ -171,7 +180,10 @@ module _ (W overtake : ℕ) (p : Plant) (r : IsReached W overtake p) (i : ℕ) (
   u = settings_of r.first
 
   set_as : RemembersInFull before → IsSetTo (u i) before
-  set_as full = full ∙ ap as_ever (sym (setting_at p i before at) ∙ run_settings overtake r.steps r.first p r.run i)
+  set_as full = record {
+    reads = reads_viewed before.rules.reads ∙ ap reads_of (sym (setting_at p i before at) ∙ run_settings overtake r.steps r.first p r.run i);
+    remembers = full;
+  }
 
   goes_on : CanGoOnSo u W overtake (world_of p)
   goes_on = reached_world W overtake p r [] (world_of p) refl
@@ -180,10 +192,10 @@ module _ (W overtake : ℕ) (p : Plant) (r : IsReached W overtake p) (i : ℕ) (
   stands after = get_set p.stations i after (slice_get_within p.stations i before at)
 
   -- a turn, whose node is the middle one between hearing and the tick
-  module _ (turn : Turn) (after : BoundNode) (middle : Node) (hears : turns.Hears (as_ever (u i)) (shows p i) after.buffer turn.received before.node middle turn.heard)
+  module _ (turn : Turn) (after : BoundNode) (middle : Node) (set : AreSetTo (u i) (rules_view before.rules)) (hears : turns.Hears before.rules (shows p i) after.buffer turn.received before.node middle turn.heard)
       (ticks : turns.Ticks (shows p i) middle after.node turn.ticked) (source : Source) (from : HandsOver overtake p i source turn.received after.buffer) where
     first : MayEnter (u i) (world_of p) i middle turn.heard
-    first = heard_enters u W overtake p goes_on i before.node middle first_at source turn.received after.buffer turn.heard hears from
+    first = heard_enters u W overtake p goes_on i before.node middle first_at before.rules set source turn.received after.buffer turn.heard hears from
 
     abbrev sends : (cs : List Copy) × AreCopied (nodes_of p.stations) p.time.now i (sends_of turn.heard) cs
     sends = may_send (u i) (world_of p) i middle turn.heard first
@@ -198,7 +210,7 @@ module _ (W overtake : ℕ) (p : Plant) (r : IsReached W overtake p) (i : ℕ) (
     Middle = after_call (world_of p) i middle (heard_lives i source turn.heard p.lives) sends.0 performs.0
 
     went : WorldRunSo overtake u (world_of p) (heard_events i source turn.heard) Middle
-    went = heard_run overtake u p i before.node middle first_at sends.0 ends.0 performs.0 source turn.received after.buffer turn.heard hears from
+    went = heard_run overtake u p i before.node middle first_at sends.0 ends.0 performs.0 before.rules set source turn.received after.buffer turn.heard hears from
         sends.1 ends.1 performs.1
 
     second_at : slice_get Middle.nodes i ≡ Some middle
@@ -210,7 +222,7 @@ module _ (W overtake : ℕ) (p : Plant) (r : IsReached W overtake p) (i : ℕ) (
 
     linked : (j : ℕ) → link_at (nodes_of p.stations) j ≡ link_at Middle.nodes j
     linked j = sym (set_links (nodes_of p.stations) i before.node middle first_at
-        (hears_link (as_ever (u i)) (shows p i) after.buffer turn.received before.node middle turn.heard hears) j)
+        (hears_link before.rules (shows p i) after.buffer turn.received before.node middle turn.heard hears) j)
 
     abbrev later_sends : (cs : List Copy) × AreCopied Middle.nodes p.time.now i (sends_of turn.ticked) cs
     later_sends = may_send false Middle i after.node turn.ticked second
@@ -237,7 +249,7 @@ module _ (W overtake : ℕ) (p : Plant) (r : IsReached W overtake p) (i : ℕ) (
       → HandsOver overtake p i source turn.received after.buffer → LeadsTo overtake p (Takes i source turn) i after
   turn_leads full turn after t source from =
       let set : IsSetTo (u i) before = set_as full in
-      let m = may_happen turn after t.is.acts.middle (turn_hears (as_ever (u i)) (shows p i) before turn after t set) t.is.acts.ticks source from in
+      let m = may_happen turn after t.is.acts.middle set (turn_hears before.rules (shows p i) before turn after t refl) t.is.acts.ticks source from in
       record {
         new = m.0;
         goes = record { before = before; at = at; after = after; takes = t; reuse = u i; set = set; happens = m.1 };
@@ -248,7 +260,7 @@ module _ (W overtake : ℕ) (p : Plant) (r : IsReached W overtake p) (i : ℕ) (
       → HandsOver overtake p i source turn.received after.buffer → LeadsTo overtake p (Holds i source turn) i after
   held_leads full turn after t source from =
       let set : IsSetTo (u i) before = set_as full in
-      let m = may_happen turn after t.takes.middle (held_hears (as_ever (u i)) (shows p i) before turn after t set) t.takes.ticks source from in
+      let m = may_happen turn after t.takes.middle set (held_hears before.rules (shows p i) before turn after t refl) t.takes.ticks source from in
       record {
         new = m.0;
         goes = record { before = before; at = at; after = after; holds = t; reuse = u i; set = set; happens = m.1 };
@@ -321,7 +333,7 @@ failures_go_on overtake p i old new at failed = record {
     node = failed.node;
     count = failed.count;
     calls = failed.calls;
-    reuse = failed.reuse;
+    rules = failed.rules;
     is = refl;
   };
   there = get_set p.stations i new.bound_node (slice_get_within p.stations i old.bound_node at);
@@ -337,22 +349,22 @@ changes_go_on overtake p i before at c may =
     }
 
 pub restarts_go_on : (overtake : ℕ) (p : Plant) → RestartsGoOn overtake p
-restarts_go_on overtake p i before at exact store after is reuse = record {
+restarts_go_on overtake p i before at exact store after is rules = record {
   new = record (with_station p i after) { time = with_clock p.time i exact; lives = with_restart p.time p.lives i; log = Restarted i store ∷ p.log };
-  goes = record { before = before; at = at; after = after; node = is; reuse = reuse; is = refl };
+  goes = record { before = before; at = at; after = after; node = is; rules = rules; is = refl };
   there = get_set p.stations i after (slice_get_within p.stations i before at);
 }
 
 pub starts_go_on : (overtake : ℕ) (p : Plant) → StartsGoOn overtake p
-starts_go_on overtake p i before at first exact after is reuse = record {
+starts_go_on overtake p i before at first exact after is rules = record {
   new = record (with_station p i after) { time = with_clock p.time i exact };
-  goes = record { before = before; at = at; first = first; after = after; node = is; reuse = reuse; is = refl };
+  goes = record { before = before; at = at; first = first; after = after; node = is; rules = rules; is = refl };
   there = get_set p.stations i after (slice_get_within p.stations i before at);
 }
 
 pub starts_again_go_on : (overtake : ℕ) (p : Plant) → StartsAgainGoOn overtake p
-starts_again_go_on overtake p i before at quiet exact first_id store after is reuse = record {
+starts_again_go_on overtake p i before at quiet exact first_id store after is rules = record {
   new = record (with_station p i after) { time = with_clock p.time i exact; lives = with_act p.lives i; log = Restarted i store ∷ p.log };
-  goes = record { before = before; at = at; quiet = quiet; after = after; node = is; reuse = reuse; is = refl };
+  goes = record { before = before; at = at; quiet = quiet; after = after; node = is; rules = rules; is = refl };
   there = get_set p.stations i after (slice_get_within p.stations i before at);
 }

@@ -14,8 +14,9 @@ use Rattle.bac_world.specs.Node.{Node, NodeOn, NodeTick, Outcome}
 use Rattle.bac_world.specs.ReusingWorlds.{AreLoggedSo}
 use Rattle.bac_world.specs.World.{Hears, World, with_act}
 use Rattle.bac_world.proofs.Pairs.{append_none, pairwise_none}
-use Rattle.bac_node.specs.Remembering.{NodeHearsBy}
-use Rattle.bac_node.specs.declared.reuse.Reuse.{Reuse}
+use Rattle.bac_node.specs.Serving.{NodeHearsBy}
+use Rattle.bac_node.proofs.Rules.{hears_as_in_worlds}
+use Rattle.bac_transaction.specs.Views.{rules_view}
 use Rattle.bac_node.specs.Waiting.{RestsUntil}
 use Rattle.bac_driver.specs.BoundNodes.{BoundNode}
 use Rattle.bac_driver.specs.Calls.{received, with_call}
@@ -99,7 +100,7 @@ after_turn now b from octets n o =
       failures = b.failures;
       calls = with_calls (with_call b.calls (received 0 octets (Ok (Some (from, length octets))))) (map call_of (o.sends ++ []));
       buffer = octets;
-      reuse = b.reuse;
+      rules = b.rules;
     }
 
 abbrev pub after_held : ℕ → BoundNode → (from octets : Octets) → Node → BoundNode
@@ -108,12 +109,12 @@ after_held now b from octets n = record (came b from octets) { node = ticked now
 receives_it : (now : ℕ) (b : BoundNode) (due : Option ℕ) → IsDue b.node due → (from octets : Octets)
     → Receives AT_ONCE now b (Some (from, length octets)) (came b from octets)
 receives_it now b due is from octets =
-    record { within = omega arith; wait = 0; waits = waits_not now b.node due is; told = refl; count = refl; node = refl; reuse = refl }
+    record { within = omega arith; wait = 0; waits = waits_not now b.node due is; told = refl; count = refl; node = refl; rules = refl }
 
 hears_it : (now : ℕ) (b : BoundNode) → IsSetTo false b → (from octets : Octets) (n : Node) (o : Outcome) → NodeOn now from octets b.node n o
-    → NodeHearsBy b.reuse now from (take (length octets) octets) b.node n o
+    → NodeHearsBy (rules_view b.rules) now from (take (length octets) octets) b.node n o
 hears_it now b off from octets n o on =
-    subst (λ (r : Reuse). NodeHearsBy r now from (take (length octets) octets) b.node n o) (sym off)
+    (hears_as_in_worlds false (rules_view b.rules) off now from (take (length octets) octets) b.node n o).1
     (subst (λ os. NodeOn now from os b.node n o) (sym (take-length octets)) on)
 
 takes_turn : (now : ℕ) (b : BoundNode) → IsSetTo false b → (due : Option ℕ) → IsDue b.node due → (from octets : Octets) (n : Node) (o : Outcome)
@@ -131,7 +132,7 @@ takes_turn now b off due is from octets n o on calm = record {
       ticks = ticks now n calm;
       carried = record { order = refl; count = refl; most = omega arith };
       buffer = refl;
-      reuse = refl;
+      rules = refl;
     };
   };
 }
@@ -152,7 +153,7 @@ holds_turn now b off due is from octets n o on calm = record {
     calls = refl;
     failures = refl;
     buffer = refl;
-    reuse = refl;
+    rules = refl;
   };
 }
 
@@ -168,7 +169,7 @@ takes_none now b due is calm = record {
   began = now;
   is = record {
     middle = record b { calls = with_call b.calls (received 0 b.buffer (Ok None)) };
-    receives = record { within = tt; wait = 0; waits = waits_not now b.node due is; told = refl; count = refl; node = refl; reuse = refl };
+    receives = record { within = tt; wait = 0; waits = waits_not now b.node due is; told = refl; count = refl; node = refl; rules = refl };
     acts = record {
       at = refl;
       middle = b.node;
@@ -176,7 +177,7 @@ takes_none now b due is calm = record {
       ticks = ticks now b.node calm;
       carried = record { order = refl; count = refl; most = omega arith };
       buffer = refl;
-      reuse = refl;
+      rules = refl;
     };
   };
 }

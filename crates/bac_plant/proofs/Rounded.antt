@@ -98,11 +98,11 @@ some_held p turns old held after h stopped =
     }
 
 fails_once : (old new : Timed) → LinkFails old new → FailsOnce old.bound_node new.bound_node
-fails_once old new f = record { node = f.node; count = f.count; calls = f.calls; reuse = f.reuse }
+fails_once old new f = record { node = f.node; count = f.count; calls = f.calls; rules = f.rules }
 
 pub stops_in_round : (why : RoundFault) (p : WaitLimit) (old new : Timed) → RoundFails why p old new → StopsInRound old.bound_node new.bound_node
 stops_in_round fault.Link p old new (inl f) =
-    none_held old.bound_node new.bound_node (inr (record { node = f.node; count = f.count; calls = f.calls; reuse = f.reuse }))
+    none_held old.bound_node new.bound_node (inr (record { node = f.node; count = f.count; calls = f.calls; rules = f.rules }))
 stops_in_round fault.Link p old new (inr f) =
     some_held p f.turns old f.middle new.bound_node f.holds (inr (fails_once f.middle new f.fails))
 stops_in_round fault.ClockBack p old new f = none_held old.bound_node new.bound_node (inl f.same)
@@ -140,7 +140,7 @@ module _ {S : Type 0} (Sees : Watcher S) where
             carried = subst (λ (ts : List Turn). IsCarried (sends_of_all ts) r.lost r.middle.bound_node new.timed.bound_node) order r.carried;
             node = r.node;
             buffer = r.buffer;
-            reuse = r.reuse;
+            rules = r.rules;
           };
           most = subst (λ (n : ℕ). n ≤ ROUND) (ap length order ∙ in_order_length all) h.most;
           counted = t.counted ∙ ap performed_in order;

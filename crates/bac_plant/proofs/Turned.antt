@@ -10,10 +10,12 @@ use Rattle.bac_protocol.specs.Wire.{is_from_client}
 use Rattle.bac_transaction.specs.Sends.{Datagram}
 use Rattle.bac_world.specs.Node.{Node, NodeOn, Outcome, IsHeardBy}
 use Rattle.bac_world.specs.ReusingLogs.{Reuses}
-use Rattle.bac_node.specs.Remembering.{IsHeardRememberingBy, NodeHearsBy, as_ever, is_reusing}
-use Rattle.bac_node.specs.declared.reuse.Reuse.{Reuse}
-use Rattle.bac_node.specs.declared.reuse.Reuse.TheVariants as setting
-use Rattle.bac_node.proofs.Remembering.{as_heard}
+use Rattle.bac_node.specs.Serving.{AreSetTo, IsHeardSoBy, NodeHearsBy, NodeServes, is_reusing, reads_anew, reads_of}
+use Rattle.bac_transaction.specs.declared.rules.Rules.{Rules}
+use Rattle.bac_node.proofs.Rules.{hears_as_in_worlds}
+use Rattle.bac_transaction.specs.Views.{rules_view}
+use Rattle.bac_apdu.specs.Apdu.{Apdu}
+use Rattle.bac_npdu.specs.Peers.{PeerView}
 use Rattle.bac_world.specs.ReusingWorlds.{ActsSo, AreLoggedSo, DeliversIfSo, DeliversSo, HearsSo, WorldRunSo}
 use Rattle.bac_world.specs.Once.{Fact}
 use Rattle.bac_world.specs.World.{AreCopied, AreEnded, Copy, Event, IsCopied, IsWithNode, Life, Note, World, with_act}
@@ -67,20 +69,22 @@ on_link now from octets a b o (inr d) = go (is_from_client d.apdu) d.heard
     go true t = ap (λ (n : Node). n.link) t.node
     go false t = ap (λ (n : Node). n.link) t.node
 
-node_link : (reuse : Reuse) (now : ℕ) (from octets : Octets) (a b : Node) (o : Outcome) → NodeHearsBy reuse now from octets a b o → b.link ≡ a.link
-node_link setting.Never now from octets a b o h = on_link now from octets a b o h
-node_link (setting.Remembering remember) now from octets a b o (inl d) = ap (λ (n : Node). n.link) d.node
-node_link (setting.Remembering remember) now from octets a b o (inr d) = go (is_from_client d.apdu) d.heard
+node_link : (rules : Rules) (now : ℕ) (from octets : Octets) (a b : Node) (o : Outcome) → NodeHearsBy (rules_view rules) now from octets a b o → b.link ≡ a.link
+node_link rules now from octets a b o h = go h.serves
   where
-    go : (up : Bool) → IsHeardRememberingBy remember up d.peer d.apdu now a b o → b.link ≡ a.link
-    go true t = ap (λ (n : Node). n.link) t.node
-    go false t = ap (λ (n : Node). n.link) t.node
+    by : (away : Bool) (up : Bool) (peer : PeerView) (apdu : Apdu) → IsHeardSoBy (rules_view rules) away up peer apdu now a b o → b.link ≡ a.link
+    by away true peer apdu t = ap (λ (n : Node). n.link) t.turn.node
+    by away false peer apdu t = ap (λ (n : Node). n.link) t.0.node
 
-pub hears_link : (reuse : Reuse) (now : ℕ) (buffer : Octets) (came : Option (Octets × ℕ)) (a b : Node) (heard : Option Outcome)
-    → turns.Hears reuse now buffer came a b heard → b.link ≡ a.link
-hears_link reuse now buffer None a b heard h = ap (λ (n : Node). n.link) h.1
-hears_link reuse now buffer (Some d) a b None h = ap (λ (n : Node). n.link) h.same
-hears_link reuse now buffer (Some d) a b (Some o) h = node_link reuse now d.0 (take d.1 buffer) a b o h
+    go : NodeServes (rules_view rules) h.away now from octets a b o → b.link ≡ a.link
+    go (inl d) = ap (λ (n : Node). n.link) d.0.node
+    go (inr d) = by h.away (is_from_client d.apdu) d.peer d.apdu d.heard
+
+pub hears_link : (rules : Rules) (now : ℕ) (buffer : Octets) (came : Option (Octets × ℕ)) (a b : Node) (heard : Option Outcome)
+    → turns.Hears rules now buffer came a b heard → b.link ≡ a.link
+hears_link rules now buffer None a b heard h = ap (λ (n : Node). n.link) h.1
+hears_link rules now buffer (Some d) a b None h = ap (λ (n : Node). n.link) h.same
+hears_link rules now buffer (Some d) a b (Some o) h = node_link rules now d.0 (take d.1 buffer) a b o h
 
 -- a node with that link takes the place of another one
 pub set_links : (xs : List Node) (i : ℕ) (a b : Node) → slice_get xs i ≡ Some a → b.link ≡ a.link → (j : ℕ) → link_at (slice_set xs i b) j ≡ link_at xs j
@@ -192,15 +196,16 @@ module _ (overtake : ℕ) (u : Reuses) (p : Plant) (i : ℕ) (a b : Node) (at : 
   none_heard : b ≡ a → cs ≡ [] → between ≡ p.log → log ≡ between → After p.lives ≡ world_of p
   none_heard same none e f = nothing_called (world_of p) i a b at same cs none log (f ∙ e)
 
-  world_hears : (from octets : Octets) (o : Outcome) → NodeHearsBy (as_ever (u i)) (shows p i) from octets a b o
+  world_hears : (rules : Rules) → AreSetTo (u i) (rules_view rules) → (from octets : Octets) (o : Outcome)
+      → NodeHearsBy (rules_view rules) (shows p i) from octets a b o
       → AreCopied (nodes_of p.stations) p.time.now i o.sends cs → AreEnded p.notes i o.ended p.log between
       → AreLoggedSo (u i) (nodes_of p.stations) p.notes i b o.performed between log → HearsSo (u i) (world_of p) i from octets Acted
-  world_hears from octets o on copied ended logged = record {
+  world_hears rules set from octets o on copied ended logged = record {
     before = a;
     at = at;
     after = b;
     outcome = o;
-    on = as_heard (shows p i) a b o from octets (u i) on;
+    on = (hears_as_in_worlds (u i) (rules_view rules) set (shows p i) from octets a b o).0 on;
     acts = acted (u i) (world_of p) i a b o at cs copied between log ended logged;
   }
 
@@ -229,43 +234,44 @@ module _ (overtake : ℕ) (u : Reuses) (p : Plant) (i : ℕ) (a b : Node) (at : 
   heard_as sender sent from octets link_is whole h =
       subst (λ l. HearsSo (u i) (world_of p) i l sent Acted) link_is (subst (λ os. HearsSo (u i) (world_of p) i from os Acted) whole h)
 
-  came_run : (source : Source) (d : Octets × ℕ) (buffer : Octets) (heard : Option Outcome) → turns.HearsOne (as_ever (u i)) (shows p i) d.0 (take d.1 buffer) a b heard
+  came_run : (rules : Rules) → AreSetTo (u i) (rules_view rules) → (source : Source) (d : Octets × ℕ) (buffer : Octets) (heard : Option Outcome)
+      → turns.HearsOne rules (shows p i) d.0 (take d.1 buffer) a b heard
       → HandsOver overtake p i source (Some d) buffer → AreCopied (nodes_of p.stations) p.time.now i (sends_of heard) cs
       → AreEnded p.notes i (ended_of heard) p.log between → AreLoggedSo (u i) (nodes_of p.stations) p.notes i b (performed_of heard) between log
       → WorldRunSo overtake u (world_of p) (heard_events i source heard) (After (heard_lives i source heard p.lives))
-  came_run Nowhere d buffer heard h from copied ended logged = absurd from
-  came_run (Station number) d buffer None h from copied ended logged = none_heard h.same copied ended (same_log logged)
-  came_run (Stranger sender octets) d buffer None h from copied ended logged = none_heard h.same copied ended (same_log logged)
-  came_run (Noise sender octets) d buffer None h from copied ended logged = none_heard h.same copied ended (same_log logged)
-  came_run (Station number) d buffer (Some o) h from copied ended logged =
-      arrives number d.0 (take d.1 buffer) from (world_hears d.0 (take d.1 buffer) o h copied ended logged)
-  came_run (Stranger sender octets) d buffer (Some o) h from copied ended logged = (
+  came_run rules set Nowhere d buffer heard h from copied ended logged = absurd from
+  came_run rules set (Station number) d buffer None h from copied ended logged = none_heard h.same copied ended (same_log logged)
+  came_run rules set (Stranger sender octets) d buffer None h from copied ended logged = none_heard h.same copied ended (same_log logged)
+  came_run rules set (Noise sender octets) d buffer None h from copied ended logged = none_heard h.same copied ended (same_log logged)
+  came_run rules set (Station number) d buffer (Some o) h from copied ended logged =
+      arrives number d.0 (take d.1 buffer) from (world_hears rules set d.0 (take d.1 buffer) o h copied ended logged)
+  came_run rules set (Stranger sender octets) d buffer (Some o) h from copied ended logged = (
     Acted,
     inl (record {
       fit = from.stranger;
-      hears = heard_as sender octets d.0 (take d.1 buffer) from.link_is from.whole (world_hears d.0 (take d.1 buffer) o h copied ended logged);
+      hears = heard_as sender octets d.0 (take d.1 buffer) from.link_is from.whole (world_hears rules set d.0 (take d.1 buffer) o h copied ended logged);
     }),
     refl,
   )
-  came_run (Noise sender octets) d buffer (Some o) h from copied ended logged = (
+  came_run rules set (Noise sender octets) d buffer (Some o) h from copied ended logged = (
     Acted,
     inl (record {
       fit = from.meaningless;
-      hears = heard_as sender octets d.0 (take d.1 buffer) from.link_is from.whole (world_hears d.0 (take d.1 buffer) o h copied ended logged);
+      hears = heard_as sender octets d.0 (take d.1 buffer) from.link_is from.whole (world_hears rules set d.0 (take d.1 buffer) o h copied ended logged);
     }),
     refl,
   )
 
-  pub heard_run : (source : Source) (came : Option (Octets × ℕ)) (buffer : Octets) (heard : Option Outcome)
-      → turns.Hears (as_ever (u i)) (shows p i) buffer came a b heard → HandsOver overtake p i source came buffer
+  pub heard_run : (rules : Rules) → AreSetTo (u i) (rules_view rules) → (source : Source) (came : Option (Octets × ℕ)) (buffer : Octets) (heard : Option Outcome)
+      → turns.Hears rules (shows p i) buffer came a b heard → HandsOver overtake p i source came buffer
       → AreCopied (nodes_of p.stations) p.time.now i (sends_of heard) cs
       → AreEnded p.notes i (ended_of heard) p.log between → AreLoggedSo (u i) (nodes_of p.stations) p.notes i b (performed_of heard) between log
       → WorldRunSo overtake u (world_of p) (heard_events i source heard) (After (heard_lives i source heard p.lives))
-  heard_run source (Some d) buffer heard h from copied ended logged = came_run source d buffer heard h from copied ended logged
-  heard_run source None buffer None h from copied ended logged =
+  heard_run rules set source (Some d) buffer heard h from copied ended logged = came_run rules set source d buffer heard h from copied ended logged
+  heard_run rules set source None buffer None h from copied ended logged =
       subst (λ s. WorldRunSo overtake u (world_of p) (heard_events i s None) (After (heard_lives i s None p.lives))) (sym from)
       (none_heard h.1 copied ended (same_log logged))
-  heard_run source None buffer (Some o) h from copied ended logged = absurd (let e = h.0 in cc)
+  heard_run rules set source None buffer (Some o) h from copied ended logged = absurd (let e = h.0 in cc)
 
 -- What it does at a tick.
 pub tick_run : (overtake : ℕ) (u : Reuses) (w : World) (i : ℕ) (a b : Node) → slice_get w.nodes i ≡ Some a → (ticked : Option Outcome)
@@ -297,34 +303,34 @@ run_join overtake u (e ∷ es) fs w v y h k = (h.0, h.1, run_join overtake u es 
 -- The turn.
 
 -- what its node hears, by the buffer that the turn leaves
-hears_by : (reuse : Reuse) (now : ℕ) (first received after : BoundNode) (turn : turns.Turn) (middle : Node) → received.node ≡ first.node
-    → after.buffer ≡ received.buffer → received.reuse ≡ reuse → turns.Hears received.reuse now received.buffer turn.received received.node middle turn.heard
-    → turns.Hears reuse now after.buffer turn.received first.node middle turn.heard
-hears_by reuse now first received after turn middle node buffer same hears =
-    subst (λ n. turns.Hears reuse now after.buffer turn.received n middle turn.heard) node
-    (subst (λ l. turns.Hears reuse now l turn.received received.node middle turn.heard) (sym buffer)
-    (subst (λ (r : Reuse). turns.Hears r now received.buffer turn.received received.node middle turn.heard) same hears))
+hears_by : (rules : Rules) (now : ℕ) (first received after : BoundNode) (turn : turns.Turn) (middle : Node) → received.node ≡ first.node
+    → after.buffer ≡ received.buffer → received.rules ≡ rules → turns.Hears received.rules now received.buffer turn.received received.node middle turn.heard
+    → turns.Hears rules now after.buffer turn.received first.node middle turn.heard
+hears_by rules now first received after turn middle node buffer same hears =
+    subst (λ n. turns.Hears rules now after.buffer turn.received n middle turn.heard) node
+    (subst (λ l. turns.Hears rules now l turn.received received.node middle turn.heard) (sym buffer)
+    (subst (λ (r : Rules). turns.Hears r now received.buffer turn.received received.node middle turn.heard) same hears))
 
-pub turn_hears : (reuse : Reuse) (now : ℕ) (before : BoundNode) (turn : turns.Turn) (after : BoundNode) (t : IsSomeTurn now before turn after)
-    → before.reuse ≡ reuse → turns.Hears reuse now after.buffer turn.received before.node t.is.acts.middle turn.heard
-turn_hears reuse now before turn after t same =
-    hears_by reuse now before t.is.middle after turn t.is.acts.middle t.is.receives.node t.is.acts.buffer (t.is.receives.reuse ∙ same) t.is.acts.hears
+pub turn_hears : (rules : Rules) (now : ℕ) (before : BoundNode) (turn : turns.Turn) (after : BoundNode) (t : IsSomeTurn now before turn after)
+    → before.rules ≡ rules → turns.Hears rules now after.buffer turn.received before.node t.is.acts.middle turn.heard
+turn_hears rules now before turn after t same =
+    hears_by rules now before t.is.middle after turn t.is.acts.middle t.is.receives.node t.is.acts.buffer (t.is.receives.rules ∙ same) t.is.acts.hears
 
-pub held_hears : (reuse : Reuse) (now : ℕ) (before : BoundNode) (turn : turns.Turn) (after : BoundNode) (t : HoldsSomeTurn now before turn after)
-    → before.reuse ≡ reuse → turns.Hears reuse now after.buffer turn.received before.node t.takes.middle turn.heard
-held_hears reuse now before turn after t same =
-    hears_by reuse now before t.middle after turn t.takes.middle t.receives.node t.takes.buffer (t.receives.reuse ∙ same) t.takes.hears
+pub held_hears : (rules : Rules) (now : ℕ) (before : BoundNode) (turn : turns.Turn) (after : BoundNode) (t : HoldsSomeTurn now before turn after)
+    → before.rules ≡ rules → turns.Hears rules now after.buffer turn.received before.node t.takes.middle turn.heard
+held_hears rules now before turn after t same =
+    hears_by rules now before t.middle after turn t.takes.middle t.receives.node t.takes.buffer (t.receives.rules ∙ same) t.takes.hears
 
-same_setting : (reuse : Bool) → is_reusing (as_ever reuse) ≡ reuse
+same_setting : (reuse : Bool) → reads_anew (reads_of reuse) ≡ reuse
 same_setting true = refl
 same_setting false = refl
 
 -- the setting of a station that is there
-pub setting_at : (p : Plant) (i : ℕ) (b : BoundNode) → slice_get p.stations i ≡ Some b → settings_of p i ≡ is_reusing b.reuse
+pub setting_at : (p : Plant) (i : ℕ) (b : BoundNode) → slice_get p.stations i ≡ Some b → settings_of p i ≡ is_reusing (rules_view b.rules)
 setting_at p i b at = ap reuse_of at
 
 module _ (overtake : ℕ) (u : Reuses) (old : Plant) (i : ℕ) (before : BoundNode) (at : slice_get old.stations i ≡ Some before) (source : Source)
-    (turn : turns.Turn) (middle : Node) (after : BoundNode) (hears : turns.Hears (as_ever (u i)) (shows old i) after.buffer turn.received before.node middle turn.heard)
+    (turn : turns.Turn) (middle : Node) (after : BoundNode) (rules : Rules) (set : AreSetTo (u i) (rules_view rules)) (hears : turns.Hears rules (shows old i) after.buffer turn.received before.node middle turn.heard)
     (ticks : turns.Ticks (shows old i) middle after.node turn.ticked) (new : Plant) (t : HappensAt (u i) overtake old i source turn middle after new) where
   first_at : slice_get (nodes_of old.stations) i ≡ Some before.node
   first_at = node_at old.stations i before at
@@ -340,7 +346,7 @@ module _ (overtake : ℕ) (u : Reuses) (old : Plant) (i : ℕ) (before : BoundNo
 
   linked : (j : ℕ) → link_at Middle.nodes j ≡ link_at (nodes_of old.stations) j
   linked = set_links (nodes_of old.stations) i before.node middle first_at
-      (hears_link (as_ever (u i)) (shows old i) after.buffer turn.received before.node middle turn.heard hears)
+      (hears_link rules (shows old i) after.buffer turn.received before.node middle turn.heard hears)
 
   last : after_call Middle i after.node (turn_lives i source turn old.lives) split.rest t.log ≡ world_of new
   last =
@@ -351,7 +357,7 @@ module _ (overtake : ℕ) (u : Reuses) (old : Plant) (i : ℕ) (before : BoundNo
 
   happens_run : WorldRunSo overtake u (world_of old) (turn_events i source turn) (world_of new)
   happens_run = run_join overtake u (heard_events i source turn.heard) (ticked_events i turn.ticked) (world_of old) Middle (world_of new)
-      (heard_run overtake u old i before.node middle first_at split.front t.entered.ended t.entered.performed source turn.received after.buffer
+      (heard_run overtake u old i before.node middle first_at split.front t.entered.ended t.entered.performed rules set source turn.received after.buffer
       turn.heard hears t.comes split.first t.entered.ends t.entered.performs)
       (subst (WorldRunSo overtake u Middle (ticked_events i turn.ticked)) last
       (tick_run overtake u Middle i middle after.node second_at turn.ticked ticks split.rest
@@ -361,19 +367,22 @@ module _ (overtake : ℕ) (u : Reuses) (old : Plant) (i : ℕ) (before : BoundNo
 module _ (overtake : ℕ) (u : Reuses) (old : Plant) (settings : (i : ℕ) → settings_of old i ≡ u i) (i : ℕ) (source : Source) (turn : turns.Turn)
     (new : Plant) where
   setting_is : (b : BoundNode) → slice_get old.stations i ≡ Some b → (reuse : Bool) → IsSetTo reuse b → reuse ≡ u i
-  setting_is b at reuse set = sym (same_setting reuse) ∙ ap is_reusing (sym set) ∙ sym (setting_at old i b at) ∙ settings i
+  setting_is b at reuse set = sym (same_setting reuse) ∙ ap reads_anew (sym set.reads) ∙ sym (setting_at old i b at) ∙ settings i
+
+  set_so : (b : BoundNode) (reuse : Bool) → IsSetTo reuse b → reuse ≡ u i → AreSetTo (u i) (rules_view b.rules)
+  set_so b reuse set same = subst (λ (r : Bool). AreSetTo r (rules_view b.rules)) same set
 
   pub turn_run : TakesTurnAt overtake old i source turn new → WorldRunSo overtake u (world_of old) (turn_events i source turn) (world_of new)
   turn_run t =
       let same : t.reuse ≡ u i = setting_is t.before t.at t.reuse t.set in
-      happens_run overtake u old i t.before t.at source turn t.takes.is.acts.middle t.after
-      (turn_hears (as_ever (u i)) (shows old i) t.before turn t.after t.takes (t.set ∙ ap as_ever same))
+      happens_run overtake u old i t.before t.at source turn t.takes.is.acts.middle t.after t.before.rules (set_so t.before t.reuse t.set same)
+      (turn_hears t.before.rules (shows old i) t.before turn t.after t.takes refl)
       t.takes.is.acts.ticks new (subst (λ (r : Bool). HappensAt r overtake old i source turn t.takes.is.acts.middle t.after new) same t.happens)
 
   -- that what it sends is held makes no difference to its world
   pub held_run : HoldsTurnAt overtake old i source turn new → WorldRunSo overtake u (world_of old) (turn_events i source turn) (world_of new)
   held_run t =
       let same : t.reuse ≡ u i = setting_is t.before t.at t.reuse t.set in
-      happens_run overtake u old i t.before t.at source turn t.holds.takes.middle t.after
-      (held_hears (as_ever (u i)) (shows old i) t.before turn t.after t.holds (t.set ∙ ap as_ever same))
+      happens_run overtake u old i t.before t.at source turn t.holds.takes.middle t.after t.before.rules (set_so t.before t.reuse t.set same)
+      (held_hears t.before.rules (shows old i) t.before turn t.after t.holds refl)
       t.holds.takes.ticks new (subst (λ (r : Bool). HappensAt r overtake old i source turn t.holds.takes.middle t.after new) same t.happens)

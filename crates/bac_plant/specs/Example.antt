@@ -1,9 +1,9 @@
 -- Two stations, of which one asks the other: runs in which it is answered, by a turn or by a round, and runs in which the power is cut in that round.
 use Rattle.std.specs.Prelude.{◌≡◌, ℕ, List, [], ◌∷◌, Some, None}
 use Rattle.bac_protocol.specs.Pace.{IsTimely}
-use Rattle.bac_node.specs.declared.reuse.Reuse.TheVariants as setting
 use Rattle.bac_driver.specs.BoundNodes.{BoundNode}
 use Rattle.bac_driver.specs.Turns.{Turn}
+use Rattle.bac_transaction.specs.Given.{STRICTLY}
 use Rattle.bac_world.specs.AnsweredRun.{LIMITS, LOG, TIME, node}
 use Rattle.bac_world.specs.Examples.{ASKED, REPLY, REQUEST}
 use Rattle.bac_world.specs.Once.Fact.{Performed, Restarted}
@@ -17,7 +17,7 @@ use Rattle.bac_plant.specs.Steps.Step.{Begins, Holds, SendsHeld, Takes}
 
 -- a node on a link that keeps its calls, and has none; buffers hold what came last alone
 abbrev pub station : ℕ → BoundNode
-station n = record { node = node n; failures = 0; calls = Some []; buffer = []; reuse = setting.Never }
+station n = record { node = node n; failures = 0; calls = Some []; buffer = []; rules = STRICTLY }
 
 abbrev pub OPENING : Plant
 OPENING = record { stations = station 0 ∷ station 1 ∷ []; time = TIME; lives = λ i. untouched; copies = []; log = []; notes = [] }

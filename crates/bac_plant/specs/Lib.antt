@@ -3,8 +3,10 @@ pub mod Network
 pub mod Steps
 pub mod Events
 pub mod NextSteps
+pub mod Composed
 pub mod Chains
 pub mod Rounds
 pub mod Cuts
 pub mod NextCuts
 pub mod Example
+pub mod Pauses

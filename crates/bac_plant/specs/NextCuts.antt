@@ -3,6 +3,7 @@ use Rattle.std.specs.Prelude.{◌≡◌, ◌⊎◌, ℕ, Some, None, slice_get}
 use Rattle.bac_protocol.specs.Pace.{clock_at}
 use Rattle.bac_store.specs.Stores.{Store}
 use Rattle.bac_world.specs.Node.{restarted}
+use Rattle.bac_transaction.specs.Views.{rules_view}
 use Rattle.bac_driver.specs.BoundNodes.{BoundNode}
 use Rattle.bac_driver.specs.Rounds.{FindsOneOf, IsKept}
 use Rattle.bac_driver.specs.Turns.{Turn}
@@ -35,7 +36,7 @@ LostTurnsGoOn overtake c =
 abbrev pub CanStart : (overtake : ℕ) → (stands : BoundNode) → Store → Type 0
 CanStart overtake stands s =
     (c : CutPlant) (i : ℕ) → slice_get c.plant.stations i ≡ Some stands → (exact : ℕ) (after : BoundNode)
-    → after.node ≡ restarted (clock_at c.plant.time.pace exact).shows s stands.node → after.reuse ≡ stands.reuse
+    → after.node ≡ restarted (clock_at c.plant.time.pace exact).shows s stands.node → rules_view after.rules ≡ rules_view stands.rules
     → LeadsOn overtake c (CutStep.Cuts i exact) i after
 
 -- whatever store an honest keeper finds after a cut in a round, also in one that stopped: a station that stands as before the round, which is lost then, can

@@ -9,6 +9,7 @@ use Rattle.bac_protocol.specs.Pace.{IsTimely, clock_at}
 use Rattle.bac_protocol.specs.Service.{Octets}
 use Rattle.bac_world.specs.Node.{begun_again, restarted, store_after_restart, with_change}
 use Rattle.bac_world.specs.World.{IsBounded, IsFresh, IsOfNone, is_quiet, link_at, peer_at}
+use Rattle.bac_transaction.specs.Views.{rules_view}
 use Rattle.bac_driver.specs.Asking.{IsBegun}
 use Rattle.bac_driver.specs.BoundNodes.{BoundNode}
 use Rattle.bac_driver.specs.Runs.{CannotReceive, Timed}
@@ -33,8 +34,8 @@ pub record LeadsTo (overtake : ℕ) (p : Plant) (step : Step) (station : ℕ) (a
   pub goes : PlantStep overtake p step new
   pub there : slice_get new.stations station ≡ Some after
 
--- each turn of a station at the moment of its clock, by a datagram that the network may hand over, where the station lets no client use an invoke ID again, or
--- remembers each request for 65,000 ms
+-- each turn of a station at the moment of its clock, by a datagram that the network may hand over, where the station remembers each
+-- request for 65,000 ms or longer
 abbrev pub TurnsGoOn : (overtake : ℕ) → Plant → Type 0
 TurnsGoOn overtake p =
     (i : ℕ) (before : BoundNode) → slice_get p.stations i ≡ Some before → RemembersInFull before → (turn : Turn) (after : BoundNode)
@@ -83,14 +84,14 @@ ChangesGoOn overtake p =
 abbrev pub RestartsGoOn : (overtake : ℕ) → Plant → Type 0
 RestartsGoOn overtake p =
     (i : ℕ) (before : BoundNode) → slice_get p.stations i ≡ Some before → (exact : ℕ) (store : Option Store) (after : BoundNode)
-    → after.node ≡ restarted (clock_at p.time.pace exact).shows (store_after_restart before.node.store store) before.node → after.reuse ≡ before.reuse
+    → after.node ≡ restarted (clock_at p.time.pace exact).shows (store_after_restart before.node.store store) before.node → rules_view after.rules ≡ rules_view before.rules
     → LeadsTo overtake p (Restarts i exact store) i after
 
 -- each first start at a station at which nothing happened, whatever its link and buffer are
 abbrev pub StartsGoOn : (overtake : ℕ) → Plant → Type 0
 StartsGoOn overtake p =
     (i : ℕ) (before : BoundNode) → slice_get p.stations i ≡ Some before → (p.lives i).active ≡ false → (exact : ℕ) (after : BoundNode)
-    → after.node ≡ before.node → after.reuse ≡ before.reuse → LeadsTo overtake p (Starts i exact) i after
+    → after.node ≡ before.node → rules_view after.rules ≡ rules_view before.rules → LeadsTo overtake p (Starts i exact) i after
 
 -- each start of another program once all is over that the client before it sent, whatever its link and buffer are
 abbrev pub StartsAgainGoOn : (overtake : ℕ) → Plant → Type 0
@@ -98,4 +99,4 @@ StartsAgainGoOn overtake p =
     (i : ℕ) (before : BoundNode) → slice_get p.stations i ≡ Some before → is_quiet (world_of p) i ≡ true → (exact first_id : ℕ) (store : Option Store)
     (after : BoundNode)
     → after.node ≡ begun_again (clock_at p.time.pace exact).shows first_id (store_after_restart before.node.store store) before.node
-    → after.reuse ≡ before.reuse → LeadsTo overtake p (StartsAgain i exact first_id store) i after
+    → rules_view after.rules ≡ rules_view before.rules → LeadsTo overtake p (StartsAgain i exact first_id store) i after

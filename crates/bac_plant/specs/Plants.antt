@@ -4,7 +4,8 @@ use Rattle.bac_world.specs.Node.{Node}
 use Rattle.bac_world.specs.Once.{Fact}
 use Rattle.bac_world.specs.ReusingLogs.{Reuses}
 use Rattle.bac_world.specs.World.{Copy, Life, Note, Time, World}
-use Rattle.bac_node.specs.Remembering.{as_ever, is_reusing}
+use Rattle.bac_transaction.specs.Views.{rules_view}
+use Rattle.bac_node.specs.Serving.{AreSetTo, RemembersLong, is_reusing}
 use Rattle.bac_driver.specs.BoundNodes.{BoundNode}
 
 -- a station is a bound node: a node, what its link was asked to do, and its buffer
@@ -34,19 +35,20 @@ shows p i = (p.time.clocks i).shows
 
 abbrev pub reuse_of : Option BoundNode → Bool
 reuse_of None = false
-reuse_of (Some b) = is_reusing b.reuse
+reuse_of (Some b) = is_reusing (rules_view b.rules)
 
 -- which stations let clients use an invoke ID again as soon as its transaction is over
 abbrev pub settings_of : Plant → Reuses
 settings_of p i = reuse_of (slice_get p.stations i)
 
--- a station does so or not, and if it does, it remembers a request for 65,000 ms, as long as an entry is live. Turns of other stations are no steps of a plant
+-- a station does so or not, and remembers a request for 65,000 ms, as long as an entry is live, or longer; how much it keeps makes no difference. Turns of other
+-- stations are no steps of a plant
 abbrev pub IsSetTo : (reuse : Bool) → BoundNode → Type 0
-IsSetTo reuse b = b.reuse ≡ as_ever reuse
+IsSetTo reuse b = AreSetTo reuse (rules_view b.rules)
 
--- a station does not, or it remembers a request that long
+-- a station remembers a request that long
 abbrev pub RemembersInFull : BoundNode → Type 0
-RemembersInFull b = IsSetTo (is_reusing b.reuse) b
+RemembersInFull b = RemembersLong b.rules.remember
 
 -- none does
 abbrev pub HasNoReuse : Plant → Type 0

@@ -24,7 +24,7 @@ pub record FailsOnce (before after : BoundNode) : Type 0 where
   pub node : after.node ≡ before.node
   pub count : after.failures ≡ one_more before.failures
   pub calls : after.calls ≡ with_call before.calls FailedReceive
-  pub reuse : after.reuse ≡ before.reuse
+  pub rules : after.rules ≡ before.rules
 
 -- a round stopped before it sent anything: it is as after the turns that it held, or then its link could not receive
 abbrev pub HasStopped : (held after : BoundNode) → Type 0

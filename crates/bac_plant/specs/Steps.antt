@@ -8,6 +8,7 @@ use Rattle.bac_store.specs.AtNode.{change_fault}
 use Rattle.bac_store.specs.Stores.{Store}
 use Rattle.bac_protocol.specs.Pace.{clock_at}
 use Rattle.bac_protocol.specs.Service.{Octets}
+use Rattle.bac_transaction.specs.Views.{rules_view}
 use Rattle.bac_transaction.specs.Sends.{Datagram, Pairwise}
 use Rattle.bac_world.specs.Node.{Node, Outcome, begun_again, restarted, store_after_restart, with_change}
 use Rattle.bac_world.specs.Once.{Fact}
@@ -127,7 +128,7 @@ pub record AreSent (turns : List Turn) (before after : BoundNode) : Type 0 where
   pub carried : IsCarried (sends_of_all turns) lost before after
   pub node : after.node ≡ before.node
   pub buffer : after.buffer ≡ before.buffer
-  pub reuse : after.reuse ≡ before.reuse
+  pub rules : after.rules ≡ before.rules
 
 -- a station sends what turns hold: that is among the copies
 pub record SendsHeldAt (old : Plant) (i : ℕ) (turns : List Turn) (new : Plant) : Type 0 where
@@ -147,7 +148,7 @@ pub record FailsAt (old : Plant) (i : ℕ) (new : Plant) : Type 0 where
   pub node : after.node ≡ before.node
   pub count : after.failures ≡ one_more before.failures
   pub calls : after.calls ≡ with_call before.calls FailedReceive
-  pub reuse : after.reuse ≡ before.reuse
+  pub rules : after.rules ≡ before.rules
   pub is : new ≡ with_station old i after
 
 -- ---- an ask
@@ -209,7 +210,7 @@ pub record RestartsAt (old : Plant) (i exact : ℕ) (store : Option Store) (new 
   pub at : slice_get old.stations i ≡ Some before
   pub after : BoundNode
   pub node : after.node ≡ restarted (clock_at old.time.pace exact).shows (store_after_restart before.node.store store) before.node
-  pub reuse : after.reuse ≡ before.reuse
+  pub rules : rules_view after.rules ≡ rules_view before.rules
   pub is : new ≡ record (with_station old i after) {
     time = with_clock old.time i exact;
     lives = with_restart old.time old.lives i;
@@ -223,7 +224,7 @@ pub record StartsAt (old : Plant) (i exact : ℕ) (new : Plant) : Type 0 where
   pub first : (old.lives i).active ≡ false
   pub after : BoundNode
   pub node : after.node ≡ before.node
-  pub reuse : after.reuse ≡ before.reuse
+  pub rules : rules_view after.rules ≡ rules_view before.rules
   pub is : new ≡ record (with_station old i after) { time = with_clock old.time i exact }
 
 -- another program starts at a station, with a new clock, and with any link and buffer, once all is over that the client before it sent: its client may ask at
@@ -234,7 +235,7 @@ pub record StartsAgainAt (old : Plant) (i exact first_id : ℕ) (store : Option 
   pub quiet : is_quiet (world_of old) i ≡ true
   pub after : BoundNode
   pub node : after.node ≡ begun_again (clock_at old.time.pace exact).shows first_id (store_after_restart before.node.store store) before.node
-  pub reuse : after.reuse ≡ before.reuse
+  pub rules : rules_view after.rules ≡ rules_view before.rules
   pub is : new ≡ record (with_station old i after) {
     time = with_clock old.time i exact;
     lives = with_act old.lives i;

@@ -5,13 +5,14 @@
 
 pub mod examples;
 
-ghost use Rattle.std.specs.Prelude.{◌≡◌, ◌⊎◌, ◌≤◌, ℕ, List, length, map, Some, slice_get};
+ghost use Rattle.std.specs.Prelude.{◌≡◌, ◌⊎◌, ◌+◌, ◌≤◌, ℕ, List, length, map, Some, slice_get, true};
 ghost use Rattle.bac_protocol.specs.Pace.{IsTimely};
+ghost use Rattle.bac_transaction.specs.Views.{rules_view};
 ghost use Rattle.bac_world.specs.Claims.{AreServedApart};
 ghost use Rattle.bac_world.specs.Once.{IsOnce, IsOnceByRequests};
 ghost use Rattle.bac_world.specs.ReusingLogs.{IsOnceSo};
 ghost use Rattle.bac_world.specs.ReusingWorlds.{WorldRunSo};
-ghost use Rattle.bac_world.specs.World.{IsBounded, IsFresh, WorldRun, stores_of};
+ghost use Rattle.bac_world.specs.World.{IsBounded, IsFresh, WorldRun, is_quiet, stores_of};
 ghost use Rattle.bac_cuts.specs.Cuts.{CutRun, CutRunSo};
 ghost use Rattle.bac_driver.specs.BoundNodes.{BoundNode};
 ghost use Rattle.bac_driver.specs.Asking.{AskingEnds, AskingFails, Question};
@@ -27,11 +28,13 @@ ghost use Rattle.bac_driver.specs.declared.fault.TurnFault.{TurnFault};
 ghost use Rattle.bac_driver.specs.declared.wait_limit.WaitLimit.{WaitLimit};
 ghost use Rattle.bac_requester.specs.declared.ending.Ending.{Ending};
 ghost use Rattle.bac_plant.specs.Chains.{AsksAndStops, AsksInChain, Chain, ServesInChain, StopsInChain, TakesTurnsAlone, turn_of_second, turns_of};
+ghost use Rattle.bac_plant.specs.Composed.{AreCalled, IsComposed, upon};
 ghost use Rattle.bac_plant.specs.Cuts.{CutPlant, CutPlantRun, CutStep, GoesOn, HoldsAlone, KeepStores, LosesAlone, cut_events_of, held_of, real, steps_of};
 ghost use Rattle.bac_plant.specs.Events.{events_of};
 ghost use Rattle.bac_plant.specs.NextCuts.{FoundStoresGoOn, KeptStoresGoOn, LostTurnsGoOn, StepsGoOn};
 ghost use Rattle.bac_plant.specs.NextSteps.{AsksGoOn, ChangesGoOn, FailuresGoOn, HeldSendsGoOn, HeldTurnsGoOn, IsReached, RestartsGoOn, StartsAgainGoOn, StartsGoOn, StrangersAskedGoOn};
 ghost use Rattle.bac_plant.specs.NextSteps.{TurnsGoOn};
+ghost use Rattle.bac_plant.specs.Pauses.{AsksNone, pause};
 ghost use Rattle.bac_plant.specs.Plants.{HasNoReuse, Plant, nodes_of, settings_of, world_of};
 ghost use Rattle.bac_plant.specs.Rounds.{HeldChain, IsAsHeldInChain, RoundInChain, ServesRoundsInChain, StopsInRound, StopsRoundsInChain};
 ghost use Rattle.bac_plant.specs.Steps.{PlantRun, Step};
@@ -41,8 +44,9 @@ use bac_driver::Observer;
 use bac_keep::Keeper;
 
 /// The turns that stations take, also those of a round, whose sends are held, their asks, changes and restarts are events of a world: a run of a plant is the
-/// run of its world through the events of its steps, in which the nodes let clients use invoke IDs again whose stations do; no step changes a setting.
-/// A station that takes a turn lets no client do so, or remembers each request for 65,000 ms: turns of a station that forgets sooner are no steps.
+/// run of its world through the events of its steps, in which the nodes let clients use invoke IDs again whose stations do; no step changes a setting, how reads
+/// are served, or how long requests are remembered (a restart may change how much memory they take). Each station that takes a turn remembers requests for
+/// 65,000 ms or longer: turns of one that forgets sooner are no steps.
 /// After a run of a fresh plant the log, which has all that turns returned as performed and ended, is right with the stores.
 /// Where no station lets invoke IDs be used again, no read is performed twice either; and whatever strangers send, what a station performs for one of them
 /// under one invoke ID, between two of its restarts, it performs in entries that began more than 65,000 ms apart.
@@ -51,7 +55,7 @@ pub fn turns_are_events()
     ensures settings { (overtake : ℕ) (steps : List Step) (old new : Plant) → PlantRun overtake steps old new → (station : ℕ)
         → settings_of new station ≡ settings_of old station }
     ensures stays { (overtake : ℕ) (steps : List Step) (old new : Plant) → PlantRun overtake steps old new → (station : ℕ) (before after : BoundNode)
-        → slice_get old.stations station ≡ Some before → slice_get new.stations station ≡ Some after → after.reuse ≡ before.reuse }
+        → slice_get old.stations station ≡ Some before → slice_get new.stations station ≡ Some after → rules_view after.rules ≡ rules_view before.rules }
     ensures events { (overtake : ℕ) (steps : List Step) (old new : Plant) → PlantRun overtake steps old new
         → WorldRunSo overtake (settings_of old) (world_of old) (events_of steps) (world_of new) }
     ensures once { (W overtake : ℕ) (old new : Plant) → IsFresh (world_of old) → IsTimely old.time.pace → IsBounded W overtake (world_of old)
@@ -68,8 +72,7 @@ pub fn turns_are_events()
 
 /// After each run of a fresh plant, whichever stations let invoke IDs be used again, whatever a call promises of a station, at the moment of its clock and by a
 /// datagram that the network may hand over, is a step of the plant: there are the asks, transactions and strangers of all that it returned. A turn, also one
-/// whose sends are held, is a step where its station lets no client use an invoke ID again, or remembers each request for 65,000 ms. So no turn of such a
-/// station is left out of the law above.
+/// whose sends are held, is a step where its station remembers each request for 65,000 ms or longer. So no turn of such a station is left out of the law above.
 #[tactic(auto, using(crate::proofs::Next::changes_go_on, crate::proofs::Next::restarts_go_on, crate::proofs::Next::starts_go_on, crate::proofs::Next::starts_again_go_on))]
 pub fn calls_go_on()
     ensures turns { (W overtake : ℕ) (p : Plant) → IsReached W overtake p → TurnsGoOn overtake p }
@@ -84,9 +87,25 @@ pub fn calls_go_on()
     ensures starts_again { (overtake : ℕ) (p : Plant) → StartsAgainGoOn overtake p }
 {}
 
+/// Calls that stations make one after another are a run, in any order of stations, with time passing, restarts and starts between them: if each call keeps its
+/// contract in the plant that the calls before it led to, and the network may hand over what came, they continue a run of a fresh plant. So whatever holds of all
+/// runs of a plant holds of whole programs.
+pub fn calls_compose()
+    ensures { (W overtake : ℕ) (first : Plant) → IsFresh (world_of first) → IsTimely first.time.pace → IsBounded W overtake (world_of first)
+        → (so_far : List Step) (p : Plant) → PlantRun overtake so_far first p → (later : List Step) → AreCalled overtake later p
+        → IsComposed overtake first (upon later so_far) }
+{}
+
+/// A station that asks nothing for so long is quiet: all is over that its client sent, so another program may begin there. With one clock in whole
+/// milliseconds, and copies that live for 5,000 ms, that is 135,001 ms.
+pub fn pauses_make_quiet()
+    ensures { (W overtake station : ℕ) (p : Plant) → IsReached W overtake p → (steps : List Step) (new : Plant) → PlantRun overtake steps p new
+        → AsksNone station steps → p.time.now + pause p.time.pace ≤ new.time.now → is_quiet (world_of new) station ≡ true }
+{}
+
 /// What `serve`, `ask` and `pair` promise is a chain of turns of each station, for `ask` after its ask; for `serve` and `ask` also where a fault stops them.
 /// The turns of a station that does nothing else in a run of a plant are such a chain too, whatever other stations do between them; and by the law above
-/// each turn of a chain is a step, where that station lets no client use an invoke ID again, or remembers each request for 65,000 ms.
+/// each turn of a chain is a step, where that station remembers each request for 65,000 ms or longer.
 #[tactic(auto, using(crate::proofs::Chained::first_chain, crate::proofs::Chained::second_chain, crate::proofs::Chained::steps_chain))]
 pub fn chains_are_steps()
     ensures served { (p : WaitLimit) (turns effects : ℕ) (old new : Timed) → Serves p turns effects old new
@@ -107,7 +126,7 @@ pub fn chains_are_steps()
 {}
 
 /// What `round_before` and `serve_kept` promise of a station is a chain of rounds: turns whose sends are held, one after the other, and then all that they
-/// hold is sent. By `calls_go_on` each of these is a step, where the station lets no client use an invoke ID again, or remembers each request for 65,000 ms.
+/// hold is sent. By `calls_go_on` each of these is a step, where the station remembers each request for 65,000 ms or longer.
 /// Where serving stops for a fault, so are the rounds before; and a round that fails is such turns too, after which its link may have failed to receive, as a
 /// step does. The turns that a station holds in a run of a plant, also in a round that a power cut takes back, where it does nothing else, are such a chain
 /// too, whatever other stations do between them; and with the sends of all that they hold they are a round.

@@ -6,9 +6,15 @@ use crate::behind::Behind;
 use crate::databases::database_at;
 use crate::files::copy_front;
 use crate::scene::{BenchClock, Scene, Setup};
-use bac_command_line::{ClientPair, Machine};
+use bac_asking::{ClientSockets, NoPair};
+use bac_command_line::Machine;
 use bac_driver::{Link, LinkFault};
-use bac_keep_file::OpenFault;
+use bac_environment::Sockets;
+use bac_guard::{Guard, Guarded};
+use bac_keep::KeepFault;
+use bac_keep_file::{Checkpoint, Loss, OpenFault};
+use bac_pairs::ClientPair;
+use bac_serving::{Databases, StandardInput};
 use sqlite_trees::memory::MemStore;
 use std::alloc::Global;
 use std::cell::Cell;
@@ -121,6 +127,9 @@ pub(crate) type Bound = ([u8; 4], u16);
 /// 2026-11-27, 7:10 in UTC, in milliseconds since 1970 began.
 const MORNING: u64 = 1_795_763_400_000;
 
+/// The key of each guard.
+const KEY: u64 = 7;
+
 /// The first port at which clients begin, of machines of which some are taken.
 const FIRST: u16 = 40_000;
 
@@ -174,6 +183,14 @@ impl<'a> BenchMachine<'a> {
             || port < taken
     }
 
+    /// The clock of a guard: that of the scene, or where it has none, one that stands.
+    fn guard_clock(&self) -> BenchClock {
+        match self.scene.clock {
+            Some(clock) => clock,
+            None => BenchClock::still(),
+        }
+    }
+
     fn link(&self) -> BenchLink<'a> {
         let requests = match self.scene.behind {
             Behind::Requests(count) => count,
@@ -191,20 +208,16 @@ impl<'a> BenchMachine<'a> {
     }
 }
 
-impl<'a> Machine for BenchMachine<'a> {
-    type Link = BenchLink<'a>;
+impl<'a> Sockets for BenchMachine<'a> {
+    type Link = Guarded<BenchLink<'a>, BenchClock>;
 
     type Timer = BenchClock;
-
-    type Database = MemStore;
 
     ghost is_bound = { λ _ _ _ _. ⊤ };
 
     ghost is_made = { λ _. ⊤ };
 
-    ghost is_database = { λ _ _ _. ⊤ };
-
-    fn bind(&self, host: [u8; 4], port: u16) -> io::Result<(BenchLink<'a>, [u8; 6])> {
+    fn bind(&self, host: [u8; 4], port: u16, guard: &Guard) -> io::Result<(Self::Link, [u8; 6])> {
         if self.has_no_link(port) {
             return Err(io::Error::from(io::ErrorKind::AddrInUse));
         }
@@ -212,25 +225,16 @@ impl<'a> Machine for BenchMachine<'a> {
         self.bound.set(Some((host, port)));
         let [high, low] = port.to_be_bytes();
         let [a, b, c, d] = host;
-        Ok((self.link(), [a, b, c, d, high, low]))
+        let address = [a, b, c, d, high, low];
+        let began = self.guard_clock().moment;
+        match guard.over(self.alloc, KEY, began, self.link(), self.guard_clock()) {
+            Ok(link) => Ok((link, address)),
+            Err(_) => Err(io::Error::from(io::ErrorKind::OutOfMemory)),
+        }
     }
 
     fn timer(&self) -> Option<BenchClock> {
         self.scene.clock
-    }
-
-    /// Any free port, and the moment at which the clock begins, up to 255; where there is no clock, 0. Where ports are taken, one after the other, and 7.
-    fn pair(&self) -> Option<ClientPair> {
-        if self.scene.taken.is_some() {
-            let port = self.next.get();
-            self.next.set(port.saturating_add(1));
-            return Some(ClientPair { port, first_id: 7 });
-        }
-        let first_id = match self.scene.clock {
-            Some(clock) => clock.moment.to_le_bytes()[0],
-            None => 0,
-        };
-        Some(ClientPair { port: 0, first_id })
     }
 
     /// That of the scene; none where there is no clock.
@@ -239,6 +243,27 @@ impl<'a> Machine for BenchMachine<'a> {
         let time = self.time.get();
         self.time.set(time.saturating_add(self.scene.day));
         Some(time)
+    }
+}
+
+impl ClientSockets for BenchMachine<'_> {
+    /// Any free port, and the moment at which the clock begins, up to 255; where there is no clock, 0. Where ports are taken, one after the other, and 7.
+    fn pair(&self) -> Result<ClientPair, NoPair> {
+        if self.scene.taken.is_some() {
+            let port = self.next.get();
+            self.next.set(port.saturating_add(1));
+            return Ok(ClientPair { port, first_id: 7 });
+        }
+        let first_id = match self.scene.clock {
+            Some(clock) => clock.moment.to_le_bytes()[0],
+            None => 0,
+        };
+        Ok(ClientPair { port: 0, first_id })
+    }
+
+    /// It is over at once.
+    fn outlast(&self, _pair: ClientPair) -> bool {
+        true
     }
 
     fn source_towards(&self, _link: [u8; 6]) -> Option<[u8; 4]> {
@@ -252,16 +277,30 @@ impl<'a> Machine for BenchMachine<'a> {
             _ => None,
         }
     }
+}
 
-    fn open_database(&self, path: &str) -> Result<(MemStore, bool), OpenFault> {
-        database_at(self.alloc, self.setup, path)
+impl Databases for BenchMachine<'_> {
+    type Database = MemStore;
+
+    ghost is_database = { λ _ _ _. ⊤ };
+
+    fn open_database(&self, path: &str, loss: Loss) -> Result<(MemStore, bool), OpenFault> {
+        database_at(self.alloc, self.setup, path, loss)
     }
 
+    fn close_database(&self, database: &mut MemStore) -> Result<(), KeepFault> {
+        database.make_whole()
+    }
+}
+
+impl StandardInput for BenchMachine<'_> {
     /// From the first look on.
     fn has_input_ended(&self) -> bool {
         true
     }
+}
 
+impl Machine for BenchMachine<'_> {
     fn shows_progress(&self) -> bool {
         self.scene.is_terminal
     }

@@ -4,8 +4,9 @@ use crate::files::Files;
 use crate::scene::{Place, Scene, Setup, is_setup, scene_of};
 use crate::sink::Sink;
 use crate::spelling::text_of;
-use bac_command_line::{ClientPair, System, pair_at, pairs_come_late, run};
+use bac_command_line::{System, run};
 use bac_driver::{Clock, MonotonicClock, UdpLink};
+use bac_pairs::{ClientPair, PairKey, left_at, pair_at};
 use std::alloc::Global;
 use std::io::{ErrorKind, Write};
 
@@ -139,16 +140,17 @@ impl<'a> Command<'a> {
         }
     }
 
-    /// Prints the port and the first invoke ID of a client that begins at a moment.
+    /// Prints the port and the first invoke ID of a client that begins at a moment, by the key of a secret, and how much of its share is left.
     fn put_pair(&self, out: &mut Sink) -> Option<()> {
-        let moment = self.words.get(1)?.parse::<u64>().ok()?;
-        let ClientPair { port, first_id } = pair_at(moment);
-        writeln!(out, "{port} {first_id}").ok()
+        let key = PairKey::of_secret(self.words.get(1)?.as_bytes());
+        let moment = self.words.get(2)?.parse::<u64>().ok()?;
+        let ClientPair { port, first_id } = pair_at(&key, moment);
+        let left = left_at(moment);
+        writeln!(out, "{port} {first_id} {left}").ok()
     }
 
     /// The same; status 2 where the word is no moment.
     fn print_pair(&self, out: &mut Sink) -> Ended {
-        pairs_come_late();
         let code = match self.put_pair(out) {
             Some(()) => 0,
             None => 2,

@@ -1,7 +1,7 @@
 //! Databases in memory that keep the store of a server.
 use crate::lines::{Heading, first, of_block};
 use crate::scene::Setup;
-use bac_keep_file::OpenFault;
+use bac_keep_file::{Loss, OpenFault};
 use sqlite_trees::memory::MemStore;
 use sqlite_trees::schema::Object;
 use sqlite_trees::store::{Shape, Store};
@@ -63,11 +63,12 @@ fn made(alloc: Global, heading: Heading<'_>, is_new: bool) -> Result<(MemStore, 
     }
 }
 
-/// The database of that name in a scene, and whether it is new.
+/// The database of that name in a scene, and whether it is new. One that is `alone`, `cut` or `torn` is opened only where a loss is accepted.
 pub(crate) fn database_at(
     alloc: Global,
     setup: Setup<'_>,
     path: &str,
+    loss: Loss,
 ) -> Result<(MemStore, bool), OpenFault> {
     let Some(heading) = setup.named("database", path, 0) else {
         return Err(OpenFault::CannotOpen);
@@ -75,6 +76,11 @@ pub(crate) fn database_at(
     match heading.words {
         "" => made(alloc, heading, false),
         "new" => made(alloc, heading, true),
+        "alone" | "cut" | "torn" if loss == Loss::Accepted => made(alloc, heading, false),
+        "alone" => Err(OpenFault::LogMissing),
+        "cut" => Err(OpenFault::LogCut),
+        "torn" => Err(OpenFault::LogDamaged),
+        "gone" => Err(OpenFault::FileMissing),
         "locked" => Err(OpenFault::Locked),
         _ => Err(OpenFault::Damaged),
     }

@@ -4,7 +4,7 @@ ghost use Rattle.std.specs.Prelude.{◌≤◌, length, ⊤};
 use crate::lines::{Heading, of_block};
 use crate::scene::Setup;
 use crate::spelling::put_line;
-use bac_command_line::OpenFiles;
+use bac_environment::OpenFiles;
 use std::alloc::Global;
 use std::cell::Cell;
 use std::io;

@@ -146,7 +146,7 @@ fn play_group(rt: &HostRuntime, group: &str, out: &mut Vec<u8>) -> io::Result<()
 }
 
 /// Plays each group of a text, on links, clocks, files and sockets of that runtime, and prints how many of its rows hold. An Err is out of memory.
-pub fn play_all(rt: &HostRuntime, text: &str, out: &mut Vec<u8>) -> io::Result<()> {
+pub(crate) fn play_all(rt: &HostRuntime, text: &str, out: &mut Vec<u8>) -> io::Result<()> {
     for group in text.trim_start_matches('=').split("\n=") {
         play_group(rt, group, out)?;
     }

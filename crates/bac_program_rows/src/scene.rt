@@ -19,6 +19,16 @@ pub(crate) struct BenchClock {
     pace: Pace,
 }
 
+impl BenchClock {
+    /// One that stands at 0.
+    pub(crate) fn still() -> BenchClock {
+        BenchClock {
+            moment: 0,
+            pace: Pace::On(0),
+        }
+    }
+}
+
 impl Clock for BenchClock {
     ghost use Rattle.std.specs.Prelude.{None};
 

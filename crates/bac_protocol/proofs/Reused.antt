@@ -1,5 +1,5 @@
 -- Laws of the machine that lets invoke IDs be used again.
-use Rattle.std.proofs.Common.{◌≡◌, ℕ, ◌+◌, ◌⊎◌, Bool, true, false, ◌&&◌, ◌||◌, not, [], ◌∷◌, Option, Some, None, if◌then◌else◌, refl, ap, sym, subst, inl, inr, ◌∙◌}
+use Rattle.std.proofs.Common.{◌≡◌, ℕ, ◌+◌, ◌⊎◌, Bool, true, false, ◌&&◌, ◌||◌, not, [], Option, Some, None, if◌then◌else◌, refl, ap, sym, subst, inl, inr, ◌∙◌}
 use Rattle.std.proofs.Common.{min, nat_eq, nat_lt, arith}
 use Rattle.std.proofs.lemmas.Bool.Decides.{nat_tests}
 use Rattle.bac_apdu.specs.Apdu.{Acknowledgement, Apdu, Limits, Segment}
@@ -34,7 +34,7 @@ module _ (c : Context) (service : Service) (reads : Reads) (e : ServerTransactio
   pub ends_where : (a : Apdu) → is_ended_by reads e a ≡ true → reusing_on_apdu c service reads (Some e) free a ≡ idle_reusing c service reads None free a
   ends_where a ends = ap (λ x. left_on_apdu c service reads (if x then None else Some e) free a) (ended_as a true ends)
 
-not_over : (reads : Reads) (e : ServerTransaction) (a : Apdu) → is_over e.state ≡ false → ends_with_reply reads e a ≡ false → is_ended_by reads e a ≡ false
+pub not_over : (reads : Reads) (e : ServerTransaction) (a : Apdu) → is_over e.state ≡ false → ends_with_reply reads e a ≡ false → is_ended_by reads e a ≡ false
 not_over reads e (ConfirmedRequest limits id None choice octets) over stays = ap (λ x. x && (reads choice || not (is_kept e e.request choice octets))) over
 not_over reads e (ConfirmedRequest limits id (Some segment) choice octets) over stays =
     ap (λ x. x && (nat_eq segment.number 0 && is_other_first e e.first choice octets)) over
@@ -50,7 +50,7 @@ and_false : (b : Bool) → b && false ≡ false
 and_false true = refl
 and_false false = refl
 
-kept_stays : (reads : Reads) (e : ServerTransaction) (limits : Limits) (id choice : ℕ) (octets : Octets) → reads choice ≡ false
+pub kept_stays : (reads : Reads) (e : ServerTransaction) (limits : Limits) (id choice : ℕ) (octets : Octets) → reads choice ≡ false
     → is_kept e e.request choice octets ≡ true → is_ended_by reads e (ConfirmedRequest limits id None choice octets) ≡ false
 kept_stays reads e limits id choice octets no_read kept =
     ap (λ x. is_over e.state && (x || not (is_kept e e.request choice octets))) no_read ∙ ap (λ x. is_over e.state && not x) kept ∙ and_false (is_over e.state)

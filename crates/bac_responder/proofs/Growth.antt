@@ -1,6 +1,6 @@
 -- By how many octets an APDU makes one entry keep more.
 use Rattle.std.proofs.Common.{◌≡◌, ℕ, ◌+◌, ◌*◌, ◌-◌, ◌≤◌, Bool, true, false, not, ◌&&◌, List, [], ◌∷◌, ◌++◌, length, min, Option, Some, None}
-use Rattle.std.proofs.Common.{if◌then◌else◌, nat_eq, nat_lt, nat_le, refl, ap, ◌∙◌, arith, length-append}
+use Rattle.std.proofs.Common.{if◌then◌else◌, nat_eq, nat_lt, nat_le, refl, ap, sym, subst, ◌∙◌, arith, length-append}
 use Rattle.std.specs.Prelude.{is_some}
 use Rattle.std.proofs.lemmas.List.{length-take}
 use Rattle.bac_apdu.specs.Apdu.{Apdu, Limits, Segment}
@@ -14,15 +14,16 @@ use Rattle.bac_segment.proofs.Cut.{join-cut}
 use Rattle.bac_store.specs.ReplyLengths.{DATA_LIMIT}
 use Rattle.bac_protocol.specs.declared.times.TheConstants.{T_SEG, T_WAIT_FOR_SEG}
 use Rattle.bac_protocol.specs.Context.{Context, Settings}
-use Rattle.bac_protocol.specs.Reuse.{Reads, has_transfer, idle_reusing, left_on_apdu, reads_so}
+use Rattle.bac_protocol.specs.Reuse.{Reads, has_transfer, idle_reusing, reads_so}
+use Rattle.bac_protocol.specs.Serving.{ReadRule, ServerRules, entry_left, idle_by, is_read_in_one, needs_no_slot, server_hears}
 use Rattle.bac_protocol.specs.Server.{Reaction, ServerTransaction, Service, State, Transfer, is_live, is_none_live, live_entry}
 use Rattle.bac_protocol.specs.Server as server
 use Rattle.bac_protocol.specs.Service.{BUFFER_OVERFLOW, OTHER, Octets, Outcome, Reply, SEGMENTATION_NOT_SUPPORTED}
 use Rattle.bac_protocol.specs.Service.Outcome.{Rejects, Replies}
 use Rattle.bac_protocol.specs.Sizes.{Way, allows_segments, reply_way_in_segments, reply_way_of, reply_way_of_size, transfer_size}
 use Rattle.bac_protocol.specs.Sizes.Way.{InOne, InSegments, Refused}
-use Rattle.bac_transaction.specs.Reuse.{is_read}
-use Rattle.bac_responder.specs.Kept.{adds_nothing, entry_octets, grows_none, grows_none_at, growth, is_known, is_read_in_one, kept_length, octets_of, parts_octets, reply_octets, request_octets, state_octets}
+use Rattle.bac_protocol.proofs.ByRules.{idle_left, on_left}
+use Rattle.bac_responder.specs.Kept.{adds_nothing, entry_octets, grows_none, grows_none_at, growth, kept_length, octets_of, parts_octets, reply_octets, request_octets, state_octets}
 
 -- Segments and pieces.
 
@@ -246,6 +247,11 @@ module _ (c : Context) (service : Service) (short : HasShort service) where
     reusing_fits reads free (ConfirmedRequest limits i (Some g) choice octets) = segment_fits free choice limits g octets
     reusing_fits reads free _ = dead_fits c.now _ dead none
 
+    -- what begins by the rules of an end
+    begun_fits : (reads : ReadRule) (free : Bool) (a : Apdu) → Fits c.now (growth a) (idle_by c service reads dead free a).entry
+    begun_fits ReadRule.Kept free a = idle_fits free a
+    begun_fits (ReadRule.Fresh reads) free a = reusing_fits reads free a
+
   -- An entry is live.
 
   module _ (e : ServerTransaction) where
@@ -345,14 +351,21 @@ module _ (c : Context) (service : Service) (short : HasShort service) where
       go true live = fits_all c.now _ _ (live_octets e e.state a refl)
       go false gone = fits_more c.now (growth a) _ _ (omega arith) (idle_fits (Some e) (ap (λ (b : Bool). if b then false else true) gone) free a)
 
-  pub left_fits : (reads : Reads) (o : Option ServerTransaction) (free : Bool) (a : Apdu)
-      → Fits c.now (octets_of (live_entry c.now o) + growth a) (left_on_apdu c service reads o free a).entry
-  left_fits reads o free a = go (is_none_live c.now o) refl
+  pub hears_fits : (rules : ServerRules) (o : Option ServerTransaction) (free : Bool) (a : Apdu)
+      → Fits c.now (octets_of (live_entry c.now (entry_left rules c.now o a)) + growth a) (server_hears c service rules o free a).entry
+  hears_fits rules o free a = go (is_none_live c.now left) refl
     where
-      go : (b : Bool) → is_none_live c.now o ≡ b → Fits c.now (octets_of (live_entry c.now o) + growth a)
-          (if b then idle_reusing c service reads o free a else server.server_on_apdu c service o free a).entry
-      go true none = let no = none_kept c.now o none in fits_more c.now _ _ _ (omega (arith, no)) (reusing_fits o none reads free a)
-      go false some = server_fits o free a
+      left : Option ServerTransaction
+      left = entry_left rules c.now o a
+
+      go : (b : Bool) → is_none_live c.now left ≡ b → Fits c.now (octets_of (live_entry c.now left) + growth a) (server_hears c service rules o free a).entry
+      go true none =
+          let no = none_kept c.now left none in
+          subst (λ (r : Reaction). Fits c.now (octets_of (live_entry c.now left) + growth a) r.entry) (sym (idle_left c service rules o free a none))
+          (fits_more c.now (growth a) _ _ (omega (arith, no)) (begun_fits left none rules.reads free a))
+      go false some =
+          subst (λ (r : Reaction). Fits c.now (octets_of (live_entry c.now left) + growth a) r.entry) (sym (on_left c service rules o free a some))
+          (server_fits left free a)
 
   -- It makes no entry keep more.
 
@@ -392,9 +405,9 @@ module _ (c : Context) (service : Service) (short : HasShort service) where
       go true live = let same = none_octets e e.state a refl none in fits_all c.now _ _ (omega (arith, same))
       go false dead = absurd cc
 
-  read_in_one_fits : (o : Option ServerTransaction) → is_none_live c.now o ≡ true → (free : Bool) (a : Apdu) → is_read_in_one c service a ≡ true
-      → Fits c.now (octets_of (live_entry c.now o) + 0) (idle_reusing c service is_read o free a).entry
-  read_in_one_fits o none free (ConfirmedRequest limits i None choice octets) one = go (is_read choice) (has_transfer r.entry) one
+  read_in_one_fits : (reads : Reads) (o : Option ServerTransaction) → is_none_live c.now o ≡ true → (free : Bool) (a : Apdu)
+      → is_read_in_one c service reads a ≡ true → Fits c.now (octets_of (live_entry c.now o) + 0) (idle_reusing c service reads o free a).entry
+  read_in_one_fits reads o none free (ConfirmedRequest limits i None choice octets) one = go (reads choice) (has_transfer r.entry) one
     where
       r : Reaction
       r = server.performs c service (server.begins c choice limits (Some octets)) [] octets
@@ -411,27 +424,30 @@ module _ (c : Context) (service : Service) (short : HasShort service) where
       go true false one = dead_fits c.now _ o none
       go true true one = absurd cc
       go false y one = absurd cc
-  read_in_one_fits o none free (ConfirmedRequest limits i (Some g) choice octets) one = absurd cc
-  read_in_one_fits o none free _ one = absurd cc
+  read_in_one_fits reads o none free (ConfirmedRequest limits i (Some g) choice octets) one = absurd cc
+  read_in_one_fits reads o none free _ one = absurd cc
 
-  pub nothing_fits : (o : Option ServerTransaction) (free : Bool) (a : Apdu) → adds_nothing c service o a ≡ true
-      → Fits c.now (octets_of (live_entry c.now o) + 0) (left_on_apdu c service is_read o free a).entry
-  nothing_fits o free a is = go (is_none_live c.now o) refl is
-    where
-      go : (b : Bool) → is_none_live c.now o ≡ b → (if b then is_read_in_one c service a else grows_none_at o a) ≡ true
-          → Fits c.now (octets_of (live_entry c.now o) + 0)
-          (if b then idle_reusing c service is_read o free a else server.server_on_apdu c service o free a).entry
-      go true none one = read_in_one_fits o none free a one
-      go false some small = none_fits o free a some small
+  begins_none_fits : (reads : ReadRule) (o : Option ServerTransaction) → is_none_live c.now o ≡ true → (free : Bool) (a : Apdu)
+      → needs_no_slot c service reads a ≡ true → Fits c.now (octets_of (live_entry c.now o) + 0) (idle_by c service reads o free a).entry
+  begins_none_fits ReadRule.Kept o none free a one = absurd cc
+  begins_none_fits (ReadRule.Fresh reads) o none free a one = read_in_one_fits reads o none free a one
 
-  pub known_fits : (o : Option ServerTransaction) (free : Bool) (a : Apdu) → is_known c.now o a ≡ true
-      → Fits c.now (octets_of (live_entry c.now o) + 0) (server.server_on_apdu c service o free a).entry
-  known_fits o free a is = go (is_none_live c.now o) refl is
+  pub nothing_fits : (rules : ServerRules) (o : Option ServerTransaction) (free : Bool) (a : Apdu)
+      → adds_nothing c service rules.reads (entry_left rules c.now o a) a ≡ true
+      → Fits c.now (octets_of (live_entry c.now (entry_left rules c.now o a)) + 0) (server_hears c service rules o free a).entry
+  nothing_fits rules o free a is = go (is_none_live c.now left) refl is
     where
-      go : (b : Bool) → is_none_live c.now o ≡ b → (if b then false else grows_none_at o a) ≡ true
-          → Fits c.now (octets_of (live_entry c.now o) + 0) (server.server_on_apdu c service o free a).entry
-      go true none known = absurd cc
-      go false some small = none_fits o free a some small
+      left : Option ServerTransaction
+      left = entry_left rules c.now o a
+
+      go : (b : Bool) → is_none_live c.now left ≡ b → (if b then needs_no_slot c service rules.reads a else grows_none_at left a) ≡ true
+          → Fits c.now (octets_of (live_entry c.now left) + 0) (server_hears c service rules o free a).entry
+      go true none one =
+          subst (λ (r : Reaction). Fits c.now (octets_of (live_entry c.now left) + 0) r.entry) (sym (idle_left c service rules o free a none))
+          (begins_none_fits rules.reads left none free a one)
+      go false some small =
+          subst (λ (r : Reaction). Fits c.now (octets_of (live_entry c.now left) + 0) r.entry) (sym (on_left c service rules o free a some))
+          (none_fits left free a some small)
 
 -- A tick.
 

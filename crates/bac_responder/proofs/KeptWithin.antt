@@ -1,8 +1,9 @@
 -- What the server's end keeps after a call, in its own terms and in those of its table.
-use Rattle.std.proofs.Common.{◌≡◌, ℕ, zero, suc, ◌+◌, ◌≤◌, Bool, true, false, ◌&&◌, ◌||◌, List, [], ◌∷◌, filter, length, max, map, take, Option, Some, None}
+use Rattle.std.proofs.Common.{◌≡◌, ℕ, zero, suc, ◌+◌, ◌≤◌, Bool, true, false, ◌&&◌, List, [], ◌∷◌, filter, length, max, map, take, Option, Some, None}
 use Rattle.std.proofs.Common.{Result, Ok, Err, if◌then◌else◌, refl, ap, sym, subst, ◌∙◌, arith}
-use Rattle.std.specs.Prelude.{IfOk, IfSome, MatchOption}
+use Rattle.std.specs.Prelude.{IfSome, MatchOption, is_some}
 use Rattle.bac_apdu.specs.Apdu.{Apdu}
+use Rattle.bac_apdu.specs.Apdu.Apdu.{ConfirmedRequest}
 use Rattle.bac_npdu.specs.Peers.{PeerView}
 use Rattle.bac_service.specs.Replies as plain
 use Rattle.bac_service.specs.Services.{request_at}
@@ -17,27 +18,27 @@ use Rattle.bac_store.specs.ReplyLengths.{DATA_LIMIT, reply_length}
 use Rattle.bac_store.specs.Replies.{reply_to}
 use Rattle.bac_store.specs.Stores.{Store}
 use Rattle.bac_protocol.specs.Context.{Settings}
-use Rattle.bac_protocol.specs.Reuse.{is_ended_by, left_on_apdu}
-use Rattle.bac_protocol.specs.Server.{ServerTransaction, Service, is_live, is_none_live, live_entry, server_on_apdu}
+use Rattle.bac_protocol.specs.Server.{ServerTransaction, is_live, is_none_live, live_entry}
+use Rattle.bac_protocol.specs.Serving.{ServerRules, ends_entry, entry_left, is_ended, server_hears}
 use Rattle.bac_protocol.specs.Service.{Octets}
-use Rattle.bac_transaction.specs.Ends.{ServerEnd, ServerSlot, context_of, is_free, key_of, put_entry, responder_on_apdu}
+use Rattle.bac_transaction.specs.Ends.{ServerEnd, ServerSlot, context_of, is_free, key_of, put_entry}
 use Rattle.bac_transaction.specs.Keys as keys
 use Rattle.bac_transaction.specs.Keys.{same_key}
-use Rattle.bac_transaction.specs.Remembering.{end_unless, ends_it, entry_unless, is_forgotten, responder_remembering}
-use Rattle.bac_transaction.specs.Reuse.{is_read, slots_left}
+use Rattle.bac_transaction.specs.Reuse.{slots_left}
+use Rattle.bac_transaction.specs.Serving.{end_left, responder_by, turn_at}
 use Rattle.bac_transaction.specs.Services.{outcome_by, outcome_of, service_of}
-use Rattle.bac_transaction.specs.Views.{code_same_key, context_view, peer_key_view, settings_view, slot_view, slots_view}
-use Rattle.bac_transaction.specs.declared.context.Context as code
+use Rattle.bac_transaction.specs.Views.{code_same_key, peer_key_view, settings_view, slot_view, slots_view}
 use Rattle.bac_transaction.specs.declared.settings.Settings.{Settings as CodeSettings}
 use Rattle.bac_transaction.specs.declared.peer_key.PeerKey.{PeerKey}
 use Rattle.bac_transaction.proofs.Keyed.{value_viewed}
 use Rattle.bac_transaction.proofs.KeyedSlots.{keys_equivalent}
 use Rattle.bac_transaction.proofs.Viewed.{orderly_viewed}
 use Rattle.bac_responder.specs.Aging.{entry_ticked}
-use Rattle.bac_responder.specs.Kept.{HasShortReplies, StaysWithin, adds_nothing, counted, entry_octets, given_back, growth, is_known, keeps_no_more, kept_octets, knows, octets_of, sum_of}
-use Rattle.bac_responder.specs.Reuse.{reusing_turn_of}
-use Rattle.bac_responder.specs.Views.{end_of, turn_of}
-use Rattle.bac_responder.proofs.Growth.{Fits, known_fits, left_fits, nothing_fits, outcome_octets, server_fits}
+use Rattle.bac_responder.specs.Hearing.{HeedsRoomAt, Hears}
+use Rattle.bac_responder.specs.Kept.{HasShortReplies, IsWithin, NeedsRoom, StaysWithin, adds_nothing, adds_nothing_at, counted, entry_octets, given_back, growth, is_request, keeps_no_more, kept_octets, octets_of, sum_of}
+use Rattle.bac_responder.specs.Views.{end_of}
+use Rattle.bac_responder.specs.declared.served.Served.{Served}
+use Rattle.bac_responder.proofs.Growth.{Fits, hears_fits, nothing_fits, outcome_octets}
 use Rattle.bac_responder.proofs.KeptTables.{live_slots, put_begins, put_grows, put_moves, ticked_octets, without_octets}
 use Rattle.bac_responder.proofs.Ticks.{left_viewed, ticked_viewed}
 
@@ -58,53 +59,53 @@ short_service s short choice octets = go (request_at choice octets)
 
 -- An APDU comes for a key.
 
-module _ (remember now : ℕ) (key : keys.PeerKey) (a : Apdu) (e : ServerEnd) where
+module _ (rules : ServerRules) (now : ℕ) (key : keys.PeerKey) (a : Apdu) (e : ServerEnd) where
   abbrev pub present : Option ServerTransaction
   present = value_at same_key key e.slots
 
   -- the slots without the entry that the APDU ends, if it ends one
   abbrev pub remaining : List ServerSlot
-  remaining = slots_left (ends_it remember now present a) key e.slots
+  remaining = slots_left (ends_entry rules now present a) key e.slots
 
   rest_within : kept_octets remaining ≤ kept_octets e.slots
-  rest_within = go (ends_it remember now present a)
+  rest_within = go (ends_entry rules now present a)
     where
       go : (b : Bool) → kept_octets (slots_left b key e.slots) ≤ kept_octets e.slots
       go true = let sum = without_octets key e.slots in omega (arith, sum)
       go false = omega arith
 
   rest_distinct : IsDistinct same_key e.slots → IsDistinct same_key remaining
-  rest_distinct distinct = go (ends_it remember now present a)
+  rest_distinct distinct = go (ends_entry rules now present a)
     where
       go : (b : Bool) → IsDistinct same_key (slots_left b key e.slots)
       go true = IsDistinct-without same_key key e.slots distinct
       go false = distinct
 
   rest_moves : kept_octets remaining + octets_of present ≤ kept_octets e.slots + octets_of (value_at same_key key remaining)
-  rest_moves = go (ends_it remember now present a)
+  rest_moves = go (ends_entry rules now present a)
     where
       go : (b : Bool) → kept_octets (slots_left b key e.slots) + octets_of present ≤ kept_octets e.slots + octets_of (value_at same_key key (slots_left b key e.slots))
       go true = let sum = without_octets key e.slots in omega (arith, sum)
       go false = omega arith
 
-  left_there : IsDistinct same_key e.slots → value_at same_key key remaining ≡ entry_unless remember now present a
-  left_there distinct = go (ends_it remember now present a)
+  left_there : IsDistinct same_key e.slots → value_at same_key key remaining ≡ entry_left rules now present a
+  left_there distinct = go (ends_entry rules now present a)
     where
       go : (b : Bool) → value_at same_key key (slots_left b key e.slots) ≡ (if b then None else present)
       go true = removed_none keys.PeerKey ServerTransaction same_key keys_equivalent key e.slots distinct
       go false = refl
 
   -- where none is live, none ends
-  none_ends : is_none_live now present ≡ true → ends_it remember now present a ≡ false
+  none_ends : is_none_live now present ≡ true → ends_entry rules now present a ≡ false
   none_ends none = go present none
     where
       dead : (b d : Bool) → (if b then false else true) ≡ true → b && d ≡ false
       dead true d none = absurd cc
       dead false d none = refl
 
-      go : (o : Option ServerTransaction) → is_none_live now o ≡ true → ends_it remember now o a ≡ false
+      go : (o : Option ServerTransaction) → is_none_live now o ≡ true → ends_entry rules now o a ≡ false
       go None none = refl
-      go (Some d) none = dead (is_live now d) (is_ended_by is_read d a || is_forgotten remember now d a) none
+      go (Some d) none = dead (is_live now d) (is_ended rules now d a) none
 
   -- what the entry of the key keeps more or less, all keep
   pub left_moves : IsDistinct same_key e.slots → (o : Option ServerTransaction)
@@ -115,35 +116,22 @@ module _ (remember now : ℕ) (key : keys.PeerKey) (a : Apdu) (e : ServerEnd) wh
       omega (arith, less, sum)
 
   module _ (c : Settings) (s : Store) (short : HasShortReplies s) (distinct : IsDistinct same_key e.slots) where
-    abbrev after : Option ServerTransaction
-    after = (server_on_apdu (context_of c now key) (service_of s) present (is_free now e) a).entry
-
-    fits : Fits now (octets_of (live_entry now present) + growth a) after
-    fits = server_fits (context_of c now key) (service_of s) (short_service s short) present (is_free now e) a
-
-    pub on_grows : kept_octets (put_entry now key after e.slots) ≤ kept_octets e.slots + growth a
-    on_grows = put_grows now key e.slots (growth a) after fits
-
-    pub on_begins : is_none_live now present ≡ true
-        → kept_octets (put_entry now key after e.slots) ≤ max (kept_octets e.slots) (kept_octets (live_slots now e.slots) + growth a)
-    on_begins none = put_begins now key e.slots (growth a) after none fits
-
     abbrev left_after : Option ServerTransaction
-    left_after = (left_on_apdu (context_of c now key) (service_of s) is_read (entry_unless remember now present a) (is_free now (end_unless remember now key a e)) a).entry
+    left_after = (server_hears (context_of c now key) (service_of s) rules present (is_free now (end_left rules now key a e)) a).entry
 
     left_fit : Fits now (octets_of (live_entry now (value_at same_key key remaining)) + growth a) left_after
     left_fit = subst (λ (o : Option ServerTransaction). Fits now (octets_of (live_entry now o) + growth a) left_after) (sym (left_there distinct))
-        (left_fits (context_of c now key) (service_of s) (short_service s short) is_read (entry_unless remember now present a) (is_free now (end_unless remember now key a e)) a)
+        (hears_fits (context_of c now key) (service_of s) (short_service s short) rules present (is_free now (end_left rules now key a e)) a)
 
-    pub reusing_grows : kept_octets (put_entry now key left_after remaining) ≤ kept_octets e.slots + growth a
-    reusing_grows =
+    pub turn_grows : kept_octets (put_entry now key left_after remaining) ≤ kept_octets e.slots + growth a
+    turn_grows =
         let less = rest_within in
         let sum = put_grows now key remaining (growth a) left_after left_fit in
         omega (arith, less, sum)
 
-    pub reusing_begins : is_none_live now present ≡ true
+    pub turn_begins : is_none_live now present ≡ true
         → kept_octets (put_entry now key left_after remaining) ≤ max (kept_octets e.slots) (kept_octets (live_slots now e.slots) + growth a)
-    reusing_begins none =
+    turn_begins none =
         let same : remaining ≡ e.slots = ap (λ (b : Bool). slots_left b key e.slots) (none_ends none) in
         let all = ap kept_octets same in
         let live = ap (λ (l : List ServerSlot). kept_octets (live_slots now l)) same in
@@ -153,46 +141,37 @@ module _ (remember now : ℕ) (key : keys.PeerKey) (a : Apdu) (e : ServerEnd) wh
 
     -- it makes no entry keep more
 
-    pub on_known : is_known now present a ≡ true → kept_octets (put_entry now key after e.slots) ≤ kept_octets e.slots
-    on_known is =
-        let fit = known_fits (context_of c now key) (service_of s) (short_service s short) present (is_free now e) a is in
-        let sum = put_grows now key e.slots 0 after fit in
-        omega (arith, sum)
-
-    pub reusing_adds_nothing : adds_nothing (context_of c now key) (service_of s) (entry_unless remember now present a) a ≡ true
+    pub turn_adds_nothing : adds_nothing (context_of c now key) (service_of s) rules.reads (entry_left rules now present a) a ≡ true
         → kept_octets (put_entry now key left_after remaining) ≤ kept_octets e.slots
-    reusing_adds_nothing is =
+    turn_adds_nothing is =
         let fit : Fits now (octets_of (live_entry now (value_at same_key key remaining)) + 0) left_after =
         subst (λ (o : Option ServerTransaction). Fits now (octets_of (live_entry now o) + 0) left_after) (sym (left_there distinct))
-        (nothing_fits (context_of c now key) (service_of s) (short_service s short) (entry_unless remember now present a) (is_free now (end_unless remember now key a e)) a is) in
+        (nothing_fits (context_of c now key) (service_of s) (short_service s short) rules present (is_free now (end_left rules now key a e)) a is) in
         let less = rest_within in
         let sum = put_grows now key remaining 0 left_after fit in
         omega (arith, less, sum)
 
+-- only a request can make it keep more
+pub needs_request : (a : Apdu) → (growth a ≡ 0 → ⊥) → is_request a ≡ true
+needs_request (ConfirmedRequest limits id segment choice octets) grows = refl
+needs_request _ grows = absurd (grows refl)
+
 -- Whether there is room for it.
 
-module _ (now : ℕ) (peer : PeerView) (a : Apdu) (room : ℕ) (e : ServerEnd) (distinct : IsDistinct same_key e.slots) where
+module _ (now : ℕ) (peer : PeerView) (a : Apdu) (memory : ℕ) (e : ServerEnd) (distinct : IsDistinct same_key e.slots) where
   -- it grows by no more, and there is room for that
-  grown_within : kept_octets e.slots + growth a ≤ room → StaysWithin now peer a room e
-  grown_within there = record {
-    on = λ c s short. let sum = on_grows 0 now (key_of peer a) a e c s short distinct in omega (arith, sum, there);
-    on_reusing = λ remember c s short. let sum = reusing_grows remember now (key_of peer a) a e c s short distinct in omega (arith, sum, there);
-  }
+  grown_within : kept_octets e.slots + growth a ≤ memory → StaysWithin (Some memory) now peer a e
+  grown_within there = λ rules c s short. let sum = turn_grows rules now (key_of peer a) a e c s short distinct in omega (arith, sum, there)
 
   -- it does not grow
-  same_within : growth a ≡ 0 → StaysWithin now peer a room e
-  same_within none = record {
-    on = λ c s short. let sum = on_grows 0 now (key_of peer a) a e c s short distinct in omega (arith, sum, none);
-    on_reusing = λ remember c s short. let sum = reusing_grows remember now (key_of peer a) a e c s short distinct in omega (arith, sum, none);
-  }
+  same_within : growth a ≡ 0 → StaysWithin (Some memory) now peer a e
+  same_within none = λ rules c s short. let sum = turn_grows rules now (key_of peer a) a e c s short distinct in omega (arith, sum, none)
 
   -- no entry of its key is live, and beside the live ones there is room
-  begun_within : is_none_live now (value_at same_key (key_of peer a) e.slots) ≡ true → kept_octets (live_slots now e.slots) + growth a ≤ room
-      → StaysWithin now peer a room e
-  begun_within none there = record {
-    on = λ c s short. let sum = on_begins 0 now (key_of peer a) a e c s short distinct none in omega (arith, sum, there);
-    on_reusing = λ remember c s short. let sum = reusing_begins remember now (key_of peer a) a e c s short distinct none in omega (arith, sum, there);
-  }
+  begun_within : is_none_live now (value_at same_key (key_of peer a) e.slots) ≡ true → kept_octets (live_slots now e.slots) + growth a ≤ memory
+      → StaysWithin (Some memory) now peer a e
+  begun_within none there = λ rules c s short.
+      let sum = turn_begins rules now (key_of peer a) a e c s short distinct none in omega (arith, sum, there)
 
 -- The table.
 
@@ -218,66 +197,99 @@ pub counted_within : (now : ℕ) (slots : Slots) (kept : Option ℕ) → IfSome 
 counted_within now slots None is = tt
 counted_within now slots (Some k) is = let same = counted_all now slots in omega (arith, same, is)
 
-apart : (slots : Slots) → IsDistinct code_same_key slots → IsDistinct same_key (slots_view slots)
+pub apart : (slots : Slots) → IsDistinct code_same_key slots → IsDistinct same_key (slots_view slots)
 apart slots distinct = (orderly_viewed ServerTransaction slots (length slots) (length slots) distinct refl (omega arith)).distinct
 
-module _ (now : ℕ) (peer : PeerView) (a : Apdu) (room : ℕ) (slots : Slots) (capacity : ℕ) (restart : Option ℕ) (distinct : IsDistinct code_same_key slots) where
-  pub no_more : growth a ≡ 0 → StaysWithin now peer a room (end_of slots capacity restart)
-  no_more none = same_within now peer a room (end_of slots capacity restart) (apart slots distinct) none
+module _ (now : ℕ) (peer : PeerView) (a : Apdu) (memory : ℕ) (slots : Slots) (capacity : ℕ) (restart : Option ℕ) (distinct : IsDistinct code_same_key slots) where
+  pub no_more : growth a ≡ 0 → StaysWithin (Some memory) now peer a (end_of slots capacity restart)
+  no_more none = same_within now peer a memory (end_of slots capacity restart) (apart slots distinct) none
 
   pub room_for : (kept : Option ℕ) (len : ℕ) → IfSome kept (λ k. kept_octets (slots_view slots) ≤ k) → growth a ≡ len + 65539
-      → MatchOption kept ⊥ (λ k. k + (len + 65539) ≤ room) → StaysWithin now peer a room (end_of slots capacity restart)
+      → MatchOption kept ⊥ (λ k. k + (len + 65539) ≤ memory) → StaysWithin (Some memory) now peer a (end_of slots capacity restart)
   room_for None len within grows there = absurd there
   room_for (Some k) len within grows there =
-      grown_within now peer a room (end_of slots capacity restart) (apart slots distinct) (omega (arith, within, grows, there))
+      grown_within now peer a memory (end_of slots capacity restart) (apart slots distinct) (omega (arith, within, grows, there))
 
   -- where it takes the place of the dead ones
   pub room_instead : (key : PeerKey) → peer_key_view key ≡ key_of peer a → is_none_live now (value_at code_same_key key slots) ≡ true → (kept : Option ℕ) (len : ℕ)
-      → IfSome kept (λ k. k ≡ sum_of (counted true now) slots) → growth a ≡ len + 65539 → MatchOption kept ⊥ (λ k. k + (len + 65539) ≤ room)
-      → StaysWithin now peer a room (end_of slots capacity restart)
+      → IfSome kept (λ k. k ≡ sum_of (counted true now) slots) → growth a ≡ len + 65539 → MatchOption kept ⊥ (λ k. k + (len + 65539) ≤ memory)
+      → StaysWithin (Some memory) now peer a (end_of slots capacity restart)
   room_instead key is none None len within grows there = absurd there
   room_instead key is none (Some k) len within grows there =
       let seen : is_none_live now (value_at same_key (key_of peer a) (slots_view slots)) ≡ true =
       ap (λ (q : keys.PeerKey). is_none_live now (value_at same_key q (slots_view slots))) (sym is)
       ∙ ap (is_none_live now) (sym (value_viewed ServerTransaction key slots)) ∙ none in
       let same = counted_live now slots in
-      begun_within now peer a room (end_of slots capacity restart) (apart slots distinct) seen (omega (arith, within, grows, there, same))
+      begun_within now peer a memory (end_of slots capacity restart) (apart slots distinct) seen (omega (arith, within, grows, there, same))
 
 -- It makes no entry of the table keep more.
 
-module _ (now : ℕ) (peer : PeerView) (a : Apdu) (slots : Slots) (capacity : ℕ) (restart : Option ℕ) where
-  pub known_viewed : (key : PeerKey) → peer_key_view key ≡ key_of peer a
-      → is_known now (value_at code_same_key key slots) a ≡ knows now peer a (end_of slots capacity restart)
-  known_viewed key is =
-      ap (λ (o : Option ServerTransaction). is_known now o a) (value_viewed ServerTransaction key slots)
-      ∙ ap (λ (q : keys.PeerKey). is_known now (value_at same_key q (slots_view slots)) a) is
+pub nothing_within : (rules : ServerRules) (now : ℕ) (peer : PeerView) (a : Apdu) (slots : Slots) (capacity : ℕ) (restart : Option ℕ)
+    → IsDistinct code_same_key slots → (c : Settings) (s : Store) → keeps_no_more rules c now (service_of s) peer a (end_of slots capacity restart) ≡ true
+    → HasShortReplies s
+    → kept_octets (responder_by rules c now (service_of s) peer a (end_of slots capacity restart)).end.slots ≤ kept_octets (slots_view slots)
+nothing_within rules now peer a slots capacity restart distinct c s is short =
+    turn_adds_nothing rules now (key_of peer a) a (end_of slots capacity restart) c s short (apart slots distinct) is
 
-  pub nothing_viewed : (remember : ℕ) (c : Settings) (service : Service) (key : PeerKey) → peer_key_view key ≡ key_of peer a
-      → adds_nothing (context_of c now (peer_key_view key)) service (entry_unless remember now (value_at code_same_key key slots) a) a
-      ≡ keeps_no_more remember c now service peer a (end_of slots capacity restart)
-  nothing_viewed remember c service key is =
-      ap (λ (o : Option ServerTransaction). adds_nothing (context_of c now (peer_key_view key)) service (entry_unless remember now o a) a)
-      (value_viewed ServerTransaction key slots)
-      ∙ ap (λ (q : keys.PeerKey). adds_nothing (context_of c now q) service (entry_unless remember now (value_at same_key q (slots_view slots)) a) a) is
+-- There was room, or it makes none keep more.
 
-  module _ (distinct : IsDistinct code_same_key slots) (c : Settings) (s : Store) where
-    pub known_within : knows now peer a (end_of slots capacity restart) ≡ true → HasShortReplies s
-        → kept_octets (responder_on_apdu c now (service_of s) peer a (end_of slots capacity restart)).end.slots ≤ kept_octets (slots_view slots)
-    known_within is short = on_known 0 now (key_of peer a) a (end_of slots capacity restart) c s short (apart slots distinct) is
+pub heard_within : (memory : Option ℕ) (rules : ServerRules) (now : ℕ) (peer : PeerView) (a : Apdu) (slots : Slots) (capacity : ℕ) (restart : Option ℕ)
+    → IsDistinct code_same_key slots → (c : Settings) (s : Store) (old : ServerEnd) → end_of slots capacity restart ≡ old → (room : Bool)
+    → (room ≡ true → StaysWithin memory now peer a old)
+    → (room ≡ false → keeps_no_more rules c now (service_of s) peer a (end_of slots capacity restart) ≡ true) → (new : ServerEnd)
+    → new ≡ (responder_by rules c now (service_of s) peer a (end_of slots capacity restart)).end → IsWithin memory s old new
+heard_within memory rules now peer a slots capacity restart distinct c s old same room stays nothing new is = go memory room stays nothing
+  where
+    go : (m : Option ℕ) (b : Bool) → (b ≡ true → StaysWithin m now peer a old)
+        → (b ≡ false → keeps_no_more rules c now (service_of s) peer a (end_of slots capacity restart) ≡ true) → IsWithin m s old new
+    go None b stays nothing = tt
+    go (Some m) true stays nothing = λ short.
+        let within = stays refl rules c s short in
+        let all = ap (λ (e : ServerEnd). kept_octets e.slots) (is ∙ ap (λ (e : ServerEnd). (responder_by rules c now (service_of s) peer a e).end) same) in
+        omega (arith, within, all)
+    go (Some m) false stays nothing = λ short.
+        let within = nothing_within rules now peer a slots capacity restart distinct c s (nothing refl) short in
+        let all = ap (λ (e : ServerEnd). kept_octets e.slots) is in
+        let before = ap (λ (e : ServerEnd). kept_octets e.slots) same in
+        omega (arith, within, all, before)
 
-    pub nothing_within : (remember : ℕ) → keeps_no_more remember c now (service_of s) peer a (end_of slots capacity restart) ≡ true → HasShortReplies s
-        → kept_octets (responder_remembering remember c now (service_of s) peer a (end_of slots capacity restart)).end.slots ≤ kept_octets (slots_view slots)
-    nothing_within remember is short = reusing_adds_nothing remember now (key_of peer a) a (end_of slots capacity restart) c s short (apart slots distinct) is
+-- what comes of an APDU, by what was asked before
 
--- an answer that is one of two equal ones, and what follows where it is true
+pub on_within : (memory : Option ℕ) (rules : ServerRules) (now : ℕ) (peer : PeerView) (a : Apdu) (slots : Slots) (capacity : ℕ) (restart : Option ℕ)
+    → IsDistinct code_same_key slots → (c : Settings) (s : Store) (old : ServerEnd) → end_of slots capacity restart ≡ old → (room : Bool)
+    → (room ≡ true → StaysWithin memory now peer a old) → (k : keys.PeerKey) → k ≡ key_of peer a → (x : Option Served) (new : ServerEnd) (t : Store)
+    → Hears rules c now k a (end_of slots capacity restart) s (Ok x) new t → HeedsRoomAt room rules c now k a (end_of slots capacity restart) s (Ok x)
+    → IsWithin memory s old new
+on_within memory rules now peer a slots capacity restart distinct c s old same room stays k is None new t hears heeds = go memory
+  where
+    all : kept_octets new.slots ≡ kept_octets old.slots
+    all = ap (λ (e : ServerEnd). kept_octets e.slots) (hears.0 ∙ same)
 
-pub ok_same : {E : Type 0} (r : Result Bool E) (x y : Bool) → x ≡ y → IfOk r (λ b. b ≡ x) → IfOk r (λ b. b ≡ y)
-ok_same (Ok b) x y same is = is ∙ same
-ok_same (Err e) x y same is = tt
+    go : (m : Option ℕ) → IsWithin m s old new
+    go None = tt
+    go (Some m) = λ short. omega (arith, all)
+on_within memory rules now peer a slots capacity restart distinct c s old same room stays k is (Some x) new t hears heeds =
+    heard_within memory rules now peer a slots capacity restart distinct c s old same room stays
+    (λ none. ap (λ (q : keys.PeerKey). adds_nothing_at rules c now (service_of s) q a (end_of slots capacity restart)) (sym is) ∙ heeds none) new
+    (hears.turn.end ∙ ap (λ (q : keys.PeerKey). (turn_at rules c now (service_of s) q a (end_of slots capacity restart)).end) is)
 
-pub ok_then : {E : Type 0} (P : Type 0) (r : Result Bool E) (x : Bool) → IfOk r (λ b. b ≡ x) → (x ≡ true → P) → IfOk r (λ b. b ≡ true → P)
-ok_then P (Ok b) x is then_so = λ yes. then_so (sym is ∙ yes)
-ok_then P (Err e) x is then_so = tt
+pub on_needs : (memory : Option ℕ) (rules : ServerRules) (now : ℕ) (peer : PeerView) (a : Apdu) (e old : ServerEnd) → e ≡ old → (c : Settings) (s : Store)
+    (room : Bool) → (growth a ≡ 0 → room ≡ true) → (memory ≡ None → room ≡ true) → (k : keys.PeerKey) → k ≡ key_of peer a → (x : Option Served)
+    → HeedsRoomAt room rules c now k a e s (Ok x) → x ≡ None → NeedsRoom rules memory c now (service_of s) peer a old
+on_needs memory rules now peer a e old same c s room needless bound k is (Some x) heeds none = absurd cc
+on_needs memory rules now peer a e old same c s room needless bound k is None heeds none = record {
+  request = needs_request a (λ grows. full (needless grows));
+  more = ap (λ (d : ServerEnd). keeps_no_more rules c now (service_of s) peer a d) (sym same)
+      ∙ ap (λ (q : keys.PeerKey). adds_nothing_at rules c now (service_of s) q a e) (sym is) ∙ heeds.1;
+  bound = there memory bound;
+}
+  where
+    full : room ≡ true → ⊥
+    full granted = let no : false ≡ true = sym heeds.0 ∙ granted in cc
+
+    there : (m : Option ℕ) → (m ≡ None → room ≡ true) → is_some m ≡ true
+    there None bound = absurd (full (bound refl))
+    there (Some m) bound = refl
 
 -- An APDU was taken: what the table keeps more or less, the entry of its key does.
 
@@ -291,25 +303,28 @@ seen_moves key old new put is moves =
     let after = ap octets_of (value_viewed ServerTransaction key new ∙ ap (value_at same_key (peer_key_view key)) is) in
     omega (arith, moves, all, before, after)
 
-module _ (c : code.Context) (s : Store) (a : Apdu) (old new : Slots) (capacity room : ℕ) (restart : Option ℕ) (distinct : IsDistinct code_same_key old) where
-  abbrev e : ServerEnd
-  e = end_of old capacity restart
+pub turn_moved : (rules : ServerRules) (c : Settings) (now : ℕ) (s : Store) (key : PeerKey) (a : Apdu) (old new : Slots) (capacity room : ℕ) (restart : Option ℕ)
+    → IsDistinct code_same_key old → end_of new room restart ≡ (turn_at rules c now (service_of s) (peer_key_view key) a (end_of old capacity restart)).end
+    → kept_octets (slots_view new) + octets_of (value_at code_same_key key old) ≤ kept_octets (slots_view old) + octets_of (value_at code_same_key key new)
+turn_moved rules c now s key a old new capacity room restart distinct is =
+    let e : ServerEnd = end_of old capacity restart in
+    let k : keys.PeerKey = peer_key_view key in
+    seen_moves key old new _ (ap (λ (x : ServerEnd). x.slots) is)
+    (left_moves rules now k a e (apart old distinct)
+    (server_hears (context_of c now k) (service_of s) rules (value_at same_key k (slots_view old)) (is_free now (end_left rules now k a e)) a).entry)
 
-  abbrev k : keys.PeerKey
-  k = peer_key_view c.key
-
-  pub on_moved : end_of new room restart ≡ (turn_of c s a (end_of old capacity restart)).end
-      → kept_octets (slots_view new) + octets_of (value_at code_same_key c.key old) ≤ kept_octets (slots_view old) + octets_of (value_at code_same_key c.key new)
-  on_moved is = seen_moves c.key old new _ (ap (λ (x : ServerEnd). x.slots) is)
-      (put_moves c.moment k (slots_view old) (apart old distinct)
-      (server_on_apdu (context_view c) (service_of s) (value_at same_key k (slots_view old)) (is_free c.moment e) a).entry)
-
-  pub reusing_moved : (remember : ℕ) → end_of new room restart ≡ (reusing_turn_of remember c s a (end_of old capacity restart)).end
-      → kept_octets (slots_view new) + octets_of (value_at code_same_key c.key old) ≤ kept_octets (slots_view old) + octets_of (value_at code_same_key c.key new)
-  reusing_moved remember is = seen_moves c.key old new _ (ap (λ (x : ServerEnd). x.slots) is)
-      (left_moves remember c.moment k a e (apart old distinct)
-      (left_on_apdu (context_view c) (service_of s) is_read (entry_unless remember c.moment (value_at same_key k (slots_view old)) a)
-      (is_free c.moment (end_unless remember c.moment k a e)) a).entry)
+pub on_moved : (rules : ServerRules) (c : Settings) (now : ℕ) (s : Store) (key : PeerKey) (a : Apdu) (old new : Slots) (capacity room : ℕ) (restart : Option ℕ)
+    → IsDistinct code_same_key old → (x : Option Served) (t : Store)
+    → Hears rules c now (peer_key_view key) a (end_of old capacity restart) s (Ok x) (end_of new room restart) t
+    → kept_octets (slots_view new) + octets_of (value_at code_same_key key old) ≤ kept_octets (slots_view old) + octets_of (value_at code_same_key key new)
+on_moved rules c now s key a old new capacity room restart distinct (Some x) t hears =
+    turn_moved rules c now s key a old new capacity room restart distinct hears.turn.end
+on_moved rules c now s key a old new capacity room restart distinct None t hears =
+    let is = ap (λ (e : ServerEnd). e.slots) hears.0 in
+    let all = ap kept_octets is in
+    let before = ap octets_of (value_viewed ServerTransaction key old) in
+    let after = ap octets_of (value_viewed ServerTransaction key new ∙ ap (value_at same_key (peer_key_view key)) is) in
+    omega (arith, all, before, after)
 
 -- A tick.
 

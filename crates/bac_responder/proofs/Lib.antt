@@ -10,9 +10,10 @@ pub mod Copies
 pub mod Same
 pub mod Begun
 pub mod Rests
-pub mod Reused
+pub mod Begins
 pub mod Sums
 pub mod Growth
 pub mod KeptTables
 pub mod KeptWithin
+pub mod Hearings
 pub mod NextFree

@@ -1,7 +1,5 @@
 -- How entries age, and what a table's slots are to the server's end.
-use Rattle.std.specs.Prelude.{ℕ, List, Bool, true, false, Some, None, nat_eq}
-use Rattle.bac_apdu.specs.Apdu.{Apdu}
-use Rattle.bac_apdu.specs.Apdu.Apdu.{ConfirmedRequest}
+use Rattle.std.specs.Prelude.{ℕ, List, Some}
 use Rattle.bac_slots.specs.declared.slot.Slot.{Slot}
 use Rattle.bac_protocol.specs.Server.{ServerTransaction, server_ticks}
 use Rattle.bac_responder.specs.Timers.{IsQuiet}
@@ -23,9 +21,3 @@ entry_ticked c now key e = entry_or e (server_ticks (context_of (settings_view c
 -- what is known of the ages of a server's slots
 abbrev pub AreAged : Ages → List (Slot PeerKey ServerTransaction) → Type 0
 AreAged ages slots = IsAged PeerKey ServerTransaction began IsQuiet ages slots
-
--- an APDU that begins a request: one without SEG, or its segment 0
-abbrev pub begins_request : Apdu → Bool
-begins_request (ConfirmedRequest limits invoke_id None choice octets) = true
-begins_request (ConfirmedRequest limits invoke_id (Some segment) choice octets) = nat_eq segment.number 0
-begins_request _ = false

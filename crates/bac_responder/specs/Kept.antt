@@ -1,5 +1,5 @@
 -- How many octets of service data the server's end keeps, and by how many an APDU can make it keep more.
-use Rattle.std.specs.Prelude.{◌≤◌, ℕ, ◌+◌, ◌*◌, max, Bool, true, false, ◌&&◌, not, if◌then◌else◌, List, [], ◌∷◌, length, Option, Some, None}
+use Rattle.std.specs.Prelude.{◌≡◌, ◌≤◌, ℕ, ◌+◌, ◌*◌, max, Bool, true, false, is_some, if◌then◌else◌, List, [], ◌∷◌, length, Option, Some, None}
 use Rattle.bac_apdu.specs.Apdu.{Apdu}
 use Rattle.bac_apdu.specs.Apdu.Apdu.{ConfirmedRequest, ComplexAck}
 use Rattle.bac_npdu.specs.Peers.{PeerView}
@@ -11,14 +11,14 @@ use Rattle.bac_store.specs.ReplyLengths.{DATA_LIMIT, reply_length}
 use Rattle.bac_store.specs.Replies.{reply_to}
 use Rattle.bac_store.specs.Stores.{Store}
 use Rattle.bac_protocol.specs.Context.{Context, Settings}
-use Rattle.bac_protocol.specs.Reuse.{has_transfer}
-use Rattle.bac_protocol.specs.Server.{ServerTransaction, Service, State, begins, is_live, is_none_live, performs}
+use Rattle.bac_protocol.specs.Server.{ServerTransaction, Service, State, is_live, is_none_live}
 use Rattle.bac_protocol.specs.Service.{Octets}
-use Rattle.bac_transaction.specs.Ends.{ServerEnd, ServerSlot, context_of, key_of, responder_on_apdu}
+use Rattle.bac_protocol.specs.Serving.{ReadRule, ServerRules, entry_left, needs_no_slot}
+use Rattle.bac_transaction.specs.Ends.{ServerEnd, ServerSlot, context_of, key_of}
+use Rattle.bac_transaction.specs.Keys as keys
 use Rattle.bac_transaction.specs.Keys.{same_key}
-use Rattle.bac_transaction.specs.Remembering.{entry_unless, responder_remembering}
-use Rattle.bac_transaction.specs.Reuse.{is_read}
 use Rattle.bac_transaction.specs.Services.{service_of}
+use Rattle.bac_transaction.specs.Serving.{responder_by}
 use Rattle.bac_transaction.specs.declared.peer_key.PeerKey.{PeerKey}
 
 -- of segments that were received: those of each, and four for its place
@@ -82,11 +82,17 @@ growth _ = 0
 abbrev pub HasShortReplies : Store → Type 0
 HasShortReplies s = (r : Request) → reply_length (reply_to s r) ≤ DATA_LIMIT
 
--- whatever that APDU makes of the end, in a node of either setting, it then keeps no more octets than before, or no more than there is room for
-pub record StaysWithin (now : ℕ) (peer : PeerView) (a : Apdu) (room : ℕ) (e : ServerEnd) : Type 0 where
-  pub on : (c : Settings) (s : Store) → HasShortReplies s → kept_octets (responder_on_apdu c now (service_of s) peer a e).end.slots ≤ max (kept_octets e.slots) room
-  pub on_reusing : (remember : ℕ) (c : Settings) (s : Store) → HasShortReplies s
-      → kept_octets (responder_remembering remember c now (service_of s) peer a e).end.slots ≤ max (kept_octets e.slots) room
+-- whatever that APDU makes of the end, by any rules, it then keeps no more octets than before, or no more than the bound, if there is one
+abbrev pub StaysWithin : (memory : Option ℕ) → (now : ℕ) → PeerView → Apdu → ServerEnd → Type 0
+StaysWithin None now peer a e = Unit {0}
+StaysWithin (Some memory) now peer a e =
+    (rules : ServerRules) (c : Settings) (s : Store) → HasShortReplies s
+    → kept_octets (responder_by rules c now (service_of s) peer a e).end.slots ≤ max (kept_octets e.slots) memory
+
+-- an end keeps no more octets than before, or no more than the bound, if there is one
+abbrev pub IsWithin : (memory : Option ℕ) → Store → (old new : ServerEnd) → Type 0
+IsWithin None s old new = Unit {0}
+IsWithin (Some memory) s old new = HasShortReplies s → kept_octets new.slots ≤ max (kept_octets old.slots) memory
 
 -- What makes no end keep more, however little room there is.
 
@@ -113,25 +119,21 @@ abbrev pub grows_none_at : Option ServerTransaction → Apdu → Bool
 grows_none_at None a = false
 grows_none_at (Some e) a = grows_none e.state a
 
--- a read without SEG whose reply is one APDU, or a Reject or an Abort
-abbrev pub is_read_in_one : Context → Service → Apdu → Bool
-is_read_in_one c service (ConfirmedRequest limits invoke_id None choice octets) =
-    is_read choice && not (has_transfer (performs c service (begins c choice limits (Some octets)) [] octets).entry)
-is_read_in_one c service (ConfirmedRequest limits invoke_id (Some segment) choice octets) = false
-is_read_in_one c service _ = false
+-- the entry that is left goes on and keeps no more; where none is live, an APDU that needs no slot begins none: a read whose reply is one APDU
+abbrev pub adds_nothing : Context → Service → ReadRule → (left : Option ServerTransaction) → Apdu → Bool
+adds_nothing c service reads left a = if is_none_live c.now left then needs_no_slot c service reads a else grows_none_at left a
 
--- a request whose entry is live, and without SEG where that receives segments: it gets the kept reply again, or an Abort, or sets a stopped transfer going
-abbrev pub is_known : (now : ℕ) → Option ServerTransaction → Apdu → Bool
-is_known now entry a = if is_none_live now entry then false else grows_none_at entry a
-
--- the same where invoke IDs may be used again, of the entry that is left; and where none is live, a read whose reply is one APDU begins none
-abbrev pub adds_nothing : Context → Service → Option ServerTransaction → Apdu → Bool
-adds_nothing c service left a = if is_none_live c.now left then is_read_in_one c service a else grows_none_at left a
+-- an APDU comes for that key
+abbrev pub adds_nothing_at : ServerRules → Settings → (now : ℕ) → Service → keys.PeerKey → Apdu → ServerEnd → Bool
+adds_nothing_at rules c now service key a e =
+    adds_nothing (context_of c now key) service rules.reads (entry_left rules now (value_at same_key key e.slots) a) a
 
 -- an APDU comes from a peer
-abbrev pub knows : (now : ℕ) → PeerView → Apdu → ServerEnd → Bool
-knows now peer a e = is_known now (value_at same_key (key_of peer a) e.slots) a
+abbrev pub keeps_no_more : ServerRules → Settings → (now : ℕ) → Service → PeerView → Apdu → ServerEnd → Bool
+keeps_no_more rules c now service peer a e = adds_nothing_at rules c now service (key_of peer a) a e
 
-abbrev pub keeps_no_more : (remember : ℕ) → Settings → (now : ℕ) → Service → PeerView → Apdu → ServerEnd → Bool
-keeps_no_more remember c now service peer a e =
-    adds_nothing (context_of c now (key_of peer a)) service (entry_unless remember now (value_at same_key (key_of peer a) e.slots) a) a
+-- only such an APDU finds no room: it is a request, it can make the end keep more, and there is a bound
+pub record NeedsRoom (rules : ServerRules) (memory : Option ℕ) (c : Settings) (now : ℕ) (service : Service) (peer : PeerView) (a : Apdu) (e : ServerEnd) : Type 0 where
+  pub request : is_request a ≡ true
+  pub more : keeps_no_more rules c now service peer a e ≡ false
+  pub bound : is_some memory ≡ true

@@ -10,5 +10,5 @@ pub mod Reactions
 pub mod Reading
 pub mod Preparing
 pub mod Segments
-pub mod Reuse
+pub mod Hearing
 pub mod Timers

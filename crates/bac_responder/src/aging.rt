@@ -13,10 +13,10 @@ use bac_transaction::{Context, PeerKey, Settings};
 
 /// The rules by which the slots of a server's end age.
 #[derive(Drop)]
-pub(crate) struct ServerRules;
+pub(crate) struct ServerAging;
 
 /// An entry is alive while it is live.
-impl Aged<ServerRules> for ServerTransaction {
+impl Aged<ServerAging> for ServerTransaction {
     ghost began = { began };
 
     ghost lives = { is_live };
@@ -40,7 +40,7 @@ impl Aged<ServerRules> for ServerTransaction {
     fn ages() {}
 }
 
-impl Ticks<ServerRules, PeerKey, Settings> for ServerTransaction {
+impl Ticks<ServerAging, PeerKey, Settings> for ServerTransaction {
     ghost ticked = { entry_ticked };
 
     fn tick(&mut self, settings: &Settings, now: u64, key: &PeerKey) {

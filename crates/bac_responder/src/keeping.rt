@@ -1,9 +1,10 @@
 //! How many octets of service data the entries of the reply table keep, and whether there is room for more. `Responder` calls it.
-ghost use Rattle.std.specs.Prelude.{◌≡◌, ℕ, ◌+◌, ◌≤◌, true, IfSome, IsTrue, MatchOption, Some, false, slice_get};
+ghost use Rattle.std.specs.Prelude.{◌≡◌, ◌↔◌, ℕ, ◌+◌, ◌≤◌, true, IfSome, IsTrue, MatchOption, Some, false, slice_get};
 ghost use Rattle.std.specs.Option.{option_map};
 ghost use Rattle.bac_apdu.specs.Views.{apdu_view};
 ghost use Rattle.bac_slots.specs.declared.slot.Slot.{Slot};
 ghost use Rattle.bac_slots.specs.Slots.{value_at};
+ghost use Rattle.bac_protocol.specs.Server.{is_none_live};
 ghost use Rattle.bac_transaction.specs.Views.{code_same_key};
 ghost use Rattle.bac_responder.specs.Kept.{counted, entry_octets, given_back, grows_none, growth, is_request, is_whole, kept_length, octets_of, reply_octets, state_octets, sum_of};
 ghost use Rattle.bac_responder.specs.TransactionViews.{kept_reply_view, state_view};
@@ -128,6 +129,20 @@ pub(crate) fn key_octets<S: SlotTable<PeerKey, ServerTransaction>>(
     }
 }
 
+/// Whether no entry of a key is live.
+pub(crate) fn is_none_live<S: SlotTable<PeerKey, ServerTransaction>>(
+    table: &S,
+    key: &PeerKey,
+    now: u64,
+) -> bool
+    ensures { result ≡ is_none_live now (value_at code_same_key key.now (S.slots table.now)) }
+{
+    match table.get(key) {
+        None => true,
+        Some(entry) => !entry.is_live(now),
+    }
+}
+
 /// How many octets of service data a request has; None of another APDU, which makes no entry keep more.
 pub(crate) fn service_len(apdu: &Apdu<'_>) -> Option<usize>
     ensures { MatchOption result (growth (apdu_view apdu.now) ≡ 0) (λ n. growth (apdu_view apdu.now) ≡ n + 65539) }
@@ -154,7 +169,7 @@ fn is_request(apdu: &Apdu<'_>) -> bool
 
 /// Whether there is room for a request with so much service data, where so many octets are kept.
 pub(crate) fn fits(kept: Option<usize>, len: usize, room: usize) -> bool
-    ensures { IsTrue result → MatchOption kept ⊥ (λ k. k + (len + 65539) ≤ room) }
+    ensures { IsTrue result ↔ MatchOption kept ⊥ (λ k. k + (len + 65539) ≤ room) }
 {
     match kept {
         None => false,

@@ -5,14 +5,14 @@ ghost use Rattle.bac_responder.specs.Aging.{AreAged};
 ghost use Rattle.bac_responder.specs.Timers.{IsQuiet, LAST_MOMENT, due_of, life_end};
 
 use crate::ServerTransaction;
-use crate::aging::ServerRules;
+use crate::aging::ServerAging;
 use bac_slots::{AgedTable, SlotTable, first_due};
 use bac_transaction::PeerKey;
 
 /// The first moment at which a timer is due, looked at from a moment on; the last moment of all where none is due while its entry lives. Where a timer may run
 /// it looks at each slot, otherwise at none.
 pub(crate) fn first_timer<S: SlotTable<PeerKey, ServerTransaction>>(
-    aged: &AgedTable<ServerRules, S>,
+    aged: &AgedTable<ServerAging, S>,
     from: u64,
 ) -> u64
     requires { AreAged aged.now.ages (S.slots aged.now.table) }
@@ -48,7 +48,7 @@ fn first_end_of_all<S: SlotTable<PeerKey, ServerTransaction>>(table: &S) -> u64
 
 /// The first moment at which the life of any entry ends; the last moment of all where there is none. If slots are in order, only the oldest is looked at.
 pub(crate) fn first_end<S: SlotTable<PeerKey, ServerTransaction>>(
-    aged: &AgedTable<ServerRules, S>,
+    aged: &AgedTable<ServerAging, S>,
 ) -> u64
     requires { AreAged aged.now.ages (S.slots aged.now.table) }
     ensures { result ≡ first_of life_end (S.slots aged.now.table) }

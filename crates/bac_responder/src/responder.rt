@@ -1,40 +1,39 @@
 //! The server's end: the calls that bac_node makes. Their contracts are what crates above rest on.
-ghost use Rattle.std.specs.Prelude.{◌≡◌, ◌≢◌, ℕ, ◌<◌, ◌≤◌, ◌↔◌, [], None, count_by, max, IfOk, IsTrue};
+ghost use Rattle.std.specs.Prelude.{◌≡◌, ◌≢◌, ℕ, ◌<◌, ◌≤◌, ◌↔◌, [], None, Some, count_by, max, IfOk, IsTrue, OnOk};
 ghost use Rattle.std.specs.Option.{option_map};
 ghost use Rattle.bac_apdu.specs.Views.{apdu_view};
 ghost use Rattle.bac_npdu.specs.Views.{peer_view};
 ghost use Rattle.bac_slots.specs.Slots.{value_at};
 ghost use Rattle.bac_protocol.specs.Context.{Settings as Set};
 ghost use Rattle.bac_protocol.specs.declared.times.TheConstants.{KEEP as KEPT_FOR};
-ghost use Rattle.bac_transaction.specs.Ends.{first_after, is_slot_live, responder_on_apdu, responder_tick};
-ghost use Rattle.bac_transaction.specs.Remembering.{responder_remembering};
+ghost use Rattle.bac_transaction.specs.Ends.{first_after, is_slot_live, key_of, responder_tick};
 ghost use Rattle.bac_transaction.specs.Tables.{AreLive, IsOrderlyServer};
 ghost use Rattle.bac_transaction.specs.Sends.{Pairwise, IsSent};
 ghost use Rattle.bac_transaction.specs.Keys.{same_key};
-ghost use Rattle.bac_transaction.specs.Views.{peer_key_view, settings_view};
-ghost use Rattle.bac_transaction.specs.Services.{service_of};
-ghost use Rattle.bac_store.specs.Stores.{Store as Stored};
+ghost use Rattle.bac_transaction.specs.Views.{peer_key_view, rules_view, settings_view};
 ghost use Rattle.bac_responder.specs.Timers.{LAST_MOMENT};
 ghost use Rattle.bac_responder.specs.Short.{AreRequestsShort};
-ghost use Rattle.bac_responder.specs.Kept.{HasShortReplies, StaysWithin, growth, keeps_no_more, kept_octets, knows};
-ghost use Rattle.bac_responder.specs.Views.{end_of, Serves};
+ghost use Rattle.bac_transaction.specs.Services.{service_of};
+ghost use Rattle.bac_responder.specs.Hearing.{Hears};
+ghost use Rattle.bac_responder.specs.Kept.{IsWithin, NeedsRoom, StaysWithin, growth, kept_octets};
 
-use crate::aging::{ServerRules, ShortRequests};
+use crate::ServerTransaction;
+use crate::aging::{ServerAging, ShortRequests};
 use crate::freeing::first_dead;
-use crate::keeping::{count_octets, fits, given_back, key_octets, moved, service_len, without};
-use crate::lookup::on_apdu;
+use crate::hearing::{Told, on_apdu};
+use crate::keeping::{
+    count_octets, fits, given_back, is_none_live, key_octets, moved, service_len, without,
+};
 use crate::moments::{first_end, first_timer};
-use crate::reusing::{Remembering, is_known, is_none_live};
 use crate::served::Served;
 use crate::ticking::{nothing_due, prepare};
-use crate::{ServerTransaction, reusing};
 use bac_apdu::Apdu;
 use bac_npdu::Peer;
 use bac_slots::{
     AgedTable, SlotTable, count_alive, each_slot, empty_table, remove_dead, same_tables, seek, tick,
 };
 use bac_store::Store;
-use bac_transaction::{Context, Datagram, PeerKey, Settings, invoke_id_of};
+use bac_transaction::{Context, Datagram, PeerKey, Rules, Settings, invoke_id_of};
 use bac_value::NoMemory;
 use std::alloc::Global;
 use std::marker::Model;
@@ -42,18 +41,17 @@ use std::marker::Model;
 /// How long no entries are counted again once there was no room, in milliseconds.
 const PAUSE: u64 = 1_000;
 
-/// What a node is set to that lets clients use an invoke ID again as soon as its transaction is over.
+/// What a server's end is told beside each APDU.
 #[derive(Clone, Copy, Debug, PartialEq, Eq)]
-pub struct ReuseRules {
+pub struct Serving {
     pub settings: Settings,
-    /// For how long it remembers a request that is over, in milliseconds from its beginning on.
-    pub remember: u64,
+    pub rules: Rules,
 }
 
 /// The server's end of a node: the reply table.
 #[derive(Drop)]
 pub struct Responder<S: SlotTable<PeerKey, ServerTransaction> + Drop> {
-    aged: AgedTable<ServerRules, S>,
+    aged: AgedTable<ServerAging, S>,
     restart: Option<u64>,
     // how many octets the entries keep at the most; None where that is not known
     kept: Option<usize>,
@@ -161,16 +159,10 @@ impl<S: SlotTable<PeerKey, ServerTransaction> + Drop> Responder<S> {
         self.restart == other.restart && same_tables(&self.aged.table, &other.aged.table)
     }
 
-    /// Whether what the entries keep stays within so many octets, or does not grow, whatever an APDU makes of them: ask before `on` and `on_reusing`. Where it is
-    /// false, ask `knows` before `on`, and `keeps_no_more` before `on_reusing`; where that is false too, drop the APDU as where memory ran out. What contracts see
-    /// of the end does not change.
-    ///
-    /// Octets of service data count: of the kept requests and replies, and of the segments of requests that are received, each with four more. A request is
-    /// taken to need room for its own, and for the longest reply, 65,535 octets; any other APDU needs none. Entries that are not live count, but not
-    /// where the request takes their place. Entries are counted one by one only where there seems to be no room, and once there was none, not again for 1,000 ms.
-    pub fn has_room_for(&mut self, now: u64, peer: &Peer, apdu: &Apdu<'_>, room: usize) -> bool
+    /// Whether what the entries keep stays within so many octets, or does not grow, whatever an APDU makes of them. What contracts see of the end does not change.
+    fn has_room_for(&mut self, now: u64, peer: &Peer, apdu: &Apdu<'_>, room: usize) -> bool
         ensures same { self.new ≡ self.old }
-        ensures within { IsTrue result → StaysWithin now (peer_view peer.now) (apdu_view apdu.now) room self.old }
+        ensures within { IsTrue result → StaysWithin (Some room) now (peer_view peer.now) (apdu_view apdu.now) self.old }
         ensures needless { growth (apdu_view apdu.now) ≡ 0 → IsTrue result }
     {
         // that no two entries have one key
@@ -201,132 +193,77 @@ impl<S: SlotTable<PeerKey, ServerTransaction> + Drop> Responder<S> {
         false
     }
 
-    /// Whether an APDU is a request that has a live entry, and no segment where that receives segments: `on` sends the kept reply again, or an Abort, or sets a
-    /// stopped reply going, and the end keeps no more than before, however little room there is.
-    pub fn knows(&self, now: u64, peer: &Peer, apdu: &Apdu<'_>) -> bool
-        ensures exact { result ≡ knows now (peer_view peer.now) (apdu_view apdu.now) self.now }
-        ensures within { (c : Set) (s : Stored) → IsTrue result → HasShortReplies s
-            → kept_octets (responder_on_apdu c now (service_of s) (peer_view peer.now) (apdu_view apdu.now) self.now).end.slots ≤ kept_octets self.now.slots }
+    /// The same within the bound on memory; true where there is none.
+    fn has_room(&mut self, memory: Option<usize>, now: u64, peer: &Peer, apdu: &Apdu<'_>) -> bool
+        ensures same { self.new ≡ self.old }
+        ensures within { IsTrue result → StaysWithin memory now (peer_view peer.now) (apdu_view apdu.now) self.old }
+        ensures needless { growth (apdu_view apdu.now) ≡ 0 → IsTrue result }
+        ensures bound { memory ≡ None → IsTrue result }
     {
-        // that no two entries have one key
-        let _entries = self.aged.table.len();
-        let key = PeerKey {
-            peer: *peer,
-            invoke_id: invoke_id_of(apdu),
-        };
-        is_known(&self.aged.table, &key, now, apdu)
-    }
-
-    /// Whether `on_reusing` of an APDU, with the same store, makes the end keep no more than before, however little room there is. Such are a request that has a
-    /// live entry and does not end it, and is no segment where that receives segments: the kept reply goes again, or an Abort, or a stopped reply goes on; and a
-    /// read without segments whose reply is one APDU, where no entry goes on. The reply to a read is prepared for this, so ask it only where there is no room. An
-    /// Err says that an allocation failed.
-    pub fn keeps_no_more(
-        &self,
-        alloc: Global,
-        rules: &ReuseRules,
-        now: u64,
-        peer: &Peer,
-        apdu: &Apdu<'_>,
-        store: &Store,
-    ) -> Result<bool, NoMemory>
-        ensures exact { IfOk result (λ none. none ≡ keeps_no_more rules.now.remember (settings_view rules.now.settings) now (service_of store.now) (peer_view peer.now)
-            (apdu_view apdu.now) self.now) }
-        ensures within { IfOk result (λ none. IsTrue none → HasShortReplies store.now
-            → kept_octets (responder_remembering rules.now.remember (settings_view rules.now.settings) now (service_of store.now) (peer_view peer.now) (apdu_view apdu.now)
-            self.now).end.slots ≤ kept_octets self.now.slots) }
-    {
-        // that no two entries have one key
-        let _entries = self.aged.table.len();
-        let told = Remembering {
-            context: Context {
-                settings: rules.settings,
-                key: PeerKey {
-                    peer: *peer,
-                    invoke_id: invoke_id_of(apdu),
-                },
-                moment: now,
-            },
-            remember: rules.remember,
-        };
-        reusing::adds_nothing(alloc, &told, &self.aged.table, apdu, store)
+        match memory {
+            None => true,
+            Some(room) => self.has_room_for(now, peer, apdu, room),
+        }
     }
 
     /// An APDU comes from a peer, at that moment in milliseconds: call it for each APDU that a client can send, and then send all of `sends`, in their order.
-    /// `act` is the request that was performed, if any; the store has changed by it already.
+    /// `act` is the request that was performed, if any; the store has changed by it already. Call it with the same rules for all APDUs.
     ///
     /// A new request is performed, or begins to be received, where a slot is free; a copy of one with a live entry is answered from the entry, and not
-    /// performed again. A live entry is never evicted: where no slot is free, or while the end waits after a restart, a new request gets an Abort with
-    /// reason 0. An Err says that an allocation failed; the server's end and the store are then as before, and the same APDU can be handed in again.
+    /// performed again. A live entry is never evicted: where no slot is free, or while the end waits after a restart, a new request is turned away, with an
+    /// Abort of reason 0.
+    ///
+    /// Where reads are performed anew, the entry of a read that came without segments ends at the SegmentACK that finishes its reply in segments, and at an Abort of
+    /// its client. Another entry is over once its reply of one APDU was sent, its reply in segments was acknowledged or aborted by its client, or its request was
+    /// given up. Such an entry ends when a read comes without segments (ReadProperty, AtomicReadFile), or another request than the kept one: without segments, or
+    /// segment 0 of it. The request is then performed, or begins to be received; the kept one still gets the kept reply. Where no entry of its peer and invoke ID
+    /// goes on, a read whose reply is one APDU is performed: it needs no slot, no entry is kept of it, and it is not turned away.
+    ///
+    /// An entry that is over ends also, whatever request begins, where it began more than `remember` milliseconds ago: an equal one is then performed again.
+    ///
+    /// `memory` bounds the octets of service data that entries keep: of requests and replies, and of the segments of requests that are received, each with four
+    /// more. None is returned where memory has no room, and nothing is done: drop the APDU as where memory ran out. A request is taken to need room for its own
+    /// octets, and for the longest reply and the place of a segment, 65,539 octets; any other APDU needs none. Nor does a request with a live entry that goes on,
+    /// unless it is a segment where segments are received; nor a read without segments whose reply is one APDU, where reads are performed anew. Entries
+    /// that are not live count, but not where the request takes their place. Entries are counted one by one only where there seems to be no room, and once there
+    /// was none, not again for 1,000 ms.
+    ///
+    /// An Err says that an allocation failed. The server's end and the store are then as before, and the same APDU can be handed in again.
     pub fn on(
         &mut self,
         alloc: Global,
-        settings: &Settings,
+        serving: &Serving,
         now: u64,
         peer: &Peer,
         apdu: &Apdu<'_>,
         store: &mut Store,
-    ) -> Result<Served, NoMemory>
-        ensures { Serves (responder_on_apdu (settings_view settings.now) now (service_of store.old) (peer_view peer.now) (apdu_view apdu.now) self.old) self.old
-            store.old result self.new store.new }
+    ) -> Result<Option<Served>, NoMemory>
+        ensures hears { Hears (rules_view serving.now.rules) (settings_view serving.now.settings) now (key_of (peer_view peer.now) (apdu_view apdu.now)) (apdu_view apdu.now)
+            self.old store.old result self.new store.new }
+        ensures within { OnOk result (IsWithin serving.now.rules.memory store.old self.old self.new) }
+        ensures needless { IfOk result (λ o. o ≡ None → NeedsRoom (rules_view serving.now.rules) serving.now.rules.memory (settings_view serving.now.settings) now
+            (service_of store.old) (peer_view peer.now) (apdu_view apdu.now) self.old) }
     {
+        let room = self.has_room(serving.rules.memory, now, peer, apdu);
         let key = PeerKey {
             peer: *peer,
             invoke_id: invoke_id_of(apdu),
         };
-        let context = Context {
-            settings: *settings,
-            key,
-            moment: now,
-        };
-        seek(&mut self.aged, &key);
-        // that no two entries have one key
-        let _entries = self.aged.table.len();
-        let before = key_octets(&self.aged.table, &key);
-        let served = on_apdu(alloc, &context, &mut self.aged, self.restart, apdu, store)?;
-        self.kept = moved(self.kept, before, key_octets(&self.aged.table, &key));
-        Ok(served)
-    }
-
-    /// As `on`, of a node that lets clients use an invoke ID again as soon as its transaction is over (clause 5.4). Call one of both for all APDUs.
-    ///
-    /// The entry of a read that came without segments ends at the SegmentACK that finishes its reply in segments, and at an Abort of its client. Another entry
-    /// is over once its reply of one APDU was sent, its reply in segments was acknowledged or aborted by its client, or its request was given up. Such an entry
-    /// ends when a read comes without segments (ReadProperty, AtomicReadFile), or another request than the kept one: without segments, or segment 0 of it. The
-    /// request is then performed, or begins to be received; the kept one still gets the kept reply. Where no entry of its peer and invoke ID goes on, a read whose reply is one APDU is performed: it needs
-    /// no free slot, no entry is kept of it, and the end does not turn it away while it waits after a restart.
-    ///
-    /// An entry that is over ends also, whatever request begins, where it began more than `rules.remember` milliseconds ago: an equal one is then performed again.
-    /// No entry is live for longer than 65,000 ms, so with that many, or more, none ends so.
-    pub fn on_reusing(
-        &mut self,
-        alloc: Global,
-        rules: &ReuseRules,
-        now: u64,
-        peer: &Peer,
-        apdu: &Apdu<'_>,
-        store: &mut Store,
-    ) -> Result<Served, NoMemory>
-        ensures { Serves (responder_remembering rules.now.remember (settings_view rules.now.settings) now (service_of store.old) (peer_view peer.now) (apdu_view apdu.now) self.old) self.old
-            store.old result self.new store.new }
-    {
-        let key = PeerKey {
-            peer: *peer,
-            invoke_id: invoke_id_of(apdu),
-        };
-        let told = Remembering {
+        let told = Told {
             context: Context {
-                settings: rules.settings,
+                settings: serving.settings,
                 key,
                 moment: now,
             },
-            remember: rules.remember,
+            rules: serving.rules,
+            restart: self.restart,
+            room,
         };
         seek(&mut self.aged, &key);
         // that no two entries have one key
         let _entries = self.aged.table.len();
         let before = key_octets(&self.aged.table, &key);
-        let served = reusing::on_apdu(alloc, &told, &mut self.aged, self.restart, apdu, store)?;
+        let served = on_apdu(alloc, &told, &mut self.aged, apdu, store)?;
         self.kept = moved(self.kept, before, key_octets(&self.aged.table, &key));
         Ok(served)
     }

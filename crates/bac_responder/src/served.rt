@@ -11,11 +11,13 @@ pub struct Act {
     pub effect: Effect,
 }
 
-/// What an APDU made of the server's end: what is sent, in order of sending, and what was performed.
+/// What an APDU made of the server's end: what is sent, in order of sending, what was performed, and what was turned away.
 #[derive(Drop)]
 pub struct Served {
     /// One datagram for each APDU that is sent, in order of sending.
     pub sends: Vec<Datagram>,
     /// The request that was performed, if any.
     pub act: Option<Act>,
+    /// Whether a request was turned away: then the one APDU that is sent is its Abort.
+    pub turned_away: bool,
 }

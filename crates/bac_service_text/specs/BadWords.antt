@@ -88,18 +88,18 @@ role_name wanted.Priority = codes "priority"
 role_name wanted.Octets = codes "octets"
 role_name wanted.Position = codes "position"
 role_name wanted.Count = codes "count"
-role_name wanted.End = codes "word"
+role_name wanted.End = codes "argument"
 
 abbrev pub role_fault : Wanted → List ℕ
 role_fault wanted.Verb = no_verb
-role_fault wanted.Object = codes "is no type and instance, each by name or number"
-role_fault wanted.Property = codes "is no name and no number"
-role_fault wanted.Value = codes "is no value by its kind and no hexadecimal"
-role_fault wanted.Data = codes "on are no whole data"
-role_fault wanted.Priority = codes "is no number from 1 to 16"
-role_fault wanted.Octets = codes "is no hexadecimal"
-role_fault wanted.Position = codes "is no number"
-role_fault wanted.Count = codes "is no number"
+role_fault wanted.Object = codes "is not TYPE:INSTANCE, each by name or number"
+role_fault wanted.Property = codes "is not a valid name or number"
+role_fault wanted.Value = codes "is not a valid value or hexadecimal"
+role_fault wanted.Data = codes "on do not form valid data"
+role_fault wanted.Priority = codes "is not a number from 1 to 16"
+role_fault wanted.Octets = codes "are not valid hexadecimal"
+role_fault wanted.Position = codes "is not a number"
+role_fault wanted.Count = codes "is not a number"
 role_fault wanted.End = codes "is one too many"
 
 abbrev pub bad_word_text : Bad → List ℕ

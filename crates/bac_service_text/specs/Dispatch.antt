@@ -99,7 +99,7 @@ roles_of verb =
 
 -- what is wrong with any other verb
 abbrev pub no_verb : List ℕ
-no_verb = codes "is none of read, write, append, put and get"
+no_verb = codes "is not read, write, append, put or get"
 
 -- ---- the service data of ComplexACKs, printed
 

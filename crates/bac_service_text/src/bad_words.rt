@@ -240,7 +240,7 @@ fn role_name(wanted: Wanted) -> &'static str
         Wanted::Octets => "octets",
         Wanted::Position => "position",
         Wanted::Count => "count",
-        Wanted::End => "word",
+        Wanted::End => "argument",
     }
 }
 
@@ -250,14 +250,14 @@ fn role_fault(wanted: Wanted) -> &'static str
 {
     match wanted {
         Wanted::Verb => no_verb(),
-        Wanted::Object => "is no type and instance, each by name or number",
-        Wanted::Property => "is no name and no number",
-        Wanted::Value => "is no value by its kind and no hexadecimal",
-        Wanted::Data => "on are no whole data",
-        Wanted::Priority => "is no number from 1 to 16",
-        Wanted::Octets => "is no hexadecimal",
-        Wanted::Position => "is no number",
-        Wanted::Count => "is no number",
+        Wanted::Object => "is not TYPE:INSTANCE, each by name or number",
+        Wanted::Property => "is not a valid name or number",
+        Wanted::Value => "is not a valid value or hexadecimal",
+        Wanted::Data => "on do not form valid data",
+        Wanted::Priority => "is not a number from 1 to 16",
+        Wanted::Octets => "are not valid hexadecimal",
+        Wanted::Position => "is not a number",
+        Wanted::Count => "is not a number",
         Wanted::End => "is one too many",
     }
 }
@@ -275,7 +275,7 @@ fn word_text(alloc: Global, wanted: Wanted, word: &[u8]) -> Result<Vec<u8>, Allo
 }
 
 impl<'a> BadWord<'a> {
-    /// The text of the fault: `property "presentvalue" is no name and no number`, or `property is missing`. Returns an Err if an allocation
+    /// The text of the fault: `property "presentvalue" is not a valid name or number`, or `property is missing`. Returns an Err if an allocation
     /// fails.
     pub fn text(self, alloc: Global) -> Result<Vec<u8>, AllocError>
         ensures { IfOk result (λ t. t.items ≡ bad_word_text (bad_word_view self.entry)) }

@@ -231,7 +231,7 @@ pub(crate) fn roles_of(verb: &[u8]) -> Option<&'static [Wanted]>
 pub(crate) fn no_verb() -> &'static str
     ensures { result.now ≡ no_verb }
 {
-    "is none of read, write, append, put and get"
+    "is not read, write, append, put or get"
 }
 
 // ---- the service data of ComplexACKs, printed

@@ -17,9 +17,9 @@ abbrev pub fault_words : (fault : ℕ) → List ℕ
 fault_words fault =
     if fault == 1 then codes "no such node"
     else (if fault == 2 then codes "no such datagram"
-    else (if fault == 3 then codes "the clock is at its end"
-    else (if fault == 10 then codes "the link is a node's"
-    else (if fault == 11 then codes "a clock may not be so fast or slow"
+    else (if fault == 3 then codes "the clock would overflow"
+    else (if fault == 10 then codes "the link belongs to a node"
+    else (if fault == 11 then codes "the pace is out of range"
     else (if fault == 12 then codes "the node may not begin now" else codes "no memory")))))
 
 abbrev pub fault_words_line : (line fault : ℕ) → List ℕ

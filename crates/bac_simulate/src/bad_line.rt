@@ -51,7 +51,7 @@ fn link_text(alloc: Global, word: &[u8]) -> Result<Option<Vec<u8>>, AllocError> 
     match link_in(word) {
         Some(_) => Ok(None),
         None => {
-            let fault = "is no address of IPv4 and UDP port, as 192.168.1.20:47808";
+            let fault = "is not an IPv4 address and UDP port, such as 192.168.1.20:47808";
             Ok(Some(word_text(alloc, "link", word, fault)?))
         }
     }
@@ -76,10 +76,15 @@ fn asked_text(
 fn clock_text(alloc: Global, start: &[u8]) -> Result<Option<Vec<u8>>, AllocError> {
     match number_up_to(4_294_967_295, start) {
         Some(_) => {
-            let late = Vec::from_slice(alloc, b"clocks begin before the first event")?;
+            let late = Vec::from_slice(alloc, b"`clock` must come before the first event")?;
             Ok(Some(late))
         }
-        None => Ok(Some(word_text(alloc, "start", start, "is no number of 32 bits")?)),
+        None => Ok(Some(word_text(
+            alloc,
+            "start",
+            start,
+            "is not a number from 0 to 4294967295",
+        )?)),
     }
 }
 
@@ -87,7 +92,7 @@ fn clock_text(alloc: Global, start: &[u8]) -> Result<Option<Vec<u8>>, AllocError
 fn pace_text(alloc: Global, parts: &[u8]) -> Result<Option<Vec<u8>>, AllocError> {
     match rate_in(parts) {
         Some(_) => Ok(None),
-        None => Ok(Some(word_text(alloc, "pace", parts, "is no number from -1000 to 1000")?)),
+        None => Ok(Some(word_text(alloc, "pace", parts, "is not a number from -1000 to 1000")?)),
     }
 }
 
@@ -110,14 +115,14 @@ const EVENTS: &[(&str, &str)] = &[
 
 /// The form of the first line of a script.
 const FIRST: &str =
-    "`nodes N` or `nodes N window W overtake V` wanted first: N 1 to 16, W 1 to 64, V + 2W at most 255";
+    "expected `nodes N` or `nodes N window W overtake V` first: N 1 to 16, W 1 to 64, V + 2W at most 255";
 
 /// What stands behind a first word that no event has.
 const NO_EVENT: &str =
-    "is no event: ask, deliver, lose, noise, stranger, tick, advance, set, file, restart, pace or clock wanted";
+    "is not an event: expected ask, deliver, lose, noise, stranger, tick, advance, set, file, restart, begin, pace or clock";
 
 /// What is wrong with a line that only scripts with notes have.
-const NO_NOTES: &str = "a note, an empty line or CRLF: --notes wanted";
+const NO_NOTES: &str = "a note, an empty line or CRLF requires --notes";
 
 /// Whether a line is empty or a note, or ends in a carriage return.
 fn is_noted(line: &[u8]) -> bool {
@@ -137,7 +142,7 @@ fn form_of(verb: &[u8]) -> Option<&'static str> {
 /// The form that a line with that first word has to have.
 fn form_text(alloc: Global, verb: &[u8]) -> Result<Vec<u8>, AllocError> {
     match form_of(verb) {
-        Some(form) => Ok(format!(in alloc; "{form} wanted")?.into_bytes()),
+        Some(form) => Ok(format!(in alloc; "expected {form}")?.into_bytes()),
         None => word_text(alloc, "the word", verb, NO_EVENT),
     }
 }
@@ -158,7 +163,7 @@ fn bad_word_text(alloc: Global, words: &[&[u8]]) -> Result<Option<Vec<u8>>, Allo
 }
 
 /// What is wrong with a line of which a word is empty, or has a tab in it.
-const BLANKS: &str = "one blank between words wanted, and none at the ends of the line";
+const BLANKS: &str = "expected one blank between words, and none at either end of the line";
 
 /// Whether blanks or tabs of a line are no separators of words.
 fn has_wrong_blanks(words: &[&[u8]]) -> bool {

@@ -25,9 +25,9 @@ pub(crate) fn fault_words(fault: u8) -> &'static str
     match fault {
         1 => "no such node",
         2 => "no such datagram",
-        3 => "the clock is at its end",
-        10 => "the link is a node's",
-        11 => "a clock may not be so fast or slow",
+        3 => "the clock would overflow",
+        10 => "the link belongs to a node",
+        11 => "the pace is out of range",
         12 => "the node may not begin now",
         _ => "no memory",
     }

@@ -50,8 +50,8 @@ apdu_reason apdu_fault.ReservedCode = codes "reserved max-APDU code"
 apdu_reason apdu_fault.BadWindow = codes "bad window"
 apdu_reason apdu_fault.BadType = codes "bad type"
 apdu_reason apdu_fault.Trailing = codes "octets after the last member"
-apdu_reason apdu_fault.MorWithoutSeg = codes "more segments of what is no segment"
-apdu_reason apdu_fault.BadError = codes "class or code is no Enumerated"
+apdu_reason apdu_fault.MorWithoutSeg = codes "more-follows without segmented-message"
+apdu_reason apdu_fault.BadError = codes "class or code is not Enumerated"
 
 abbrev pub kind_reason : FaultKind → List ℕ
 kind_reason kind.Truncated = codes "truncated"

@@ -41,8 +41,8 @@ pub fn apdu_reason(fault: ApduFault) -> &'static str
         ApduFault::BadWindow => "bad window",
         ApduFault::BadType => "bad type",
         ApduFault::Trailing => "octets after the last member",
-        ApduFault::MorWithoutSeg => "more segments of what is no segment",
-        ApduFault::BadError => "class or code is no Enumerated",
+        ApduFault::MorWithoutSeg => "more-follows without segmented-message",
+        ApduFault::BadError => "class or code is not Enumerated",
     }
 }
 

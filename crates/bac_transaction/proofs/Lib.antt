@@ -4,6 +4,7 @@ pub mod Pieces
 pub mod Keyed
 pub mod Computed
 pub mod ReuseComputed
+pub mod ServingComputed
 pub mod KeyOrder
 pub mod Holding
 pub mod KeyedSlots
@@ -11,5 +12,6 @@ pub mod Entries
 pub mod ClientTables
 pub mod ServerTables
 pub mod TurnedAway
+pub mod ByRules
 pub mod Viewed
 pub mod Telling

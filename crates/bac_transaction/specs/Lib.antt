@@ -3,11 +3,14 @@ pub mod Keys
 pub mod Sends
 pub mod Ends
 pub mod Views
+pub mod Given
 pub mod Segments
 pub mod Tables
 pub mod Meanings
 pub mod Examples
 pub mod Services
 pub mod Reuse
-pub mod Remembering
+pub mod Serving
+pub mod ServingLaws
 pub mod ReuseExamples
+pub mod ServingExamples

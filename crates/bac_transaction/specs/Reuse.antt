@@ -8,7 +8,7 @@ use Rattle.bac_protocol.specs.Context.{Settings}
 use Rattle.bac_protocol.specs.Reuse.{ends_entry, reusing_on_apdu}
 use Rattle.bac_protocol.specs.Server.{Service}
 use Rattle.bac_transaction.specs.Keys.{PeerKey, same_key}
-use Rattle.bac_transaction.specs.Ends.{ServerEnd, ServerSlot, ServerTurn, context_of, is_free, key_of, responder_on_apdu, server_goes}
+use Rattle.bac_transaction.specs.Ends.{ServerEnd, ServerSlot, ServerTurn, context_of, is_free, key_of, server_goes}
 
 -- the requests that change no store: ReadProperty and AtomicReadFile (clauses 15.5 and 14.1)
 abbrev pub is_read : (choice : ℕ) → Bool

@@ -7,10 +7,15 @@ use Rattle.bac_npdu.specs.Peers.{PeerView}
 use Rattle.bac_npdu.specs.Views.{peer_view}
 use Rattle.bac_slots.specs.declared.slot.Slot.{Slot}
 use Rattle.bac_protocol.specs.Context as context
+use Rattle.bac_protocol.specs.Serving as serving
 use Rattle.bac_transaction.specs.declared.context.Context.{Context}
 use Rattle.bac_transaction.specs.declared.peer_key.PeerKey.{PeerKey}
 use Rattle.bac_transaction.specs.declared.settings.Settings.{Settings}
+use Rattle.bac_transaction.specs.declared.rules.ReadRule as rule
+use Rattle.bac_transaction.specs.declared.rules.ReadRule.TheVariants as rule_case
+use Rattle.bac_transaction.specs.declared.rules.Rules.{Rules}
 use Rattle.bac_transaction.specs.Ends.{context_of}
+use Rattle.bac_transaction.specs.Reuse.{is_read}
 use Rattle.bac_transaction.specs.Keys as keys
 
 -- a key in code, as a plain one
@@ -20,6 +25,14 @@ peer_key_view k = record { peer = peer_view k.peer; invoke_id = k.invoke_id }
 -- what an end is set to
 abbrev pub settings_view : Settings → context.Settings
 settings_view s = record { limits = limits_view s.limits; window = s.window.size }
+
+-- a server's rules
+abbrev pub read_rule_view : rule.ReadRule → serving.ReadRule
+read_rule_view rule_case.Kept = serving.Kept
+read_rule_view rule_case.Fresh = serving.Fresh is_read
+
+abbrev pub rules_view : Rules → serving.ServerRules
+rules_view r = record { reads = read_rule_view r.reads; remember = r.remember }
 
 -- what a machine is told
 abbrev pub context_view : Context → context.Context

@@ -1,6 +1,7 @@
 //! Ends that are computed: they show that the definitions do what the protocol's tables say.
 ghost use Rattle.bac_transaction.specs.Examples.{LeastInvokeId, LeastAround, HeldFor, SlotHeldFor, TickOrder, KeptReply, FullTable, WaitsToAsk, WaitsToServe};
 ghost use Rattle.bac_transaction.specs.ReuseExamples.{InSegments, UsedAgain, WithoutRoom};
+ghost use Rattle.bac_transaction.specs.ServingExamples.{RemembersSoLong};
 
 /// Which invoke ID an ask takes, and how long a slot is held.
 #[tactic(auto, using(crate::proofs::Computed::least_invoke_id, crate::proofs::Computed::least_around, crate::proofs::Computed::held_for, crate::proofs::Computed::slot_held_for))]
@@ -37,4 +38,10 @@ pub fn invoke_ids_again()
     ensures again { UsedAgain }
     ensures room { WithoutRoom }
     ensures segments { InSegments }
+{}
+
+/// For how long a server's end remembers a request that is over.
+#[tactic(auto, using(crate::proofs::ServingComputed::remembers_so_long))]
+pub fn ends_by_their_rules()
+    ensures { RemembersSoLong }
 {}

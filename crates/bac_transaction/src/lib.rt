@@ -13,6 +13,8 @@ mod peer_key;
 mod peer_key_order;
 mod peer_key_same;
 mod restart;
+mod rules;
+mod serving;
 mod settings;
 mod sizes;
 
@@ -26,5 +28,7 @@ pub use laws::{
 };
 pub use peer_key::PeerKey;
 pub use restart::is_waiting;
+pub use rules::{ReadRule, Rules};
+pub use serving::{fresh_reads, remembers_all, requests_turned_away, strict_rules};
 pub use settings::Settings;
 pub use sizes::{allows_segments, apdu_size, transfer_size};

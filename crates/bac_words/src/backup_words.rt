@@ -25,7 +25,7 @@ const ROUTE: Word = Word {
     form: WordForm::Text("NET:MAC"),
     need: Need::Never,
     against: &[],
-    help: "The node to ask is behind a router at that address: its network, 1 to 65534, and its address there, 1 to 8 octets in hexadecimal",
+    help: "The node to ask is behind the router at that address: its network number, 1 to 65534, and its address there, 1 to 8 octets in hexadecimal",
 };
 
 /// How long it is waited for.
@@ -34,7 +34,7 @@ const TIMEOUT: Word = Word {
     form: WordForm::Number("S", 60),
     need: Need::Never,
     against: &[],
-    help: "Stops waiting for an answer after S whole seconds, 1 to 60; an ask ends by itself after at most 60 seconds",
+    help: "Stops waiting for an answer after S whole seconds, 1 to 60; a request ends by itself after at most 60 seconds",
 };
 
 /// What `backup` takes.
@@ -48,21 +48,21 @@ const BACKUP: &[Word] = &[
         form: WordForm::Text("DIR"),
         need: Need::Always,
         against: &[],
-        help: "The folder for the files, as file-1.bin, and for their list, `manifest`: a line `SHA256 LENGTH NAME` for each. It is made if it is not there; files of these names are overwritten",
+        help: "The folder for the files, such as file-1.bin, and for their list, `manifest`, with a line `SHA256 LENGTH NAME` for each. It is created if it does not exist; files with these names are overwritten",
     },
     Word {
         name: "device",
         form: WordForm::Index("N", 4_194_302),
         need: Need::Never,
         against: &["OBJECTS"],
-        help: "Saves all files of the object-list of this device, by its instance, 0 to 4194302; by default that of device 4194303, which stands for any instance, and to which not every device answers",
+        help: "Saves all files in the object-list of the device with this instance, 0 to 4194302; by default 4194303, which stands for any instance, and which not every device accepts",
     },
     Word {
         name: "OBJECTS",
         form: WordForm::Several,
         need: Need::Never,
         against: &[],
-        help: "The files to save, as file:1, each by type and instance; by default all files of the device's object-list",
+        help: "The files to save, such as file:1, each by type and instance; by default all files in the device's object-list",
     },
 ];
 
@@ -77,7 +77,7 @@ const RESTORE: &[Word] = &[
         form: WordForm::Text("DIR"),
         need: Need::Always,
         against: &[],
-        help: "The folder that `bac backup` has made: the files that its `manifest` lists are written back",
+        help: "The folder that `bac backup` created; the files that its `manifest` lists are written back",
     },
 ];
 
@@ -91,7 +91,7 @@ const BACKUPS: &[Grammar] = &[
     },
     Grammar {
         name: "restore",
-        about: "Writes the files of a folder of `bac backup` back to a device, and compares what it then has by their digests",
+        about: "Restores files that `bac backup` saved, reads them back from the device, and compares their digests",
         after: "Example: bac restore --port 47808 --folder saved\nExample: bac restore --to 192.168.1.20 --folder saved",
         words: RESTORE,
     },

@@ -6,7 +6,7 @@ use std::io;
 use std::io::Write;
 
 /// What comes before the commands.
-const HEAD: &str = "# Completes the commands of bac and their words in bash.
+const HEAD: &str = "# Completes the commands of bac and their arguments in bash.
 _bac() {
     local now=\"${COMP_WORDS[COMP_CWORD]}\" before=\"${COMP_WORDS[COMP_CWORD-1]}\" words=
     if [ \"$COMP_CWORD\" -eq 1 ]; then

@@ -45,7 +45,7 @@ pub(crate) fn write_form<O: Write>(out: &mut O, hyphens: &str, word: &Word) -> i
 fn need_words(need: Need) -> &'static str {
     match need {
         Need::Always => " (required)",
-        Need::One(_) => " (or another way to say which node)",
+        Need::One(_) => " (or another way to name the node)",
         Need::Unless(_) | Need::Never | Need::Beside(_) => "",
     }
 }
@@ -89,7 +89,7 @@ fn write_names<O: Write>(out: &mut O, grammars: &[Grammar]) -> io::Result<()> {
 
 /// Writes all commands.
 fn write_all_commands<O: Write>(out: &mut O) -> io::Result<()> {
-    out.writeln("BACnet confirmed services: bac COMMAND WORDS..")?;
+    out.writeln("BACnet confirmed services: bac COMMAND ARGUMENTS..")?;
     out.write_all(b"\n")?;
     write_names(out, offline())?;
     write_names(out, of_servers())?;

@@ -24,7 +24,7 @@ const HELP: &[Word] = &[
 const TOLD: &[Grammar] = &[
     Grammar {
         name: "help",
-        about: "Explains a command: what it does, what its words mean, and examples",
+        about: "Explains a command: what it does, what its arguments mean, and examples",
         after: "Example: bac help ask\nExample: bac help --man > bac.1",
         words: HELP,
     },
@@ -36,7 +36,7 @@ const TOLD: &[Grammar] = &[
     },
     Grammar {
         name: "completion",
-        about: "Prints a script for bash that completes the commands and their words",
+        about: "Prints a script for bash that completes the commands and their arguments",
         after: "Example: bac completion > /usr/share/bash-completion/completions/bac",
         words: &[],
     },

@@ -14,7 +14,7 @@ const HEAD: &str = ".\\\" made by `bac help --man`: change the table of commands
 bac \\- BACnet confirmed services
 .SH SYNOPSIS
 .B bac
-COMMAND WORDS..
+COMMAND ARGUMENTS..
 .SH COMMANDS
 ";
 
@@ -25,18 +25,18 @@ const TAIL: &str = ".SH EXIT STATUS
 Done.
 .TP
 .B 1
-What was asked for was done, and it has a fault: a bad datagram, an ask without
-an answer, an event that could not happen.
+Done, with a fault: an invalid datagram, a request with no answer, an event that
+could not happen.
 .TP
 .B 2
-The words of the command line are wrong, or a file that they name cannot be
+The arguments are invalid, or a file that they name is invalid or cannot be
 read.
 .TP
 .B 3
 A socket, the clock or the output failed.
 .TP
 .B 4
-No memory.
+An allocation failed.
 ";
 
 /// Writes a word and what it means.

@@ -85,35 +85,35 @@ const DECODE: &[Word] = &[
         form: WordForm::Bare,
         need: Need::Always,
         against: &[],
-        help: "The datagram in hexadecimal; spaces, tabs or colons may separate groups, and `0x` may begin one. `-` reads datagrams from standard input, one a line",
+        help: "The datagram in hexadecimal; spaces, tabs or colons may separate groups, and `0x` may begin one. `-` reads datagrams from standard input, one per line",
     },
     Word {
         name: "text",
         form: WordForm::Flag,
         need: Need::Never,
         against: &[],
-        help: "Prints objects, properties, errors, reasons and faults by their names, and values by their kinds",
+        help: "Prints objects, properties, errors, reasons and faults by name, and values with their kinds",
     },
     Word {
         name: "form",
         form: WordForm::Text("FORM"),
         need: Need::Never,
         against: &["json"],
-        help: "The form of the datagrams, as Wireshark copies them: `hex`, `hexdump`, `escaped`, `c` (arrays of C), `base64`, or `auto` to find it. Only the part from BACnet/IP on (0x81) is wanted, without the headers before it, unless --frame is given",
+        help: "The form of the datagrams, as Wireshark copies them: `hex`, `hexdump`, `escaped`, `c` (C arrays), `base64`, or `auto` to detect it. Give only the part from BACnet/IP (0x81) on, without the headers before it, unless --frame is given",
     },
     Word {
         name: "number",
         form: WordForm::Flag,
         need: Need::Never,
         against: &["json"],
-        help: "Prints a line `datagram N` before each datagram, from 1 on",
+        help: "Prints a line `datagram N` before each datagram, counted from 1",
     },
     Word {
         name: "frame",
         form: WordForm::Flag,
         need: Need::Never,
         against: &["json"],
-        help: "Takes whole Ethernet frames, as Wireshark copies packets, and prints the datagram that each carries from or to UDP port 47808 to 47823",
+        help: "Reads whole Ethernet frames, as Wireshark copies packets, and prints the datagram in each from or to UDP port 47808 to 47823",
     },
     Word {
         name: "json",
@@ -143,7 +143,7 @@ const CHECK: &[Word] = &[
         form: WordForm::Number("P", 65_535),
         need: Need::Never,
         against: &[],
-        help: "One more UDP port that carries BACnet/IP, besides 47808 to 47823",
+        help: "Another UDP port that carries BACnet/IP, besides 47808 to 47823",
     },
     Word {
         name: "notes",
@@ -164,7 +164,7 @@ const CHECK: &[Word] = &[
         form: WordForm::Flag,
         need: Need::Never,
         against: &["text"],
-        help: "Prints each bad frame or line, and the counts, as a JSON object, one per line",
+        help: "Prints each invalid frame or line, and the counts, as a JSON object, one per line",
     },
 ];
 
@@ -206,7 +206,7 @@ const EXPLAIN: &[Word] = &[
         form: WordForm::Number("P", 65_535),
         need: Need::Never,
         against: &[],
-        help: "One more UDP port that carries BACnet/IP, besides 47808 to 47823",
+        help: "Another UDP port that carries BACnet/IP, besides 47808 to 47823",
     },
     Word {
         name: "chart",
@@ -234,7 +234,7 @@ const EXPLAIN: &[Word] = &[
         form: WordForm::Flag,
         need: Need::Never,
         against: &["chart", "mermaid"],
-        help: "Prints only transactions whose request, or a segment of it, was sent more than once, answered or not; where the capture lacks segments of a request, one that came again may not be seen",
+        help: "Prints only transactions whose request, or a segment of it, was sent more than once, answered or not; where the capture lacks segments of a request, a repeated one may go unnoticed",
     },
     Word {
         name: "findings",
@@ -248,7 +248,7 @@ const EXPLAIN: &[Word] = &[
         form: WordForm::Number("MS", 1_000_000_000),
         need: Need::Never,
         against: &["chart", "mermaid"],
-        help: "Prints only transactions whose answer took more than MS milliseconds, 1 to 1000000000, or which have none",
+        help: "Prints only transactions whose answer took more than MS milliseconds, 1 to 1000000000, or that have no answer",
     },
     Word {
         name: "peer",
@@ -262,7 +262,7 @@ const EXPLAIN: &[Word] = &[
         form: WordForm::Flag,
         need: Need::Never,
         against: &["chart", "mermaid"],
-        help: "Ends with status 1 if a transaction that is printed is unanswered or has a finding, an answer to no request is printed, or a frame cannot be read",
+        help: "Ends with status 1 if it prints a transaction without an answer or with a finding, or an answer to no request, or if a frame cannot be read",
     },
     Word {
         name: "json",
@@ -283,7 +283,7 @@ const EXPLAIN: &[Word] = &[
         form: WordForm::Flag,
         need: Need::Never,
         against: TRANSACTIONS,
-        help: "Draws a chart (with --mermaid a Mermaid one) with the values of each answer that is whole in one APDU",
+        help: "Draws a chart (with --mermaid a Mermaid one) with the values of each answer that fits in one APDU",
     },
     Word {
         name: "pairs",
@@ -308,21 +308,21 @@ The first line of a script sets the network: `nodes N`, or `nodes N window W ove
   W  the greatest window in segments, 1 to 64; 32 by default
   V  how many later datagrams of a transaction may overtake one; 128 by default; V + 2W is at most 255
 Each later line is an event; nodes and datagrams count from 0:
-  ask C S REQUEST      node C asks node S; requests as of `bac ask`
+  ask C S REQUEST      node C asks node S; requests as in `bac ask`
   ask C LINK REQUEST   node C asks a stranger at LINK, A.B.C.D:PORT
   deliver K            datagram K arrives at its node
   lose K               a copy of datagram K counts as lost
   noise N HEX          octets that no node sent arrive at node N
-  stranger N LINK HEX  octets of a stranger arrive at node N
-  tick N               node N looks at its timers
+  stranger N LINK HEX  octets from a stranger arrive at node N
+  tick N               node N checks its timers
   advance MS           MS milliseconds pass
-  set N T:I P HEX      node N gives a property of its store other values
-  file N T:I HEX       node N gives a file of its store other octets
+  set N T:I P HEX      node N changes a property in its store
+  file N T:I HEX       node N changes a file in its store
   restart N            node N restarts with its store
   begin N              node N begins; nothing happened there before
   begin again N        another program begins at the link of node N
   pace N P             N's clock runs P millionths fast, -1000 to 1000
-  clock N MS           N's clock begins at MS; before the first event
+  clock N MS           N's clock starts at MS; before the first event
 
 Example: bac simulate script.txt
 Example: bac simulate --chart script.txt
@@ -335,7 +335,7 @@ const SIMULATE: &[Word] = &[
         form: WordForm::Bare,
         need: Need::Always,
         against: &[],
-        help: "The script: the network, then one event a line; - is standard input",
+        help: "The script: the network, then one event per line; - is standard input",
     },
     Word {
         name: "notes",
@@ -370,7 +370,7 @@ const SIMULATE: &[Word] = &[
         form: WordForm::Flag,
         need: Need::Never,
         against: &["chart", "mermaid", "pcap"],
-        help: "Prints each event with its moment and what it did, or why it did nothing",
+        help: "Prints each event with its time and what it did, or why it did nothing",
     },
     Word {
         name: "json",
@@ -428,39 +428,53 @@ const SERVE: &[Word] = &[
         help: "How many requests it can remember at once, 1 to 65536; by default 65536, or 64 with --turns",
     },
     Word {
+        name: "peers",
+        form: WordForm::Text("CIDR[,CIDR..]"),
+        need: Need::Never,
+        against: &[],
+        help: "The IPv4 addresses that it hears: at most 32 blocks such as 10.0.0.0/8,192.168.1.7, or `any`; it ignores datagrams from others. By default loopback, private (RFC 1918), shared (RFC 6598) and link-local addresses",
+    },
+    Word {
+        name: "rate",
+        form: WordForm::Index("KIB", 1_048_576),
+        need: Need::Never,
+        against: &[],
+        help: "Sends one IPv4 address at most KIB KiB a second, 0 to 1048576, beside three times what came from it, and 256 KiB or two seconds' worth at once; 0 for no limit. By default 128, and no limit for loopback addresses",
+    },
+    Word {
         name: "restarted",
         form: WordForm::Flag,
         need: Need::Never,
         against: &[],
-        help: "The server ran before and has lost what it remembered: for 65 seconds, until no repeat of an old request should arrive, it refuses new ones, except (unless it is --strict) reads whose request and answer are one APDU each",
+        help: "The server ran before and lost what it remembered: for 65 seconds, until no repeat of an old request should arrive, it refuses new requests, except (without --strict) reads whose request and response fit in one APDU each",
     },
     Word {
         name: "strict",
         form: WordForm::Flag,
         need: Need::Never,
         against: &[],
-        help: "Lets no client use an invoke ID again within 65 seconds: an equal request gets the kept answer, another one is refused. --turns without --reuse implies it",
+        help: "Lets no client reuse an invoke ID within 65 seconds: an equal request gets the kept response, any other is refused. --turns without --reuse implies it",
     },
     Word {
         name: "reuse",
         form: WordForm::Flag,
         need: Need::Never,
         against: &["strict"],
-        help: "Lets clients use an invoke ID again at once, also with --turns; without --turns it does so unless it is --strict",
+        help: "Lets clients reuse an invoke ID at once, also with --turns; without --turns this is the default, unless --strict is given",
     },
     Word {
         name: "remember",
         form: WordForm::Number("S", 65),
         need: Need::Never,
         against: &["strict"],
-        help: "An equal write gets the kept answer for S seconds, 1 to 65, and is then performed again: for clients that use one invoke ID for all requests. 65 by default; with --turns only beside --reuse",
+        help: "An equal write gets the kept response for S seconds, 1 to 65, and is then performed again: for clients that use one invoke ID for all requests. 65 by default; with --turns it requires --reuse",
     },
     Word {
         name: "memory",
         form: WordForm::Text("OCTETS"),
         need: Need::Never,
         against: &[],
-        help: "How many octets of requests and answers it may keep, 65540 to 1099511627776, or as 512K or 64M; 64M by default. A request that may need more is not heard",
+        help: "How many octets of requests and responses it may keep, 65540 to 1099511627776, also written as 512K or 64M; 64M by default. A request that may need more is ignored",
     },
     Word {
         name: "objects",
@@ -474,35 +488,35 @@ const SERVE: &[Word] = &[
         form: WordForm::Text("FILE"),
         need: Need::Never,
         against: &[],
-        help: "Keeps what is written in FILE, a database, before it is answered; a server that is started with it again finds it, and begins as with --restarted",
+        help: "Keeps each write in FILE, a database, before the response; a server started with FILE again has the kept values, and starts as with --restarted",
     },
     Word {
         name: "log",
         form: WordForm::Flag,
         need: Need::Never,
         against: &[],
-        help: "Logs each datagram that arrives, whole, and what was done for it, on standard error; --log-level can log less, and shortens long lines",
+        help: "Logs each datagram that arrives, in full, and what was done for it, on standard error; --log-level can log less, and shortens long lines",
     },
     Word {
         name: "log-level",
         form: WordForm::Choice("LEVEL", &["changes", "requests", "all"]),
         need: Need::Never,
         against: &["log"],
-        help: "Logs on standard error each write that was performed (changes), each request that was performed (requests), or each datagram (all); of more than 32 octets it shows the first 32, and how many they are",
+        help: "Logs on standard error each write that was performed (changes), each request that was performed (requests), or each datagram (all); of more than 32 octets it shows the first 32 and the number of octets",
     },
     Word {
         name: "json",
         form: WordForm::Flag,
         need: Need::Never,
         against: &[],
-        help: "Prints each line of the log, and what is printed at the start, as a JSON object",
+        help: "Prints each line of the log, and the lines at the start, as a JSON object",
     },
     Word {
         name: "follow",
         form: WordForm::Flag,
         need: Need::Beside("objects"),
         against: &["keep", "turns"],
-        help: "Reads the document of --objects again when it changes, at most once a second, and gives the objects the values that it changed; other values that clients wrote stay",
+        help: "Reads the document of --objects again when it changes, at most once a second, and gives the objects the values that changed in it; other values that clients wrote stay",
     },
     Word {
         name: "until-eof",
@@ -518,7 +532,8 @@ const KEEP_EXAMPLES: &str = "\
 Example: bac keep plant.db
 Example: bac keep plant.db --forget analog-value:1 present-value
 Example: bac keep plant.db --forget file:1
-Example: bac keep plant.db --json";
+Example: bac keep plant.db --json
+Example: bac keep copy.db --accept-loss";
 
 /// What `keep` takes.
 const KEEP: &[Word] = &[
@@ -527,21 +542,28 @@ const KEEP: &[Word] = &[
         form: WordForm::Bare,
         need: Need::Always,
         against: &[],
-        help: "The file that a server was given with --keep, and which no server has open",
+        help: "The file that a server was given with --keep; no server may have it open",
+    },
+    Word {
+        name: "accept-loss",
+        form: WordForm::Flag,
+        need: Need::Never,
+        against: &["forget"],
+        help: "Accepts the loss where FILE-wal is missing, cut off or damaged, or where FILE was copied alone: keeps what is left, and prints it",
     },
     Word {
         name: "forget",
         form: WordForm::Text("T:I"),
         need: Need::Never,
         against: &[],
-        help: "Forgets what is kept of an object, by type and instance, each by number or name, and prints that alone: a server that is started with FILE again has the values of its document",
+        help: "Forgets what is kept of an object, by type and instance, each by number or name, and prints only that: a server started with FILE again has the values of its document",
     },
     Word {
         name: "P",
         form: WordForm::Bare,
         need: Need::Beside("forget"),
         against: &[],
-        help: "The property to forget, by number or name; without it --forget forgets all of the object, its file too",
+        help: "The property to forget, by number or name; without it --forget forgets everything kept of the object, including its file",
     },
     Word {
         name: "json",
@@ -554,12 +576,12 @@ const KEEP: &[Word] = &[
 
 /// The requests of `ask`.
 const WORDS_HELP: &str =
-    "The request: `read T:I P`, `write T:I P VALUE..`, `append T:I HEX`, `put T:I POS HEX` or `get T:I POS COUNT`; of a whole file `get T:I` or `put T:I @FILE`";
+    "The request: `read T:I P`, `write T:I P VALUE..`, `append T:I HEX`, `put T:I POS HEX` or `get T:I POS COUNT`; for a whole file `get T:I` or `put T:I @FILE`";
 
 /// The parts of a request, and examples for `ask`.
 const ASK_EXAMPLES: &str = "\
 T:I is an object by type and instance, P a property, each by number or name; HEX is octets in hexadecimal
-VALUE is a value by its kind: null, boolean:true, unsigned:7, signed:-7, enumerated:1, real:72.5, double:72.5, text:Room, characters:4:0041, octets:0AFF, bits:0100, date:1991-1-24-4, time:17:35:45.17 or object:device:7; or encoded data in HEX
+VALUE is a value with its kind: null, boolean:true, unsigned:7, signed:-7, enumerated:1, real:72.5, double:72.5, text:Room, characters:4:0041, octets:0AFF, bits:0100, date:1991-1-24-4, time:17:35:45.17 or object:device:7; or encoded data in HEX
 `priority N` (1 to 16) may follow the last VALUE
 POS is a position in a file, COUNT the number of octets to get
 `@FILE` in place of the last HEX means the octets of that file
@@ -599,84 +621,84 @@ const ASK: &[Word] = &[
         form: WordForm::Text("NET:MAC"),
         need: Need::Never,
         against: &[],
-        help: "The node to ask is behind a router at that address: its network, 1 to 65534, and its address there, 1 to 8 octets in hexadecimal",
+        help: "The node to ask is behind the router at that address: its network number, 1 to 65534, and its address there, 1 to 8 octets in hexadecimal",
     },
     Word {
         name: "timeout",
         form: WordForm::Number("S", 60),
         need: Need::Never,
         against: &[],
-        help: "Stops waiting after S whole seconds, 1 to 60, and prints `no ending`; an ask ends by itself after at most 60 seconds",
+        help: "Stops waiting after S whole seconds, 1 to 60, and prints `no ending`; a request ends by itself after at most 60 seconds",
     },
     Word {
         name: "text",
         form: WordForm::Flag,
         need: Need::Never,
         against: &[],
-        help: "Prints values by their kinds, errors and reasons by their names, and names a bad word",
+        help: "Prints values with their kinds, errors and reasons by name, and the invalid argument",
     },
     Word {
         name: "fail",
         form: WordForm::Flag,
         need: Need::Never,
         against: &[],
-        help: "Ends with status 1 also if the answer is an Error, or is for another object, property or index",
+        help: "Ends with status 1 also if the response is an Error, or is for another object, property or index",
     },
     Word {
         name: "raw",
         form: WordForm::Flag,
         need: Need::Never,
         against: &["text"],
-        help: "For `get`: writes only the octets of the file; if there are none, standard error says how the ask ended, and the status is 1",
+        help: "For `get`: writes only the octets of the file; if there are none, standard error says how the request ended, and the status is 1",
     },
     Word {
         name: "out",
         form: WordForm::Text("FILE"),
         need: Need::Never,
         against: &["raw", "json", "csv", "lines", "every"],
-        help: "For `get T:I`: writes the octets of the whole file to FILE once its end is reached, and prints how many they are",
+        help: "For `get T:I`: writes the octets of the whole file to FILE once it has read them all, and prints how many they are",
     },
     Word {
         name: "json",
         form: WordForm::Flag,
         need: Need::Never,
         against: &["text", "raw"],
-        help: "Prints each ask as a JSON object, one per line",
+        help: "Prints each result as a JSON object, one per line",
     },
     Word {
         name: "csv",
         form: WordForm::Flag,
         need: Need::Never,
         against: &["text", "raw", "json"],
-        help: "Prints each ask as a CSV row, below one with the names of the columns: time,peer,object,property,kind,value,status",
+        help: "Prints each result as a CSV row, below a row with the names of the columns: time,peer,object,property,kind,value,status",
     },
     Word {
         name: "lines",
         form: WordForm::Text("FILE"),
         need: Need::Never,
         against: &["WORDS", "raw"],
-        help: "Asks the requests in FILE, one a line, in turn, and prefixes each result with its line number; `-` reads standard input. A line may begin with a name, `flow:`, which its result carries, and then with the address of its own node, `@A.B.C.D[:P]` or `@A.B.C.D[:P]/NET:MAC`; the others are asked of the node that --to or --port gives. Skips blank lines, and notes that begin with `#`; blanks separate words, a word with blanks in it stands in quotes, and `@FILE` is not allowed. A bad line is reported before anything is asked",
+        help: "Sends the requests in FILE, one per line, in turn, and prefixes each result with its line number; `-` reads standard input. A line may begin with a name, such as `flow:`, which its result carries, and then with the address of its own node, `@A.B.C.D[:P]` or `@A.B.C.D[:P]/NET:MAC`; the other requests go to the node that --to or --port gives. Skips blank lines, and comments that begin with `#`; blanks separate words, a word with blanks in it needs quotes, and `@FILE` is not allowed. An invalid line is reported before anything is sent",
     },
     Word {
         name: "window",
         form: WordForm::Number("N", 256),
         need: Need::Beside("lines"),
         against: &["WORDS"],
-        help: "Has up to N requests under way, 1 to 256, of which each node of the list has an equal share; results are printed in the order of the lines. By default each waits for the one before",
+        help: "Has up to N requests in progress, 1 to 256, with an equal share for each node in the list; results are printed in the order of the lines. By default each waits for the one before",
     },
     Word {
         name: "every",
         form: WordForm::Text("S"),
         need: Need::Never,
         against: &[],
-        help: "Repeats the requests in rounds: one begins S seconds, 0.001 to 1000000000, after the one before was due, or at once if that took longer. Then standard error says how late it is, and of a list also, before the round ends, that it falls behind",
+        help: "Repeats the requests in rounds: each begins S seconds, 0.001 to 1000000000, after the one before was due, or at once if that one took longer. Then standard error says how late it is; for a list it also says so before the round ends",
     },
     Word {
         name: "times",
         form: WordForm::Number("N", 1_000_000_000),
         need: Need::Beside("every"),
         against: &[],
-        help: "The number of rounds, 1 to 1000000000; by default it asks until you stop it",
+        help: "The number of rounds, 1 to 1000000000; by default it goes on until you stop it",
     },
     Word {
         name: "WORDS",
@@ -691,19 +713,19 @@ const ASK: &[Word] = &[
 pub(crate) const OFFLINE: &[Grammar] = &[
     Grammar {
         name: "answer",
-        about: "Prints what a server sends back for a datagram, one datagram a line, or `none`",
+        about: "Prints what a server sends back for a datagram, one datagram per line, or `none`",
         after: "Example: bac answer 810A001101040005010C0C000000051955",
         words: ANSWER,
     },
     Grammar {
         name: "decode",
-        about: "Prints the layers of a datagram, one a line, up to the first that has a fault",
+        about: "Prints the layers of a datagram, one per line, up to the first that is invalid",
         after: DECODE_EXAMPLES,
         words: DECODE,
     },
     Grammar {
         name: "check",
-        about: "Prints the bad frames of a pcap or pcapng file, or the bad lines of a capture, and how many are good",
+        about: "Prints the invalid frames of a pcap or pcapng file, or the invalid lines of a capture, and how many are valid",
         after: CHECK_EXAMPLES,
         words: CHECK,
     },
@@ -731,17 +753,17 @@ pub(crate) const SERVING: &[Grammar] = &[
     },
     Grammar {
         name: "keep",
-        about: "Prints what the file of a server keeps, one property or file per line",
+        about: "Prints what a server keeps in a file, one property or file per line",
         after: KEEP_EXAMPLES,
         words: KEEP,
     },
 ];
 
-/// The commands that ask, which help lists then.
+/// The commands of clients, which help lists next.
 pub(crate) const ASKING: &[Grammar] = &[
     Grammar {
         name: "ask",
-        about: "Asks a node, and prints how the ask ended",
+        about: "Sends a request to a node, and prints how it ended",
         after: ASK_EXAMPLES,
         words: ASK,
     },

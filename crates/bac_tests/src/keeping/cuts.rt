@@ -1,7 +1,7 @@
 //! The power is cut at every third call of the disk: the next start finds all rounds that were kept, and nothing of a later one, or all of the next.
 use super::playing::{Asked, Round, keep_rounds, perform_rounds};
 use bac_keep::KeepFault;
-use bac_keep_file::{CellKeeper, open_files};
+use bac_keep_file::{CellKeeper, Loss, open_files};
 use bac_rows::holds;
 use bac_store::{Store as Objects, house};
 use sqlite_disk::{Crash, Disk, Files, Fuse, Memory};
@@ -95,7 +95,7 @@ fn starts_again(
     if !files.log.may_be_used() || !files.db.may_be_used() {
         return Ok(false);
     }
-    let Ok((database, _)) = open_files(alloc, files, options()) else {
+    let Ok((database, _)) = open_files(alloc, files, options(), Loss::Refused) else {
         return Ok(false);
     };
     let store = found(alloc, database)?;
@@ -111,7 +111,7 @@ fn survives(alloc: Global, log: u64, db: u64) -> Result<bool, KeepFault> {
     if !files.log.may_be_used() || !files.db.may_be_used() {
         return Ok(false);
     }
-    let Ok((database, _)) = open_files(alloc, files, options()) else {
+    let Ok((database, _)) = open_files(alloc, files, options(), Loss::Refused) else {
         return Ok(true);
     };
     match play(alloc, database) {

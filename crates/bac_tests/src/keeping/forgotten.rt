@@ -3,7 +3,7 @@
 use super::cuts::{found, options};
 use super::playing::{Asked, Round, keep_rounds, perform_rounds};
 use bac_keep::KeepFault;
-use bac_keep_file::{CellKeeper, Selection, forget, open_files};
+use bac_keep_file::{CellKeeper, Loss, Selection, forget, open_files};
 use bac_rows::holds;
 use bac_store::{Store as Objects, house};
 use bac_value::ObjectIdentifier;
@@ -79,7 +79,7 @@ fn starts_again(
     if !files.log.may_be_used() || !files.db.may_be_used() {
         return Ok(false);
     }
-    let Ok((database, _)) = open_files(alloc, files, options()) else {
+    let Ok((database, _)) = open_files(alloc, files, options(), Loss::Refused) else {
         return Ok(false);
     };
     let store = found(alloc, database)?;
@@ -98,7 +98,7 @@ fn survives(alloc: Global, log: u64, db: u64) -> Result<bool, KeepFault> {
     if !files.log.may_be_used() || !files.db.may_be_used() {
         return Ok(false);
     }
-    let Ok((database, _)) = open_files(alloc, files, options()) else {
+    let Ok((database, _)) = open_files(alloc, files, options(), Loss::Refused) else {
         return Ok(true);
     };
     let Ok(mut database) = kept(alloc, database) else {
@@ -155,7 +155,7 @@ fn forgets(
     if !files.log.may_be_used() || !files.db.may_be_used() {
         return Ok(false);
     }
-    let Ok((database, _)) = open_files(alloc, files, options()) else {
+    let Ok((database, _)) = open_files(alloc, files, options(), Loss::Refused) else {
         return Ok(false);
     };
     forgets_in(alloc, database, selection, cells, left)

@@ -3,9 +3,10 @@
 use bac_apdu::Limits;
 use bac_driver::{BoundNode, NoObserver, Round, RoundFault, RunLimit, WaitLimit};
 use bac_keep::KeepFault;
-use bac_node::{Config, Node};
+use bac_node::{Config, MEMORY, Node};
 use bac_rows::holds;
 use bac_store::house;
+use bac_transaction::Rules;
 use std::alloc::Global;
 use std::cell::RefCell;
 use std::test::Fail;
@@ -77,7 +78,7 @@ fn node(alloc: Global) -> Result<Node, Fail> {
 /// Serves the burst in rounds. Returns how many requests were performed, None after a fault of the keeper.
 fn served(alloc: Global, steps: &Steps, row: Row) -> Result<Option<u64>, Fail> {
     let link = BurstLink::new(steps, row.request, row.requests);
-    let mut bound_node = BoundNode::new(alloc, node(alloc)?, link)?;
+    let mut bound_node = BoundNode::new(alloc, node(alloc)?, link, Rules::strict().within(MEMORY))?;
     let mut round = Round::new(alloc, TellingKeeper::new(steps, row.keeps))?;
     let limit = RunLimit {
         turns: row.rounds,

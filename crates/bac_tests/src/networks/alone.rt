@@ -3,12 +3,12 @@ use super::*;
 use bac_apdu::{Limits, Window, read};
 use bac_npdu::Peer;
 use bac_requester::{AskFault, Client, Ending, Requester};
-use bac_responder::{Responder, ServerTransaction, idle_on_apdu};
+use bac_responder::{Responder, ServerTransaction, Serving, idle_on_apdu};
 use bac_service::OwnedRequest;
 use bac_service_text::read_request_words;
 use bac_slots::{IndexSlots, Same};
 use bac_store::{Store, house};
-use bac_transaction::{Context, PeerKey, Settings};
+use bac_transaction::{Context, PeerKey, Rules, Settings};
 
 /// Takes APDUs of 1,476 octets and any number of segments, and the same of 50.
 const LIMITS: Limits = Limits {
@@ -71,9 +71,13 @@ impl Server {
             return false;
         };
         let (from, store) = (peer(row.1), &mut self.store);
-        match self.end.on(alloc, &SETTINGS, row.0, &from, &apdu, store) {
-            Ok(served) => served.act.is_some() == row.2 && served.sends.len() == 1,
-            Err(_) => false,
+        let serving = Serving {
+            settings: SETTINGS,
+            rules: Rules::strict(),
+        };
+        match self.end.on(alloc, &serving, row.0, &from, &apdu, store) {
+            Ok(Some(served)) => served.act.is_some() == row.2 && served.sends.len() == 1,
+            Ok(None) | Err(_) => false,
         }
     }
 }

@@ -3,6 +3,8 @@ use super::nodes::house_node;
 use super::*;
 use crate::noted_call::NotedCall;
 use bac_driver::{BoundNode, Link, RunLimit, WaitLimit};
+use bac_node::MEMORY;
+use bac_transaction::Rules;
 use std::process::Abort;
 
 mod listed_clock;
@@ -48,7 +50,7 @@ fn are_told(noted: &[NotedCall]) -> bool {
 fn bound_node<R: Abort>(rt: &R, alloc: Global) -> Result<BoundNode<TellingLink<'_, R>>, Fail> {
     let node = house_node(alloc, 1)?;
     let coming = TellingLink::new(rt, alloc, link(0), READ.to_vec(alloc)?);
-    Ok(BoundNode::new(alloc, node, coming)?)
+    Ok(BoundNode::new(alloc, node, coming, Rules::strict().within(MEMORY))?)
 }
 
 /// A node takes two turns; whether its link's calls are those of the request and its answer.

@@ -28,6 +28,8 @@ impl Keeper for TellingKeeper<'_> {
 
     ghost noted = { λ _. [] };
 
+    ghost failed = { λ _ _. ⊥ };
+
     ghost may_find = { λ _ _. ⊤ };
 
     ghost Base = { Unit {0} };

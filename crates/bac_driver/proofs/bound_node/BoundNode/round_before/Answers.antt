@@ -41,6 +41,6 @@ returns-clause-taken g c =
     let taken : c.in_ok-is_taken.is_taken ≡ true = search rules in
     round_taken g.O.Observer.Sees c.args.wait_limit.now _ _ (map turn_view c.deref.result.now) _ c.send.result _ _ _ _ _
     (c.in_ok-is_taken.ensures.taken taken) c.in_ok-hold_more.ensures.taken c.in_ok-hold_more.ensures.most
-    (ap (map turn_view) c.deref.ensures.value ∙ c.in_ok-keep.ensures.turns) c.send.ensures.carried c.send.ensures.node c.send.ensures.buffer c.send.ensures.reuse
+    (ap (map turn_view) c.deref.ensures.value ∙ c.in_ok-keep.ensures.turns) c.send.ensures.carried c.send.ensures.node c.send.ensures.buffer c.send.ensures.rules
     refl
     (c.keep.new.self.counted ∙ sym (ap (λ xs. performed_in (map turn_view xs)) c.deref.ensures.value))

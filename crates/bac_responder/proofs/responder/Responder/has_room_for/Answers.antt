@@ -19,7 +19,7 @@ pub returns-then-fits-clause-within : goal.returns-then-fits-clause-within
 returns-then-fits-clause-within g c =
     rw (← c.self.view_is) (λ yes. room_for c.args.now (peer_view c.args.peer.now) (apdu_view c.args.apdu.now) c.args.room
     (g.S.SlotTable.slots c.self.inside.aged.table) (g.S.SlotTable.capacity c.self.inside.aged.table) c.self.inside.restart c.len-entries.ensures.distinct
-    c.self.inside.kept c.in-Some.len c.self.invariant.1 c.in-Some.ensures (c.fits.ensures c.if-fits.true))
+    c.self.inside.kept c.in-Some.len c.self.invariant.1 c.in-Some.ensures (c.fits.ensures.0 c.if-fits.true))
 
 pub invariant_of-self : goal.invariant_of-self
 invariant_of-self g c =
@@ -30,7 +30,7 @@ returns-then-fits-2-clause-within g c =
     let counted = counted_within c.args.now (g.S.SlotTable.slots c.self.inside.aged.table) c.count_octets-self-inside.result c.count_octets-self-inside.ensures in
     rw (← c.self.view_is) (λ yes. room_for c.args.now (peer_view c.args.peer.now) (apdu_view c.args.apdu.now) c.args.room
     (g.S.SlotTable.slots c.self.inside.aged.table) (g.S.SlotTable.capacity c.self.inside.aged.table) c.self.inside.restart c.len-entries.ensures.distinct
-    c.count_octets-self-inside.result c.in-Some.len counted c.in-Some.ensures (c.fits-2.ensures c.if-fits-2.true))
+    c.count_octets-self-inside.result c.in-Some.len counted c.in-Some.ensures (c.fits-2.ensures.0 c.if-fits-2.true))
 
 pub invariant_of-self-then-fits-3 : goal.invariant_of-self-then-fits-3
 invariant_of-self-then-fits-3 g c =
@@ -44,7 +44,7 @@ returns-then-fits-3-clause-within g c =
     rw (← c.self.view_is) (λ yes. room_instead c.args.now (peer_view c.args.peer.now) (apdu_view c.args.apdu.now) c.args.room
     slots (g.S.SlotTable.capacity c.self.inside.aged.table) c.self.inside.restart c.len-entries.ensures.distinct key (ap of c.invoke_id_of.ensures)
     (sym c.is_none_live.ensures ∙ c.if-is_none_live.true) c.count_octets.result c.in-Some.len c.count_octets.ensures c.in-Some.ensures
-    (c.fits-then-is_none_live.ensures c.if-fits-3.true))
+    (c.fits-then-is_none_live.ensures.0 c.if-fits-3.true))
 
 pub invariant_of-self-2 : goal.invariant_of-self-2
 invariant_of-self-2 g c =

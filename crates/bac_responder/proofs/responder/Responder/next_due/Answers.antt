@@ -1,5 +1,5 @@
 -- What is due first in the table is due first at the end.
-use Rattle.std.proofs.Common.{◌<◌, ◌∙◌, sym, arith}
+use Rattle.std.proofs.Common.{◌∙◌, sym, arith}
 use Rattle.bac_protocol.specs.Server.{ServerTransaction}
 use Rattle.bac_transaction.proofs.Viewed.{due_viewed, each_viewed}
 use Rattle.bac_responder.specs.Timers.{IsQuiet, due_of, life_end}

@@ -1,21 +1,24 @@
 -- What the entry of its key keeps more or less, all keep.
-use Rattle.std.proofs.Common.{◌≤◌, List, sym, subst}
+use Rattle.std.proofs.Common.{◌≡◌, ◌∙◌, ◌≤◌, ℕ, List, ap, sym, subst}
 use Rattle.std.specs.Prelude.{IfSome}
 use Rattle.bac_apdu.specs.Views.{apdu_view}
+use Rattle.bac_npdu.specs.Views.{peer_view}
 use Rattle.bac_slots.specs.declared.slot.Slot.{Slot}
 use Rattle.bac_slots.specs.Slots.{value_at}
 use Rattle.bac_protocol.specs.Server.{ServerTransaction}
-use Rattle.bac_transaction.specs.Views.{code_same_key, slots_view}
-use Rattle.bac_transaction.specs.declared.context.Context.{Context}
+use Rattle.bac_transaction.specs.Ends.{ServerEnd}
+use Rattle.bac_transaction.specs.Keys as keys
+use Rattle.bac_transaction.specs.Views.{code_same_key, rules_view, settings_view, slots_view}
 use Rattle.bac_transaction.specs.declared.peer_key.PeerKey.{PeerKey}
 use Rattle.bac_responder.specs.Kept.{kept_octets, octets_of}
-use Rattle.bac_responder.proofs.KeptWithin.{on_moved}
+use Rattle.bac_responder.specs.Views.{end_of}
+use Rattle.bac_responder.proofs.KeptWithin.{on_moved, on_needs, on_within}
+use Rattle.bac_responder.proofs.Sweeps.{same_end}
 use Rattle.bac_responder.proofs.responder.Responder.on.Goals as goal
 
 pub invariant_of-self-2 : goal.invariant_of-self-2
 invariant_of-self-2 g c =
     let key : PeerKey = record { peer = c.args.peer.now; invoke_id = c.invoke_id_of.result } in
-    let context : Context = record { settings = c.args.settings.now; key = key; moment = c.args.now } in
     let old : List (Slot PeerKey ServerTransaction) = g.S.SlotTable.slots c.seek.new.aged.table in
     let new : List (Slot PeerKey ServerTransaction) = g.S.SlotTable.slots c.on_apdu.new.aged.table in
     let kept = subst (λ (l : List (Slot PeerKey ServerTransaction)). IfSome c.self.inside.kept (λ k. kept_octets (slots_view l) ≤ k))
@@ -23,6 +26,25 @@ invariant_of-self-2 g c =
       c.on_apdu.ensures.aged,
       c.moved-self-inside.ensures (kept_octets (slots_view old)) (kept_octets (slots_view new)) (octets_of (value_at code_same_key key old))
           (octets_of (value_at code_same_key key new)) kept c.key_octets-before.ensures c.key_octets.ensures
-          (on_moved context c.args.store.now (apdu_view c.args.apdu.now) old new (g.S.SlotTable.capacity c.seek.new.aged.table)
-          (g.S.SlotTable.capacity c.on_apdu.new.aged.table) c.self.inside.restart c.len-entries.ensures.distinct c.in_ok-served.ensures.turn.end),
+          (on_moved (rules_view c.args.serving.now.rules) (settings_view c.args.serving.now.settings) c.args.now c.args.store.now key (apdu_view c.args.apdu.now) old new
+          (g.S.SlotTable.capacity c.seek.new.aged.table) (g.S.SlotTable.capacity c.on_apdu.new.aged.table) c.self.inside.restart
+          c.len-entries.ensures.distinct c.in_ok-served.served c.on_apdu.new.store c.in_ok-served.ensures.hears),
     )
+
+pub returns-clause-within : goal.returns-clause-within
+returns-clause-within g c =
+    let key : PeerKey = record { peer = c.args.peer.now; invoke_id = c.invoke_id_of.result } in
+    let of : ℕ → keys.PeerKey = λ n. record { peer = peer_view c.args.peer.now; invoke_id = n } in
+    let same = same_end _ _ _ _ c.self.inside.restart c.seek.ensures.slots c.seek.ensures.same ∙ c.self.view_is ∙ c.has_room-room.ensures.same in
+    on_within c.args.serving.now.rules.memory (rules_view c.args.serving.now.rules) c.args.now (peer_view c.args.peer.now) (apdu_view c.args.apdu.now)
+    (g.S.SlotTable.slots c.seek.new.aged.table) (g.S.SlotTable.capacity c.seek.new.aged.table) c.self.inside.restart c.len-entries.ensures.distinct
+    (settings_view c.args.serving.now.settings) c.args.store.now _ same c.has_room-room.result c.has_room-room.ensures.within _ (ap of c.invoke_id_of.ensures)
+    c.in_ok-served.served _ c.on_apdu.new.store c.in_ok-served.ensures.hears c.in_ok-served.ensures.room
+
+pub returns-clause-needless : goal.returns-clause-needless
+returns-clause-needless g c =
+    let of : ℕ → keys.PeerKey = λ n. record { peer = peer_view c.args.peer.now; invoke_id = n } in
+    let same = same_end _ _ _ _ c.self.inside.restart c.seek.ensures.slots c.seek.ensures.same ∙ c.self.view_is ∙ c.has_room-room.ensures.same in
+    on_needs c.args.serving.now.rules.memory (rules_view c.args.serving.now.rules) c.args.now (peer_view c.args.peer.now) (apdu_view c.args.apdu.now) _ _ same
+    (settings_view c.args.serving.now.settings) c.args.store.now c.has_room-room.result c.has_room-room.ensures.needless c.has_room-room.ensures.bound _ (ap of c.invoke_id_of.ensures)
+    c.in_ok-served.served c.in_ok-served.ensures.room

@@ -1,0 +1,10 @@
+pub mod InRounds
+pub mod Asked
+pub mod Recorded
+pub mod LastWords
+pub mod AskedOf
+pub mod Clients
+pub mod AskedLines
+pub mod Fleets
+pub mod InFlight
+pub mod Once

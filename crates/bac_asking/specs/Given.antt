@@ -1,0 +1,73 @@
+-- What the words of `ask` give, as they were read.
+use Rattle.std.specs.Prelude.{◌≡◌, ℕ, ◌<◌, ◌≤◌, ◌*◌, min, Bool, true, false, codes, decimal, Option, Some, None}
+use Rattle.std.specs.Option.{option_map}
+use Rattle.clap.specs.declared.parser.matches.ArgMatches.{ArgMatches}
+use Rattle.bac_commands.specs.declared.online.output_format.OutputFormat.{OutputFormat}
+use Rattle.bac_commands.specs.declared.online.output_format.Style.{Style}
+use Rattle.bac_commands.specs.declared.online.output_format.Style.TheVariants as style
+use Rattle.bac_driver.specs.Waits.{MOST}
+use Rattle.bac_environment.specs.Given.{IsFlag, IsNumber, words_text}
+use Rattle.bac_asking.specs.declared.asking.Asking.{Asking}
+use Rattle.bac_asking.specs.declared.asking.Rounds.{Rounds}
+use Rattle.bac_asking.specs.declared.recording.RecordForm.{RecordForm}
+use Rattle.bac_asking.specs.declared.recording.RecordForm.TheVariants as form
+
+-- by octets before words
+abbrev pub style_by : (raw text : Bool) → Style
+style_by true text = style.Octets
+style_by false true = style.Words
+style_by false false = style.Numbers
+
+pub record IsStyle (given : ArgMatches) (s : Style) : Type 0 where
+  pub raw : Bool
+  pub text : Bool
+  pub raw_is : IsFlag given (codes "raw") raw
+  pub text_is : IsFlag given (codes "text") text
+  pub is : s ≡ style_by raw text
+
+pub record IsManner (given : ArgMatches) (m : OutputFormat) : Type 0 where
+  pub style : IsStyle given m.style
+  pub strict : IsFlag given (codes "fail") m.strict
+
+abbrev pub records_by : (json csv : Bool) → Option RecordForm
+records_by true csv = Some form.Json
+records_by false true = Some form.Csv
+records_by false false = None
+
+pub record AreRecordsOf (given : ArgMatches) (records : Option RecordForm) : Type 0 where
+  pub json : Bool
+  pub csv : Bool
+  pub json_is : IsFlag given (codes "json") json
+  pub csv_is : IsFlag given (codes "csv") csv
+  pub are : records ≡ records_by json csv
+
+-- of whole seconds the milliseconds between rounds
+pub record IsPace (given : ArgMatches) (is : Option ℕ) : Type 0 where
+  pub whole : (n : ℕ) → 0 < n → n ≤ 1_000_000_000 → words_text given (codes "every") ≡ Some (decimal n) → is ≡ Some (n * 1000)
+  pub none : words_text given (codes "every") ≡ None → is ≡ None
+
+-- of whole seconds the milliseconds that it waits
+pub record IsPatience (given : ArgMatches) (is : Option ℕ) : Type 0 where
+  pub seconds : Option ℕ
+  pub seconds_are : IsNumber given (codes "timeout") seconds
+  pub are : is ≡ option_map (λ (s : ℕ). min (s * 1000) MOST) seconds
+
+abbrev pub rounds_by : (every times : Option ℕ) → Option Rounds
+rounds_by None times = None
+rounds_by (Some every) times = Some (record { every = every; times = times })
+
+pub record AreRoundsOf (given : ArgMatches) (rounds : Option Rounds) : Type 0 where
+  pub every : Option ℕ
+  pub times : Option ℕ
+  pub every_is : IsPace given every
+  pub times_is : IsNumber given (codes "times") times
+  pub are : rounds ≡ rounds_by every times
+
+-- how it is printed, or as which records, how long it waits, and how often and how many at once it asks
+pub record IsGiven (given : ArgMatches) (asking : Asking) : Type 0 where
+  pub output_format : IsManner given asking.output_format
+  pub records : AreRecordsOf given asking.records
+  pub timeout : IsPatience given asking.timeout
+  pub rounds : AreRoundsOf given asking.rounds
+  pub window : IsNumber given (codes "window") asking.window
+  pub unnamed : asking.has_names ≡ false

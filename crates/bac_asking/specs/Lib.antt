@@ -1,0 +1,13 @@
+pub mod Asking
+pub mod Given
+pub mod FileWords
+pub mod Rounds
+pub mod Recording
+pub mod Online
+pub mod Clients
+pub mod Fleets
+pub mod AskedOne
+pub mod AskedLines
+pub mod InFlight
+pub mod Asked
+pub mod WholeFiles

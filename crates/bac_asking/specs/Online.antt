@@ -1,0 +1,73 @@
+-- What `ask` and `pair` print, and their statuses: over links that the machine bound to the address of the command, and beside a clock that it made,
+-- bac_commands' promise holds.
+use Rattle.std.specs.Prelude.{ℕ, Bool, true, false, List, Option, Some}
+use Rattle.bac_protocol.specs.Service.{Octets}
+use Rattle.bac_transaction.specs.Given.{STRICTLY}
+use Rattle.bac_transaction.specs.declared.rules.Rules.{Rules}
+use Rattle.bac_driver.specs.Udp.{LOCAL_HOST}
+use Rattle.bac_text.specs.declared.status.Status.{Status}
+use Rattle.bac_driver.specs.Pairs.{Pair}
+use Rattle.bac_driver.specs.Runs.{Timed}
+use Rattle.bac_driver.specs.BoundNodes.{BoundNode}
+use Rattle.bac_commands.specs.Houses.{client_node, house_node}
+use Rattle.bac_commands.specs.Pairs.{TwoTexts}
+use Rattle.bac_commands.specs.Statuses.{ByStatus}
+use Rattle.bac_environment.specs.Sockets.{Clocks, IsAt, Links}
+use Rattle.bac_asking.specs.Recording.{PrintsHeader}
+use Rattle.bac_asking.specs.Rounds.{AreRounds, Doing}
+use Rattle.bac_asking.specs.declared.asking.Asking.{Asking}
+use Rattle.bac_asking.specs.declared.recording.RecordForm.{RecordForm}
+
+-- ---- nodes that ask
+
+-- any free port
+abbrev pub FREE : ℕ
+FREE = 0
+
+-- the rules of a node that asks
+abbrev pub CLIENTS : Rules
+CLIENTS = record STRICTLY { memory = Some 67108864 }
+
+-- one with the house store, to which nothing has happened, at any free port; its invoke IDs begin at that one
+abbrev pub IsHouseAt : Links → (host : Octets) → (first_id : ℕ) → BoundNode → Type 0
+IsHouseAt IsOn host first_id bound_node = IsAt IsOn host FREE (house_node first_id) CLIENTS bound_node
+
+-- one that asks for lists
+pub record IsClientAt (IsOn : Links) (host : Octets) (first_id : ℕ) (bound_node : BoundNode) : Type 0 where
+  pub port : ℕ
+  pub at : IsAt IsOn host port (client_node first_id) CLIENTS bound_node
+
+-- its invoke IDs begin anywhere
+pub record IsClient (IsOn : Links) (host : Octets) (bound_node : BoundNode) : Type 0 where
+  pub first_id : ℕ
+  pub at : IsClientAt IsOn host first_id bound_node
+
+-- ---- asking
+
+-- below what stands above records, that was done
+pub record IsHeaded (records : Option RecordForm) (has_names : Bool) (Does : Doing) (all : Bool) (before after : Timed) (old new : Option (List ℕ)) : Type 0 where
+  pub begun : Option (List ℕ)
+  pub header : PrintsHeader records has_names old begun
+  pub does : Does all before after begun new
+
+-- a client at any port, whose invoke IDs began anywhere, did that, in rounds where they are wanted
+pub record ByClient (IsOn : Links) (IsClock : Clocks) (asking : Asking) (Round : Doing) (all : Bool) (old new : Option (List ℕ)) : Type 0 where
+  pub before : Timed
+  pub after : Timed
+  pub client : IsClient IsOn asking.host before.bound_node
+  pub clock : IsClock before.told
+  pub rounds : IsHeaded asking.records asking.has_names (AreRounds asking.rounds Round) all before after old new
+
+-- ---- two nodes
+
+-- two such nodes at free ports of this machine: both asks of the first
+pub record Pairs (IsOn : Links) (IsClock : Clocks) (answered : Bool) (old new : Option (List ℕ)) : Type 0 where
+  pub before : Pair
+  pub after : Pair
+  pub first : IsHouseAt IsOn LOCAL_HOST 0 before.first
+  pub second : IsHouseAt IsOn LOCAL_HOST 0 before.second
+  pub clock : IsClock before.told
+  pub texts : TwoTexts answered before after old new
+
+abbrev pub IsPair : Links → Clocks → Status → (old new : Option (List ℕ)) → Type 0
+IsPair IsOn IsClock s old new = ByStatus s (Pairs IsOn IsClock true old new) (Pairs IsOn IsClock false old new) ⊥

@@ -1,0 +1,287 @@
+//! From where a node is to ask, how long it waits, how the end is printed, and how often.
+ghost use Rattle.std.specs.Prelude.{◌≡◌};
+ghost use Rattle.bac_asking.specs.Asked.{for_lines};
+ghost use Rattle.bac_asking.specs.Asking.{patience_for};
+ghost use Rattle.bac_asking.specs.Given.{AreRecordsOf, AreRoundsOf, IsGiven, IsManner, IsPace, IsPatience, records_by, rounds_by, style_by};
+ghost use Rattle.bac_asking.specs.Rounds.{next_from};
+ghost use Rattle.bac_environment.specs.Limits.{turns_of};
+
+use crate::client_sockets::ClientSockets;
+use crate::recording::RecordForm;
+use crate::seconds::read_seconds;
+use bac_commands::{OutputFormat, Style};
+use bac_driver::WaitLimit;
+use bac_environment::{flag_of, number_of};
+use bac_lists::{
+    EVERY_HOST, LOCAL_HOST, LineQuestion, have_names, host_towards, link_at, read_link, read_route,
+};
+use bac_npdu::{LinkAddress, Peer, Route};
+use clap::ArgMatches;
+
+/// How often a node asks the same.
+#[derive(Clone, Copy, PartialEq, Eq)]
+pub struct Rounds {
+    /// A round begins so many milliseconds after the one before it was to begin.
+    pub every: u64,
+    /// How many rounds there are. None for any number.
+    pub times: Option<u64>,
+}
+
+impl Rounds {
+    /// How many rounds there are at most.
+    pub(crate) fn most(&self) -> u64
+        ensures { result ≡ turns_of self.now.times }
+    {
+        match self.times {
+            Some(times) => times,
+            None => u64::MAX,
+        }
+    }
+
+    /// Whether a round follows that one, by its number.
+    fn go_on_after(&self, number: u64) -> bool {
+        number < self.most()
+    }
+
+    /// When the next round may begin, after one that might begin from a moment on and began at another: rounds do not drift, but after one that began a
+    /// whole interval late, or later, the next begins an interval after it.
+    pub(crate) fn next_from(&self, from: u64, began: u64) -> u64
+        ensures { result ≡ next_from self.now.every from began }
+    {
+        let due = from.saturating_add(self.every);
+        if began < due {
+            due
+        } else {
+            began.saturating_add(self.every)
+        }
+    }
+}
+
+/// From where a node asks, how long it waits, and how it prints the result.
+#[derive(Clone, Copy)]
+pub struct Asking {
+    /// The IPv4 address of the node that asks.
+    pub host: [u8; 4],
+    /// After so many milliseconds it stops waiting. None if it waits until the ask has ended.
+    pub timeout: Option<u64>,
+    /// How the result is printed, and whether that is strict.
+    pub output_format: OutputFormat,
+    /// The form of the records that are printed instead. None if none are.
+    pub records: Option<RecordForm>,
+    /// Whether its progress is shown on standard error.
+    pub shows_progress: bool,
+    /// Whether a line of the list has a name.
+    pub has_names: bool,
+    /// How often it asks the same. None if it asks once.
+    pub rounds: Option<Rounds>,
+    /// How many asks of lines are under way at most. None if each begins once the one before is printed.
+    pub window: Option<u64>,
+}
+
+impl Asking {
+    /// The same, but asked from the address of this machine that the peer sees, if the machine tells it.
+    pub fn towards<M: ClientSockets>(self, machine: &M, peer: Peer) -> Asking
+        ensures { result ≡ record self { host = result.host } }
+    {
+        let host = source_towards(machine, peer.link);
+        Asking { host, ..self }
+    }
+
+    /// The same for these lines: asked from the address of this machine that all their peers see, or from any where there is none such; and told by their
+    /// names, where one has a name.
+    pub(crate) fn for_lines<M: ClientSockets>(self, machine: &M, lines: &[LineQuestion]) -> Asking
+        ensures { result ≡ for_lines result.host lines.now self }
+    {
+        let host = source_towards_all(machine, lines);
+        let has_names = have_names(lines);
+        Asking {
+            host,
+            has_names,
+            ..self
+        }
+    }
+
+    /// When the round behind that one, by its number, is due, which might begin from a moment on and began at another; None where none follows, or it is late.
+    pub(crate) fn due_after(
+        &self,
+        number: u64,
+        from: u64,
+        began: u64,
+        is_late: bool,
+    ) -> Option<u64> {
+        match self.rounds {
+            Some(rounds) if !is_late && rounds.go_on_after(number) => {
+                Some(rounds.next_from(from, began))
+            }
+            _ => None,
+        }
+    }
+
+    /// How long its turns wait, where it begins at that moment: until something is due, and when it waits no longer.
+    pub(crate) fn wait_limit(&self, start: u64) -> WaitLimit
+        ensures { result ≡ patience_for self.now.timeout start }
+    {
+        let until = match self.timeout {
+            Some(milliseconds) => Some(start.saturating_add(milliseconds)),
+            None => None,
+        };
+        WaitLimit {
+            wait: u64::MAX,
+            until,
+        }
+    }
+}
+
+/// The address of this machine that one on the loopback sees, or the one that is asked there; any where the machine tells none.
+fn source_towards<M: ClientSockets>(machine: &M, link: LinkAddress) -> [u8; 4] {
+    let host = host_towards(link);
+    if host != EVERY_HOST {
+        return host;
+    }
+    machine.source_towards(link).unwrap_or(EVERY_HOST)
+}
+
+/// The address of this machine that all peers of these lines see; where there is none such, any.
+fn source_towards_all<M: ClientSockets>(machine: &M, lines: &[LineQuestion]) -> [u8; 4] {
+    let Some((first, others)) = lines.split_first() else {
+        return EVERY_HOST;
+    };
+    let mut last = first.question.peer.link;
+    let host = source_towards(machine, last);
+    for line in others {
+        let link = line.question.peer.link;
+        if link != last && source_towards(machine, link) != host {
+            return EVERY_HOST;
+        }
+        last = link;
+    }
+    host
+}
+
+/// The address that is asked: that behind `--to`, or a port of this machine.
+fn link_of(given: &ArgMatches<'_>) -> Option<LinkAddress> {
+    match given.get_str("to") {
+        Some(text) => read_link(text),
+        None => Some(link_at(LOCAL_HOST, given.get_one("port")?)),
+    }
+}
+
+/// The way on from there, where one is given. None where it is none.
+fn route_of(given: &ArgMatches<'_>) -> Option<Option<Route>> {
+    match given.get_str("route") {
+        Some(text) => Some(Some(read_route(text)?)),
+        None => Some(None),
+    }
+}
+
+fn style_by(raw: bool, text: bool) -> Style
+    ensures { result ≡ style_by raw text }
+{
+    if raw {
+        Style::Octets
+    } else if text {
+        Style::Words
+    } else {
+        Style::Numbers
+    }
+}
+
+fn manner_of(given: &ArgMatches<'_>) -> OutputFormat
+    ensures { IsManner given.now result }
+{
+    let raw = flag_of(given, "raw");
+    let text = flag_of(given, "text");
+    OutputFormat {
+        style: style_by(raw, text),
+        strict: flag_of(given, "fail"),
+    }
+}
+
+fn records_by(json: bool, csv: bool) -> Option<RecordForm>
+    ensures { result ≡ records_by json csv }
+{
+    if json {
+        Some(RecordForm::Json)
+    } else if csv {
+        Some(RecordForm::Csv)
+    } else {
+        None
+    }
+}
+
+/// The records that are wanted; None where none are.
+fn records_of(given: &ArgMatches<'_>) -> Option<RecordForm>
+    ensures { AreRecordsOf given.now result }
+{
+    let json = flag_of(given, "json");
+    let csv = flag_of(given, "csv");
+    records_by(json, csv)
+}
+
+/// How many milliseconds it waits, where a number of seconds is given.
+fn patience_of(given: &ArgMatches<'_>) -> Option<u64>
+    ensures { IsPatience given.now result }
+{
+    match number_of(given, "timeout") {
+        Some(seconds) => Some(seconds.saturating_mul(1_000)),
+        None => None,
+    }
+}
+
+fn rounds_by(every: Option<u64>, times: Option<u64>) -> Option<Rounds>
+    ensures { result ≡ rounds_by every times }
+{
+    Some(Rounds {
+        every: every?,
+        times,
+    })
+}
+
+/// How many milliseconds lie between rounds, where a number of seconds is given.
+fn every_of(given: &ArgMatches<'_>) -> Option<u64>
+    ensures { IsPace given.now result }
+{
+    read_seconds(given.get_str("every")?)
+}
+
+/// None where no rounds are given.
+fn rounds_of(given: &ArgMatches<'_>) -> Option<Rounds>
+    ensures { AreRoundsOf given.now result }
+{
+    let every = every_of(given);
+    let times = number_of(given, "times");
+    rounds_by(every, times)
+}
+
+/// The node that the arguments name. None if they name none, or an address is invalid.
+pub fn peer_of(given: &ArgMatches<'_>) -> Option<Peer> {
+    let link = link_of(given)?;
+    let route = route_of(given)?;
+    Some(Peer { link, route })
+}
+
+/// The node that the arguments name, for lines that name none. None if an address is invalid.
+pub fn default_of(given: &ArgMatches<'_>) -> Option<Option<Peer>> {
+    let has_link = given.get_str("to").is_some() || given.get_one::<u16>("port").is_some();
+    if has_link || given.get_str("route").is_some() {
+        Some(Some(peer_of(given)?))
+    } else {
+        Some(None)
+    }
+}
+
+/// How the arguments say that a node asks; the address is not chosen yet.
+pub fn asking_of(given: &ArgMatches<'_>, shows_progress: bool) -> Asking
+    ensures { IsGiven given.now result }
+{
+    Asking {
+        host: EVERY_HOST,
+        timeout: patience_of(given),
+        output_format: manner_of(given),
+        records: records_of(given),
+        shows_progress,
+        has_names: false,
+        rounds: rounds_of(given),
+        window: number_of(given, "window"),
+    }
+}

@@ -1,0 +1,491 @@
+//! What `backup` and `restore` do: whole files of a peer, in a folder.
+ghost use Rattle.std.specs.Prelude.{IfErr};
+ghost use Rattle.bac_text.specs.Statuses.{IsStop};
+
+use crate::asking::Asking;
+use crate::client::Client;
+use crate::client_sockets::ClientSockets;
+use crate::file_news::{FileNews, print_news, print_not_read};
+use crate::file_task::{ChosenFiles, FileTask};
+use crate::folder::{Folder, MANIFEST};
+use crate::listed_files::{listed_files, objects_in};
+use crate::peer_file::{PeerFile, end_words};
+use crate::reasons::{print_bad_manifest, print_empty_manifest, print_no_files};
+use crate::whole_files::client_of;
+use crate::whole_reading::{Got, read_whole};
+use crate::whole_writing::write_whole;
+use bac_environment::{Environment, OpenFiles};
+use bac_files::{
+    Comparison, SavedFile, compare, digest_of, file_name, manifest_line, read_manifest_line,
+};
+use bac_npdu::Peer;
+use bac_text::{Status, no_memory};
+use bac_value::ObjectIdentifier;
+use std::alloc::{AllocError, Global};
+use std::io::Write;
+
+/// The files of a peer, and the folder that has them.
+#[derive(Drop)]
+struct Backup<'e, F, M: ClientSockets> {
+    asking: &'e Asking,
+    peer: Peer,
+    client: Client<'e, M>,
+    folder: Folder<'e, F>,
+}
+
+/// The words for an object in a request.
+fn object_words<E: Write>(
+    alloc: Global,
+    object: ObjectIdentifier,
+    err: &mut E,
+) -> Result<String, Status>
+    ensures told { IfErr result IsStop }
+{
+    let ObjectIdentifier { kind, instance, .. } = object;
+    match format!(in alloc; "{kind}:{instance}") {
+        Ok(words) => Ok(words),
+        Err(_) => Err(no_memory(err)),
+    }
+}
+
+/// The name of the file in a folder that has the octets of an object.
+fn name_in<E: Write>(alloc: Global, object: ObjectIdentifier, err: &mut E) -> Result<String, Status>
+    ensures told { IfErr result IsStop }
+{
+    let Ok(name) = file_name(alloc, object) else {
+        return Err(no_memory(err));
+    };
+    match std::str::from_utf8(&name) {
+        Ok(text) => match String::from_str(alloc, text) {
+            Ok(name) => Ok(name),
+            Err(_) => Err(no_memory(err)),
+        },
+        Err(_) => Err(no_memory(err)),
+    }
+}
+
+/// Adds the line of a file to a manifest.
+fn add_line(alloc: Global, file: &SavedFile, manifest: &mut Vec<u8>) -> Result<(), AllocError> {
+    let line = manifest_line(alloc, file)?;
+    manifest.extend_from_slice(&line)?;
+    manifest.push(b'\n')?;
+    Ok(())
+}
+
+/// Whether one of some files is that of an object.
+fn has_object(files: &[SavedFile], object: ObjectIdentifier) -> bool {
+    files.iter().any(|file| file.object == object)
+}
+
+/// The manifest of files that were saved, and of those of an earlier one that were not.
+fn manifest_of(
+    alloc: Global,
+    saved: &[SavedFile],
+    earlier: &[SavedFile],
+) -> Result<Vec<u8>, AllocError> {
+    let mut manifest = Vec::new(alloc);
+    for file in saved {
+        add_line(alloc, file, &mut manifest)?;
+    }
+    for file in earlier {
+        if !has_object(saved, file.object) {
+            add_line(alloc, file, &mut manifest)?;
+        }
+    }
+    Ok(manifest)
+}
+
+/// Whether octets are those of a saved file.
+fn are_saved(file: &SavedFile, octets: &[u8]) -> bool {
+    octets.len() as u64 == file.length && digest_of(octets) == file.digest
+}
+
+impl<F: OpenFiles, M: ClientSockets> Backup<'_, F, M> {
+    /// Reads a file of the peer as a whole.
+    fn read<E: Write>(&mut self, object: ObjectIdentifier, err: &mut E) -> Result<Got, Status>
+        ensures told { IfErr result IsStop }
+    {
+        let words = object_words(self.client.station.alloc, object, err)?;
+        let file = PeerFile {
+            peer: self.peer,
+            object: &words,
+        };
+        read_whole(self.asking, &mut self.client, &file, err)
+    }
+
+    /// Writes octets beside the file of the folder for an object, and reads them again. Answers what the manifest is to say of them, and whether the folder has them.
+    fn keep<E: Write>(
+        &self,
+        object: ObjectIdentifier,
+        octets: &[u8],
+        err: &mut E,
+    ) -> Result<(SavedFile, bool), Status>
+        ensures told { IfErr result IsStop }
+    {
+        let name = name_in(self.folder.alloc, object, err)?;
+        let there = self.folder.write_unfinished(&name, octets, err)?;
+        let file = SavedFile {
+            object,
+            length: octets.len() as u64,
+            digest: digest_of(octets),
+        };
+        let is_there = are_saved(&file, &there);
+        Ok((file, is_there))
+    }
+
+    /// Prints that the file of the folder for an object has other octets than it should.
+    fn print_damaged<O: Write, E: Write>(
+        &self,
+        object: ObjectIdentifier,
+        out: &mut O,
+        err: &mut E,
+    ) -> Result<(), Status>
+        ensures told { IfErr result IsStop }
+    {
+        let alloc = self.folder.alloc;
+        let name = name_in(alloc, object, err)?;
+        print_news(alloc, object, &FileNews::Damaged(&name), out, err)
+    }
+
+    /// Reads a file of the peer, and writes it beside that of the folder. Answers what the manifest is to say of it; None where it was not read or not written, which is printed.
+    fn save<O: Write, E: Write>(
+        &mut self,
+        object: ObjectIdentifier,
+        out: &mut O,
+        err: &mut E,
+    ) -> Result<Option<SavedFile>, Status>
+        ensures told { IfErr result IsStop }
+    {
+        let got = self.read(object, err)?;
+        if !got.is_whole {
+            print_not_read(self.folder.alloc, object, &got, out, err)?;
+            return Ok(None);
+        }
+        let (file, is_there) = self.keep(object, &got.octets, err)?;
+        if !is_there {
+            self.print_damaged(object, out, err)?;
+            return Ok(None);
+        }
+        Ok(Some(file))
+    }
+
+    /// Reads files of the peer, and writes them beside those of the folder, each once. Answers those that are there.
+    fn save_each<O: Write, E: Write>(
+        &mut self,
+        objects: &[ObjectIdentifier],
+        out: &mut O,
+        err: &mut E,
+    ) -> Result<Vec<SavedFile>, Status>
+        ensures told { IfErr result IsStop }
+    {
+        let mut saved = Vec::new(self.folder.alloc);
+        for object in objects {
+            if has_object(&saved, *object) {
+                continue;
+            }
+            if let Some(file) = self.save(*object, out, err)? {
+                if saved.push(file).is_err() {
+                    return Err(no_memory(err));
+                }
+            }
+        }
+        Ok(saved)
+    }
+
+    /// The files of the manifest that an earlier backup left in the folder; none where there is no manifest.
+    fn earlier<E: Write>(&self, err: &mut E) -> Result<Vec<SavedFile>, Status>
+        ensures told { IfErr result IsStop }
+    {
+        match self.folder.read_if_there(MANIFEST, err)? {
+            Some(text) => self.folder.files_in(&text, err),
+            None => Ok(Vec::new(self.folder.alloc)),
+        }
+    }
+
+    /// The names of files in the folder.
+    fn names_of<E: Write>(&self, saved: &[SavedFile], err: &mut E) -> Result<Vec<String>, Status>
+        ensures told { IfErr result IsStop }
+    {
+        let mut names = Vec::new(self.folder.alloc);
+        for file in saved {
+            let name = name_in(self.folder.alloc, file.object, err)?;
+            if names.push(name).is_err() {
+                return Err(no_memory(err));
+            }
+        }
+        Ok(names)
+    }
+
+    /// Puts files that were saved, and at last their manifest, in place of those of the folder. Files of an earlier manifest that were not saved now keep their lines.
+    fn finish<E: Write>(
+        &self,
+        saved: &[SavedFile],
+        earlier: &[SavedFile],
+        err: &mut E,
+    ) -> Result<(), Status>
+        ensures told { IfErr result IsStop }
+    {
+        let names = self.names_of(saved, err)?;
+        let Ok(manifest) = manifest_of(self.folder.alloc, saved, earlier) else {
+            return Err(no_memory(err));
+        };
+        let there = self.folder.write_unfinished(MANIFEST, &manifest, err)?;
+        if there != manifest {
+            return Err(self.folder.print_altered(MANIFEST, err));
+        }
+        for name in &names {
+            self.folder.finish(name, err)?;
+        }
+        self.folder.finish(MANIFEST, err)
+    }
+
+    /// Prints that files were saved.
+    fn print_saved<O: Write, E: Write>(
+        &self,
+        saved: &[SavedFile],
+        out: &mut O,
+        err: &mut E,
+    ) -> Result<(), Status>
+        ensures told { IfErr result IsStop }
+    {
+        for file in saved {
+            let news = FileNews::Saved(file.length);
+            print_news(self.folder.alloc, file.object, &news, out, err)?;
+        }
+        Ok(())
+    }
+
+    /// Saves files of the peer. Nothing of the folder changes until all of them are written beside those that are there; where none is saved, nothing changes. Prints which are saved once all of them are in place. Answers whether all were saved.
+    fn save_all<O: Write, E: Write>(
+        &mut self,
+        objects: &[ObjectIdentifier],
+        out: &mut O,
+        err: &mut E,
+    ) -> Result<bool, Status>
+        ensures told { IfErr result IsStop }
+    {
+        self.folder.make(err)?;
+        let earlier = self.earlier(err)?;
+        let saved = self.save_each(objects, out, err)?;
+        if !saved.is_empty() {
+            self.finish(&saved, &earlier, err)?;
+        }
+        self.print_saved(&saved, out, err)?;
+        Ok(objects.iter().all(|object| has_object(&saved, *object)))
+    }
+
+    /// Writes the octets of a file of the folder into that of the peer. Answers whether all were written; prints why not.
+    fn put<O: Write, E: Write>(
+        &mut self,
+        object: ObjectIdentifier,
+        octets: &[u8],
+        out: &mut O,
+        err: &mut E,
+    ) -> Result<bool, Status>
+        ensures told { IfErr result IsStop }
+    {
+        let alloc = self.folder.alloc;
+        let words = object_words(alloc, object, err)?;
+        let file = PeerFile {
+            peer: self.peer,
+            object: &words,
+        };
+        let put = write_whole(self.asking, &mut self.client, &file, octets, err)?;
+        if put.is_whole {
+            return Ok(true);
+        }
+        let Ok(why) = end_words(alloc, &put.last) else {
+            return Err(no_memory(err));
+        };
+        let news = FileNews::NotPut(put.count, octets.len(), &why);
+        print_news(alloc, object, &news, out, err)?;
+        Ok(false)
+    }
+
+    /// Reads a file of the peer again, and prints whether it has the octets that were put into it. Answers whether it has.
+    fn compare<O: Write, E: Write>(
+        &mut self,
+        file: &SavedFile,
+        count: usize,
+        out: &mut O,
+        err: &mut E,
+    ) -> Result<bool, Status>
+        ensures told { IfErr result IsStop }
+    {
+        let alloc = self.folder.alloc;
+        let got = self.read(file.object, err)?;
+        if !got.is_whole {
+            print_not_read(alloc, file.object, &got, out, err)?;
+            return Ok(false);
+        }
+        let there = got.octets.len();
+        let comparison = compare(count, &file.digest, &got.octets);
+        let news = match comparison {
+            Comparison::Same => FileNews::Restored(count),
+            Comparison::Longer => FileNews::Longer(count, there),
+            Comparison::Differs => FileNews::Differs(count, there),
+        };
+        print_news(alloc, file.object, &news, out, err)?;
+        Ok(comparison == Comparison::Same)
+    }
+
+    /// The octets of a file of the folder that is to have so many, and one more where it is longer; None where it cannot be read, which `err` says: the others can
+    /// be restored.
+    fn kept<E: Write>(
+        &self,
+        name: &str,
+        length: u64,
+        err: &mut E,
+    ) -> Result<Option<Vec<u8>>, Status>
+        ensures told { IfErr result IsStop }
+    {
+        match self.folder.read_front(name, length.saturating_add(1), err) {
+            Ok(octets) => Ok(Some(octets)),
+            Err(Status::CommandLine) => Ok(None),
+            Err(status) => Err(status),
+        }
+    }
+
+    /// Writes a file of the folder back, and reads it again. Answers whether the peer has it then.
+    fn restore<O: Write, E: Write>(
+        &mut self,
+        file: &SavedFile,
+        out: &mut O,
+        err: &mut E,
+    ) -> Result<bool, Status>
+        ensures told { IfErr result IsStop }
+    {
+        let name = name_in(self.folder.alloc, file.object, err)?;
+        let Some(octets) = self.kept(&name, file.length, err)? else {
+            return Ok(false);
+        };
+        if !are_saved(file, &octets) {
+            self.print_damaged(file.object, out, err)?;
+            return Ok(false);
+        }
+        if !self.put(file.object, &octets, out, err)? {
+            return Ok(false);
+        }
+        self.compare(file, octets.len(), out, err)
+    }
+
+    /// Writes files of the folder back, one after the other. Answers whether the peer has all of them then.
+    fn restore_all<O: Write, E: Write>(
+        &mut self,
+        files: &[SavedFile],
+        out: &mut O,
+        err: &mut E,
+    ) -> Result<bool, Status>
+        ensures told { IfErr result IsStop }
+    {
+        let mut all = true;
+        for file in files {
+            let restored = self.restore(file, out, err)?;
+            all = all && restored;
+        }
+        Ok(all)
+    }
+}
+
+/// A client of the peer of a task, beside a folder.
+fn backup_in<'e, F: OpenFiles, M: ClientSockets, E: Write>(
+    environment: &Environment<'e, F, M>,
+    task: &'e FileTask,
+    path: &'e str,
+    err: &mut E,
+) -> Result<Backup<'e, F, M>, Status>
+    ensures told { IfErr result IsStop }
+{
+    let client = client_of(environment, &task.asking, err)?;
+    Ok(Backup {
+        asking: &task.asking,
+        peer: task.peer,
+        client,
+        folder: Folder {
+            alloc: environment.alloc,
+            files: environment.files,
+            path,
+        },
+    })
+}
+
+/// Saves files in a folder. Answers whether all were saved.
+pub(crate) fn back_up<F: OpenFiles, M: ClientSockets, O: Write, E: Write>(
+    environment: &Environment<'_, F, M>,
+    task: &FileTask,
+    chosen: ChosenFiles<'_, '_>,
+    path: &str,
+    out: &mut O,
+    err: &mut E,
+) -> Result<bool, Status>
+    ensures told { IfErr result IsStop }
+{
+    match chosen {
+        ChosenFiles::Named(words) => {
+            let named = objects_in(environment.alloc, words, err)?;
+            let mut backup = backup_in(environment, task, path, err)?;
+            backup.save_all(&named, out, err)
+        }
+        ChosenFiles::Listed(device) => {
+            let mut backup = backup_in(environment, task, path, err)?;
+            match listed_files(&task.asking, &mut backup.client, task.peer, device, err)? {
+                Some(listed) if listed.is_empty() => {
+                    print_no_files(err);
+                    Ok(false)
+                }
+                Some(listed) => backup.save_all(&listed, out, err),
+                None => Ok(false),
+            }
+        }
+    }
+}
+
+impl<F: OpenFiles> Folder<'_, F> {
+    /// The files of a manifest in it. A line of no such form: its number on `err`.
+    fn files_in<E: Write>(&self, text: &[u8], err: &mut E) -> Result<Vec<SavedFile>, Status>
+        ensures told { IfErr result IsStop }
+    {
+        let Ok(text) = std::str::from_utf8(text) else {
+            return Err(print_bad_manifest(self.path, 1, err));
+        };
+        let mut files = Vec::new(self.alloc);
+        for (place, line) in text.lines().enumerate() {
+            let Ok(read) = read_manifest_line(self.alloc, line) else {
+                return Err(no_memory(err));
+            };
+            let Some(file) = read else {
+                let number = place.saturating_add(1);
+                return Err(print_bad_manifest(self.path, number, err));
+            };
+            if files.push(file).is_err() {
+                return Err(no_memory(err));
+            }
+        }
+        Ok(files)
+    }
+}
+
+/// Writes the files of a folder back, and compares what the peer then has. Answers whether it has all of them.
+pub(crate) fn restore<F: OpenFiles, M: ClientSockets, O: Write, E: Write>(
+    environment: &Environment<'_, F, M>,
+    task: &FileTask,
+    path: &str,
+    out: &mut O,
+    err: &mut E,
+) -> Result<bool, Status>
+    ensures told { IfErr result IsStop }
+{
+    let folder = Folder {
+        alloc: environment.alloc,
+        files: environment.files,
+        path,
+    };
+    let text = folder.read(MANIFEST, err)?;
+    let files = folder.files_in(&text, err)?;
+    if files.is_empty() {
+        print_empty_manifest(path, err);
+        return Ok(false);
+    }
+    let mut backup = backup_in(environment, task, path, err)?;
+    backup.restore_all(&files, out, err)
+}

@@ -1,0 +1,119 @@
+//! What `backup` and `restore` print of a file.
+ghost use Rattle.std.specs.Prelude.{IfErr};
+ghost use Rattle.bac_text.specs.Statuses.{IsStop};
+
+use crate::peer_file::end_words;
+use crate::whole_reading::Got;
+use bac_text::{Status, no_memory, output_failed};
+use bac_value::{NoMemory, ObjectIdentifier};
+use bac_value_text::object_text;
+use std::alloc::Global;
+use std::io;
+use std::io::Write;
+
+/// What came of saving a file, or of restoring it.
+#[derive(Clone, Copy)]
+pub(crate) enum FileNews<'a> {
+    /// The folder has its octets, so many.
+    Saved(u64),
+    /// The peer has the octets of the folder, so many.
+    Restored(usize),
+    /// So many octets were put, and the peer has so many, of which the first are those.
+    Longer(usize, usize),
+    /// So many octets were put, and the peer has so many others.
+    Differs(usize, usize),
+    /// The file of that name in the folder does not have the octets of the manifest.
+    Damaged(&'a str),
+    /// So many octets were read, and not all, for that reason.
+    NotRead(usize, &'a [u8]),
+    /// So many octets of so many were put, for that reason.
+    NotPut(usize, usize, &'a [u8]),
+}
+
+/// Writes what came of it, without the reason that may stand behind.
+fn write_news<O: Write>(news: &FileNews<'_>, out: &mut O) -> io::Result<()> {
+    match news {
+        FileNews::Saved(count) => write!(out, "{count} octets saved"),
+        FileNews::Restored(count) => write!(out, "{count} octets restored"),
+        FileNews::Longer(count, there) => write!(
+            out,
+            "remains longer: {there} octets, of which the first {count} were written"
+        ),
+        FileNews::Differs(count, there) => {
+            write!(out, "differs: wrote {count} octets, read back {there}")
+        }
+        FileNews::Damaged(name) => write!(out, "{name} does not match the manifest"),
+        FileNews::NotRead(count, _) => { write!(out, "read stopped after {count} octets: ") }
+        FileNews::NotPut(written, count, _) => {
+            write!(out, "{written} of {count} octets were written: ")
+        }
+    }
+}
+
+/// The reason that stands behind.
+fn reason_of<'a>(news: &FileNews<'a>) -> &'a [u8] {
+    match news {
+        FileNews::NotRead(_, why) => *why,
+        FileNews::NotPut(_, _, why) => *why,
+        _ => &[],
+    }
+}
+
+fn write_line<O: Write>(
+    alloc: Global,
+    object: ObjectIdentifier,
+    news: &FileNews<'_>,
+    out: &mut O,
+) -> io::Result<()> {
+    let name = object_text(alloc, object)?;
+    out.write_all(name.as_slice())?;
+    out.write_all(b" ")?;
+    write_news(news, out)?;
+    out.write_all(reason_of(news))?;
+    out.write_all(b"\n")?;
+    out.flush()
+}
+
+/// Prints what came of a file, behind its name. Where that fails, `err` and the status say so.
+pub(crate) fn print_news<O: Write, E: Write>(
+    alloc: Global,
+    object: ObjectIdentifier,
+    news: &FileNews<'_>,
+    out: &mut O,
+    err: &mut E,
+) -> Result<(), Status>
+    ensures told { IfErr result IsStop }
+{
+    match write_line(alloc, object, news, out) {
+        Ok(()) => Ok(()),
+        Err(error) => Err(output_failed(err, &error)),
+    }
+}
+
+/// Why a file was not read to its end: what was wrong with its last part, or how the last read ended.
+fn reason_in(alloc: Global, got: &Got) -> Result<Vec<u8>, NoMemory> {
+    match got.fault {
+        Some(fault) => {
+            let text = format!(in alloc; "{fault}")?;
+            Ok(text.into_bytes())
+        }
+        None => end_words(alloc, &got.last),
+    }
+}
+
+/// Prints that a file was not read to its end, and why.
+pub(crate) fn print_not_read<O: Write, E: Write>(
+    alloc: Global,
+    object: ObjectIdentifier,
+    got: &Got,
+    out: &mut O,
+    err: &mut E,
+) -> Result<(), Status>
+    ensures told { IfErr result IsStop }
+{
+    let Ok(why) = reason_in(alloc, got) else {
+        return Err(no_memory(err));
+    };
+    let count = got.octets.len();
+    print_news(alloc, object, &FileNews::NotRead(count, &why), out, err)
+}

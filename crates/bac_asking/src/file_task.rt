@@ -1,0 +1,147 @@
+//! What is done with whole files of a peer: which words ask for that, and its status.
+ghost use Rattle.bac_asking.specs.WholeFiles.{IsFiled};
+
+use crate::asking::{Asking, asking_of, peer_of};
+use crate::backup::{back_up, restore};
+use crate::client_sockets::ClientSockets;
+use crate::reasons::print_no_whole_file;
+use crate::unsent::tell_unsent;
+use crate::whole_files::{get, put};
+use bac_environment::{Environment, OpenFiles};
+use bac_npdu::Peer;
+use bac_text::Status;
+use bac_value_text::object_in;
+use clap::ArgMatches;
+use std::io::Write;
+
+/// The instance that stands for a device of any instance (clause 15.5.2).
+const ANY_DEVICE: u64 = 4_194_303;
+
+/// Which files of a peer a backup saves.
+#[derive(Clone, Copy)]
+pub enum ChosenFiles<'m, 'a> {
+    /// The files that arguments name.
+    Named(&'m [&'a str]),
+    /// All files in the object-list of the device with this instance.
+    Listed(u64),
+}
+
+/// What is done with whole files of a peer.
+#[derive(Clone, Copy)]
+pub enum FileWork<'m, 'a> {
+    /// A file is read, and printed or written to the file at a path.
+    Get {
+        object: &'a str,
+        path: Option<&'a str>,
+    },
+    /// The octets of the file at a path are written into a file of the peer.
+    Put {
+        object: &'a str,
+        path: &'a str,
+    },
+    /// Files are saved in a folder.
+    BackUp {
+        chosen: ChosenFiles<'m, 'a>,
+        folder: &'a str,
+    },
+    /// The files of a folder are written back.
+    Restore(&'a str),
+    /// A file was to be written, but the arguments ask for no whole file.
+    Nothing,
+}
+
+/// How a peer is asked, and which peer.
+#[derive(Clone, Copy)]
+pub struct FileTask {
+    pub asking: Asking,
+    pub peer: Peer,
+}
+
+impl FileTask {
+    /// The same, but asked from the address of this machine that the peer sees, if the machine tells it.
+    pub fn from_source<M: ClientSockets>(self, machine: &M) -> FileTask {
+        FileTask {
+            asking: self.asking.towards(machine, self.peer),
+            peer: self.peer,
+        }
+    }
+}
+
+/// What the words of a request ask for of a whole file: `get T:I`, or `put T:I @FILE`; nothing but the first where a file is named to be written. None where
+/// they ask for no whole file.
+fn whole_work<'m, 'a>(words: &'m [&'a str], path: Option<&'a str>) -> Option<FileWork<'m, 'a>> {
+    match words {
+        ["get", object] if object_in(object.as_bytes()).is_some() => Some(FileWork::Get {
+            object: *object,
+            path,
+        }),
+        _ if path.is_some() => Some(FileWork::Nothing),
+        ["put", object, word] if object_in(object.as_bytes()).is_some() => Some(FileWork::Put {
+            object: *object,
+            path: word.strip_prefix('@')?,
+        }),
+        _ => None,
+    }
+}
+
+/// What the arguments of `ask` ask for of a whole file. None if they ask for none, or for rounds.
+pub fn work_of<'m, 'a>(given: &'m ArgMatches<'a>, asking: &Asking) -> Option<FileWork<'m, 'a>> {
+    if asking.rounds.is_some() {
+        return None;
+    }
+    whole_work(given.get_strs("WORDS")?, given.get_str("out"))
+}
+
+/// How the arguments of `backup` or `restore` say that a peer is asked. None if they name no node, or an address is invalid.
+pub fn file_task_of(given: &ArgMatches<'_>, shows_progress: bool) -> Option<FileTask> {
+    Some(FileTask {
+        asking: asking_of(given, shows_progress),
+        peer: peer_of(given)?,
+    })
+}
+
+/// What the arguments of `backup` ask for. None if they name no folder.
+pub fn backup_of<'m, 'a>(given: &'m ArgMatches<'a>) -> Option<FileWork<'m, 'a>> {
+    let folder = given.get_str("folder")?;
+    let chosen = match given.get_strs("OBJECTS") {
+        Some(objects) => ChosenFiles::Named(objects),
+        None => ChosenFiles::Listed(given.get_one("device").unwrap_or(ANY_DEVICE)),
+    };
+    Some(FileWork::BackUp { chosen, folder })
+}
+
+/// The status of what was done, with a fault or without, or of what stopped it.
+fn status_of(done: Result<bool, Status>) -> Status {
+    match done {
+        Ok(true) => Status::Done,
+        Ok(false) => Status::Faulty,
+        Err(status) => status,
+    }
+}
+
+/// Reads or writes whole files of a peer. Returns `Faulty` if a file was not read or written as a whole, or differs from what it is compared with.
+pub fn do_with_files<F: OpenFiles, M: ClientSockets, O: Write, E: Write>(
+    environment: &Environment<'_, F, M>,
+    task: &FileTask,
+    work: FileWork<'_, '_>,
+    out: &mut O,
+    err: &mut E,
+) -> Status
+    ensures { IsFiled result }
+{
+    let status = match work {
+        FileWork::Get { object, path } => {
+            status_of(get(environment, task, object, path, out, err))
+        }
+        FileWork::Put { object, path } => {
+            status_of(put(environment, task, object, path, out, err))
+        }
+        FileWork::BackUp { chosen, folder } => {
+            status_of(back_up(environment, task, chosen, folder, out, err))
+        }
+        FileWork::Restore(folder) => status_of(restore(environment, task, folder, out, err)),
+        FileWork::Nothing => print_no_whole_file(err),
+    };
+    tell_unsent(status, environment.machine, task.peer.link, err);
+    status
+}

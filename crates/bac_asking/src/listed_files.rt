@@ -1,0 +1,106 @@
+//! The files of a peer: those that words name, or those of its object-list.
+ghost use Rattle.std.specs.Prelude.{IfErr};
+ghost use Rattle.bac_text.specs.Statuses.{IsStop};
+
+use crate::asking::Asking;
+use crate::client::Client;
+use crate::client_sockets::ClientSockets;
+use crate::peer_file::{ask_words, end_words, reply_of};
+use bac_environment::print_bad_name;
+use bac_npdu::Peer;
+use bac_service::{AnyComplex, AnyReply, Reply};
+use bac_service_text::{BadWord, Wanted};
+use bac_text::{Status, no_memory};
+use bac_value::{NoMemory, ObjectIdentifier, Value, value_of};
+use bac_value_text::object_in;
+use std::alloc::Global;
+use std::io::Write;
+
+/// The number of the object type file (clause 21).
+const FILE: u16 = 10;
+
+/// The objects that words name. Words that name none: `bad words` on `err`, and which.
+pub(crate) fn objects_in<E: Write>(
+    alloc: Global,
+    words: &[&str],
+    err: &mut E,
+) -> Result<Vec<ObjectIdentifier>, Status>
+    ensures told { IfErr result IsStop }
+{
+    let mut objects = Vec::new(alloc);
+    for word in words {
+        let Some(object) = object_in(word.as_bytes()) else {
+            let bad = BadWord {
+                wanted: Wanted::Object,
+                word: Some(word.as_bytes()),
+            };
+            return Err(print_bad_name(alloc, bad, err));
+        };
+        if objects.push(object).is_err() {
+            return Err(no_memory(err));
+        }
+    }
+    Ok(objects)
+}
+
+/// The files among the objects of a reply; None where it has no values.
+fn files_in(
+    alloc: Global,
+    reply: Option<Reply<'_>>,
+) -> Result<Option<Vec<ObjectIdentifier>>, NoMemory> {
+    let Some(AnyReply::Complex(AnyComplex::PropertyRead(read))) = reply else {
+        return Ok(None);
+    };
+    let mut files = Vec::new(alloc);
+    let mut rest = read.values.elements();
+    for _ in 0..rest.octets.len() {
+        let Some((element, others)) = rest.split_first() else {
+            break;
+        };
+        if let Some(Value::ObjectIdentifier(id)) = value_of(alloc, element)? {
+            if id.kind == FILE {
+                files.push(id)?;
+            }
+        }
+        rest = others;
+    }
+    Ok(Some(files))
+}
+
+/// What stands behind how the ask for the list ended, where it was answered.
+const ADVICE: &[u8] =
+    b"--device N reads the list of device N; arguments such as file:1 name files\n";
+
+/// The files that a peer lists, in the object-list of the device with this instance. None where it does not answer with that: `err` says how the ask ended.
+pub(crate) fn listed_files<M: ClientSockets, E: Write>(
+    asking: &Asking,
+    client: &mut Client<'_, M>,
+    peer: Peer,
+    device: u64,
+    err: &mut E,
+) -> Result<Option<Vec<ObjectIdentifier>>, Status>
+    ensures told { IfErr result IsStop }
+{
+    let alloc = client.station.alloc;
+    let Ok(object) = format!(in alloc; "device:{device}") else {
+        return Err(no_memory(err));
+    };
+    let words = ["read", object.as_str(), "object-list"];
+    let asked = ask_words(asking, client, peer, &words, err)?;
+    let Ok(files) = files_in(alloc, reply_of(&asked.end)) else {
+        return Err(no_memory(err));
+    };
+    if files.is_none() {
+        let Ok(words) = end_words(alloc, &asked) else {
+            return Err(no_memory(err));
+        };
+        // if that fails too, only the status is left
+        let _ = err.write_all(b"object-list: ");
+        let _ = err.write_all(&words);
+        let _ = err.write_all(b"\n");
+        if reply_of(&asked.end).is_some() {
+            let _ = err.write_all(ADVICE);
+        }
+    }
+    Ok(files)
+}

@@ -1,0 +1,4 @@
+pub mod Files
+pub mod Sockets
+pub mod Limits
+pub mod Given

@@ -1,0 +1,4 @@
+pub mod Bounds
+pub mod Hosts
+pub mod Parts
+mod Examples

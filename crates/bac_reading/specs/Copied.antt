@@ -1,0 +1,35 @@
+-- What `decode` prints of datagrams in another form, or with their numbers.
+use Rattle.std.specs.Prelude.{ℕ, Bool, true, false, List, Option, Some, None, ⊤, codes}
+use Rattle.std.specs.Str.{bytes_eq}
+use Rattle.bac_forms.specs.Decoded.{IsFormDecoded}
+use Rattle.bac_forms.specs.Guess.{guess}
+use Rattle.bac_forms.specs.declared.form.Form.{Form}
+use Rattle.bac_text.specs.declared.status.Status.{Status}
+use Rattle.bac_reading.specs.Files.{IsPrintedFile}
+use Rattle.bac_reading.specs.declared.copied.Copied.{Copied}
+
+-- the form that is named, or the one that the text seems to have
+abbrev pub form_in : Option Form → (text : List ℕ) → Form
+form_in None text = guess text
+form_in (Some form) text = form
+
+abbrev pub AreDecodedIn : Copied → (text : List ℕ) → (old new : Option (List ℕ)) → Status → Type 0
+AreDecodedIn copied text old new s = IsFormDecoded (form_in copied.form text) copied.printing text old new s
+
+-- where the octets of the file are known
+abbrev pub IfKnown : Option (List ℕ) → (List ℕ → Type 0) → Type 0
+IfKnown None Says = ⊤
+IfKnown (Some text) Says = Says text
+
+abbrev pub IsCopiedFile : (IsAt : (path : List ℕ) → (content : Option (List ℕ)) → Type 0) → Copied → (path : List ℕ) → Status → (old new : Option (List ℕ)) → Type 0
+IsCopiedFile IsAt copied path s old new =
+    IsPrintedFile IsAt path s (λ content. IfKnown content (λ text. AreDecodedIn copied text old new s))
+
+abbrev pub IsCopiedBy : (IsAt : (path : List ℕ) → (content : Option (List ℕ)) → Type 0) → Copied → (is_input : Bool) → (text : List ℕ) → Status
+    → (old new : Option (List ℕ)) → Type 0
+IsCopiedBy IsAt copied true text s old new = IsCopiedFile IsAt copied text s old new
+IsCopiedBy IsAt copied false text s old new = AreDecodedIn copied text old new s
+
+-- the datagrams of the text were printed, or where the text is that of standard input those of it
+abbrev pub AreDecodedCopied : (IsAt : (path : List ℕ) → (content : Option (List ℕ)) → Type 0) → Copied → (text : List ℕ) → Status → (old new : Option (List ℕ)) → Type 0
+AreDecodedCopied IsAt copied text s old new = IsCopiedBy IsAt copied (bytes_eq text (codes "-")) text s old new

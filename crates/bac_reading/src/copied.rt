@@ -1,0 +1,101 @@
+//! `decode` of datagrams in another form than a datagram on each line, with their numbers, or in frames.
+ghost use Rattle.bac_reading.specs.Copied.{AreDecodedCopied, AreDecodedIn, IsCopiedFile};
+ghost use Rattle.bac_environment.specs.Files.{OnFile};
+
+use crate::lines::STANDARD_INPUT;
+use bac_environment::{OpenFiles, octets_of, opened};
+use bac_forms::{Form, Printing, decode_form_over, guess};
+use bac_text::Status;
+use clap::ArgMatches;
+use std::alloc::Global;
+use std::io::Write;
+
+/// How `decode` reads and prints datagrams.
+#[derive(Clone, Copy)]
+pub struct Copied {
+    /// Their form. None if it is to be guessed.
+    pub form: Option<Form>,
+    /// What is printed of them.
+    pub printing: Printing,
+}
+
+/// Whether the arguments of `decode` name a form, ask for numbers, or take frames.
+pub fn is_copied(given: &ArgMatches<'_>) -> bool {
+    given.get_flag("number") || given.get_flag("frame") || given.get_str("form").is_some()
+}
+
+/// The form that is named; None where it is to be found. None of it where the text names none.
+fn form_of(given: &ArgMatches<'_>) -> Option<Option<Form>> {
+    match given.get_str("form") {
+        None => Some(Some(Form::Hex)),
+        Some("auto") => Some(None),
+        Some(name) => Some(Some(Form::named(name)?)),
+    }
+}
+
+/// How the arguments of `decode` say that datagrams are read and printed. None if the form is invalid.
+pub fn copied_of(given: &ArgMatches<'_>) -> Option<Copied> {
+    let form = form_of(given)?;
+    let printing = Printing {
+        in_words: given.get_flag("text"),
+        numbered: given.get_flag("number"),
+        frames: given.get_flag("frame"),
+    };
+    Some(Copied { form, printing })
+}
+
+/// The layers of the datagrams of a text.
+fn decode_text<O: Write, E: Write>(
+    alloc: Global,
+    copied: Copied,
+    text: &[u8],
+    out: &mut O,
+    err: &mut E,
+) -> Status
+    ensures { AreDecodedIn copied text.now (O.contents out.old) (O.contents out.new) result }
+{
+    let form = match copied.form {
+        Some(form) => form,
+        None => guess(text),
+    };
+    decode_form_over(alloc, form, copied.printing, text, out, err)
+}
+
+/// The layers of the datagrams of a file. One that cannot be opened or read: `cannot read` on `err`.
+fn decode_file<F: OpenFiles, O: Write, E: Write>(
+    alloc: Global,
+    files: &F,
+    copied: Copied,
+    path: &str,
+    out: &mut O,
+    err: &mut E,
+) -> Status
+    ensures { IsCopiedFile (OnFile F.is_file F.File.remaining) copied path.now result (O.contents out.old) (O.contents out.new) }
+{
+    let file = match opened(files, path, err) {
+        Ok(file) => file,
+        Err(status) => return status,
+    };
+    match octets_of(alloc, path, file, err) {
+        Ok(text) => decode_text(alloc, copied, &text, out, err),
+        Err(status) => status,
+    }
+}
+
+/// Prints the layers of the datagrams in a text, or in standard input if the text is `-`.
+pub fn decode_copied<F: OpenFiles, O: Write, E: Write>(
+    alloc: Global,
+    files: &F,
+    copied: Copied,
+    datagrams: &str,
+    out: &mut O,
+    err: &mut E,
+) -> Status
+    ensures { AreDecodedCopied (OnFile F.is_file F.File.remaining) copied datagrams.now result (O.contents out.old) (O.contents out.new) }
+{
+    if datagrams == STANDARD_INPUT {
+        decode_file(alloc, files, copied, datagrams, out, err)
+    } else {
+        decode_text(alloc, copied, datagrams.as_bytes(), out, err)
+    }
+}

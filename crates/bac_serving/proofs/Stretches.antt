@@ -1,0 +1,69 @@
+-- Stretches of a server, one after the other.
+use Rattle.std.proofs.Common.{◌≡◌, ℕ, ◌+◌, true, List, ◌∷◌, Option, Some, IfSome, MatchOption, refl, ap, subst, ◌∙◌, inl, inr, arith, min}
+use Rattle.std.specs.Io.KnownBytes.{Appends}
+use Rattle.bac_driver.specs.BoundNodes.{BoundNode}
+use Rattle.bac_driver.specs.Moments.{Told, with_moment}
+use Rattle.bac_driver.specs.Runs.{Timed, timed}
+use Rattle.bac_driver.specs.Serving.{IsBefore, IsOver, Serves}
+use Rattle.bac_driver.specs.Waits.{MOST}
+use Rattle.bac_driver.specs.declared.wait_limit.WaitLimit.{WaitLimit}
+use Rattle.bac_store.specs.Stores.{Store}
+use Rattle.bac_commands.specs.Reports.{served_line}
+use Rattle.bac_serving.specs.Looking.{AreTaken, IsChanged, IsServer, ServesLooking, TakesStretch, TakesStretches, stop_limit, stop_of, stretch_limit}
+use Rattle.bac_environment.specs.Sockets.{Clocks, Links}
+use Rattle.bac_serving.specs.declared.looking.Stop.{Stop}
+use Rattle.bac_serving.specs.declared.looking.Stretch.{Stretch}
+use Rattle.bac_serving.specs.declared.serving.Serving.{Serving}
+
+-- a stretch whose limit is that of its beginning
+pub one_taken : (stop : Option ℕ) (began turns effects : ℕ) (limit : WaitLimit) (old new : BoundNode) (before looked middle after : Told) (served : BoundNode)
+    → looked ≡ with_moment before began → IsBefore began stop → turns ≡ MOST → limit ≡ stretch_limit began stop
+    → Serves limit turns effects (timed old looked) (timed served middle) → IsChanged served new
+    → TakesStretch stop (timed old before) effects (timed new after)
+one_taken stop began turns effects limit old new before looked middle after served told early most is serves changed =
+    record {
+      began = began;
+      early = early;
+      middle = timed served middle;
+      serves =
+          subst (λ (t : Told). Serves (stretch_limit began stop) MOST effects (timed old t) (timed served middle)) told
+          (subst (λ (n : ℕ). Serves (stretch_limit began stop) n effects (timed old looked) (timed served middle)) most
+          (subst (λ (p : WaitLimit). Serves p turns effects (timed old looked) (timed served middle)) is serves));
+      changed = changed;
+    }
+
+-- one more, behind those so far
+pub with_more : (stop : Option ℕ) (count effects sum : ℕ) (old middle new : Timed) (found : Option Stretch) (stretch : Stretch) → found ≡ Some stretch
+    → MatchOption found (IsOver (stop_limit stop) middle new) (λ s. TakesStretch stop middle s.effects new) → AreTaken stop count effects old middle
+    → sum ≡ min (effects + stretch.effects) MOST → AreTaken stop (count + 1) sum old new
+with_more stop count effects sum old middle new found stretch is takes so_far added =
+    let takes : TakesStretch stop middle stretch.effects new =
+    subst (λ (f : Option Stretch). MatchOption f (IsOver (stop_limit stop) middle new) (λ s. TakesStretch stop middle s.effects new)) is takes in
+    record {
+      stretches = stretch.effects ∷ so_far.stretches;
+      all = omega (arith, so_far.all);
+      runs = record { middle = middle; so_far = so_far.runs; last = takes };
+      counted = added ∙ ap (λ (n : ℕ). min (n + stretch.effects) MOST) so_far.counted;
+    }
+
+-- the last of them, with which a server stops that stops with standard input
+pub until_input : (stop : Stop) {count effects : ℕ} {old new : Timed} (found : Option Stretch) (stretch : Stretch) → found ≡ Some stretch → stretch.is_last ≡ true
+    → IfSome found (λ s. s.is_last ≡ true → stop.with_input ≡ true) → AreTaken stop.at count effects old new → TakesStretches stop effects old new
+until_input stop {count} {new = new} found stretch is last input taken =
+    let told = subst (λ (f : Option Stretch). IfSome f (λ s. s.is_last ≡ true → stop.with_input ≡ true)) is input in
+    record { count = count; last = new; taken = taken; stopped = inr (refl, inl (told last)) }
+
+-- a server that began at a moment stops as its words say
+pub serves_so : {IsOn : Links} {IsClock : Clocks} {serving : Serving} {old new : Option (List ℕ)} {document : Store} (start effects : ℕ) (before after : Timed)
+    (stop : Stop) → IsServer IsOn IsClock serving document start before → stop ≡ stop_of serving start → TakesStretches stop effects before after
+    → Appends old new (served_line effects) → ServesLooking IsOn IsClock serving old new document
+serves_so {serving = serving} start effects before after stop server is takes printed =
+    record {
+      start = start;
+      before = before;
+      after = after;
+      server = server;
+      effects = effects;
+      takes = subst (λ (s : Stop). TakesStretches s effects before after) is takes;
+      printed = printed;
+    }

@@ -1,0 +1,15 @@
+-- What it keeps is told, and nothing changes.
+use Rattle.bac_serving.proofs.Opened.{clean_before, store_still}
+use Rattle.bac_serving.proofs.keeping.keeper_over.Goals as goal
+
+pub returns-in-Ok-tell_idle-clause-store : goal.returns-in-Ok-tell_idle-clause-store
+returns-in-Ok-tell_idle-clause-store g c =
+    store_still g.S.Store.view c.args.database c.args.document c.in-Ok.opened.1 c.in-Ok.opened.0.database c.tell_idle.new.keeper.database
+    c.tell_idle.ensures.honest c.in-Ok-tell_idle.ensures.open c.in-Ok-tell_idle.ensures.noted c.in-Ok-tell_idle.ensures.kept
+    (record {
+      honest = λ clean. clean_before _ _ c.in-Ok.ensures.honest clean;
+      ready = c.in-Ok.ensures.open;
+      found = c.in-Ok.ensures.found;
+      kept = c.in-Ok.ensures.kept;
+      noted = c.in-Ok.ensures.noted;
+    })

@@ -1,0 +1,112 @@
+-- What `serve --keep` and `keep` print, and their statuses.
+use Rattle.std.specs.Prelude.{◌≡◌, ◌||◌, ℕ, Bool, not, List, Option, None, Some, IfSome}
+use Rattle.std.specs.Io.KnownBytes.{Keeps}
+use Rattle.sqlite_trees.specs.Tree.{Trees}
+use Rattle.sqlite_trees.specs.View.{IsClean, View}
+use Rattle.bac_store.specs.House.{house}
+use Rattle.bac_store.specs.Stores.{Store}
+use Rattle.bac_keep.specs.Overlay.{overlay}
+use Rattle.bac_keep_file.specs.Rows.{cells_of}
+use Rattle.bac_keep_file.specs.Settling.{MayFind}
+use Rattle.bac_keep_file.specs.Steps.{IsReady}
+use Rattle.bac_text.specs.declared.status.Status.{Status}
+use Rattle.bac_driver.specs.Runs.{Timed}
+use Rattle.bac_commands.specs.Houses.{server_node}
+use Rattle.bac_commands.specs.Kept.{AllIsKept, RoundsText}
+use Rattle.bac_commands.specs.Statuses.{ByStatus}
+use Rattle.bac_environment.specs.Files.{OfFile}
+use Rattle.bac_environment.specs.Sockets.{Clocks, IsAt, Links}
+use Rattle.bac_serving.specs.Online.{HasTold}
+use Rattle.bac_serving.specs.Serving.{patience_of, restart_of}
+use Rattle.bac_environment.specs.Limits.{turns_of}
+use Rattle.bac_serving.specs.Stores.{MeansStore}
+use Rattle.bac_serving.specs.declared.serving.Serving.{Serving}
+
+-- ---- the document
+
+-- the house, or a store that a file at the path means
+abbrev pub IsDocument : (IsFile : (path : List ℕ) → (content : Option (List ℕ)) → Type 0) → (objects : Option (List ℕ)) → Store → Type 0
+IsDocument IsFile None document = document ≡ house
+IsDocument IsFile (Some path) document = OfFile IsFile path (λ content. MeansStore content document)
+
+-- this is so of it
+pub record OfDocument (IsFile : (path : List ℕ) → (content : Option (List ℕ)) → Type 0) (objects : Option (List ℕ)) (Says : Store → Type 0) : Type 0 where
+  pub document : Store
+  pub is : IsDocument IsFile objects document
+  pub says : Says document
+
+-- ---- the database
+
+-- a database that was opened, over a document: as long as it is honest, it was so at first, it has committed what makes the store, and nothing waits for a commit
+pub record HasStore {D : Type 0} (view : D → View) (opened : D) (document store : Store) (database : D) : Type 0 where
+  pub honest : IsClean (view database) → IsClean (view opened)
+  pub ready : IsClean (view database) → IsReady (view database)
+  pub found : IsClean (view database) → store ≡ overlay (cells_of (view opened).committed) document
+  pub kept : IsClean (view database) → overlay (cells_of (view database).committed) document ≡ store
+  pub noted : IsClean (view database) → overlay (cells_of (view database).trees) document ≡ store
+
+-- a database that the machine opened at a path, and that is so in the end: as long as it is honest, it was so at first, the first store is what it had
+-- committed over the document, and the next start, over that document, finds the last one, whatever a power cut leaves
+pub record OnDatabase {D : Type 0} (IsDatabase : (path : List ℕ) → (is_new : Bool) → D → Type 0) (view : D → View) (recovers : D → Trees → Type 0)
+    (path : List ℕ) (is_new : Bool) (document first last : Store) : Type 0 where
+  pub opened : D
+  pub made : IsDatabase path is_new opened
+  pub ended : D
+  pub honest : IsClean (view ended) → IsClean (view opened)
+  pub found : IsClean (view ended) → first ≡ overlay (cells_of (view opened).committed) document
+  pub kept : IsClean (view ended) → (s : Store) → MayFind recovers ended document s → s ≡ last
+
+-- What follows takes such a relation.
+abbrev pub Databases : Type 1
+Databases = (path : List ℕ) → (is_new : Bool) → (document first last : Store) → Type 0
+
+-- ---- serving
+
+-- a keeper, which began as that one, keeps a store, over what it lay over at first; if one is given back, it is this one
+pub record EndsWith {K B : Type 0} (IsHonest IsOpen : K → Type 0) (kept noted : K → Store) (base : K → B) (first : K) (back : Option K) (store : Store) : Type 0 where
+  pub last : K
+  pub same : IfSome back (λ k. k ≡ last)
+  pub honest : IsHonest last → IsHonest first
+  pub same_base : base last ≡ base first
+  pub all : AllIsKept IsHonest IsOpen kept noted last store
+
+-- a node with a store served in rounds from a moment on, how many requests it performed was printed, and this is so of its store in the end
+pub record ServesStore (store : Store) (IsOn : Links) (IsClock : Clocks) (serving : Serving) (Ends : Store → Type 0) (old new : Option (List ℕ)) : Type 0 where
+  pub start : ℕ
+  pub before : Timed
+  pub after : Timed
+  pub node :
+      IsAt IsOn serving.host serving.port (λ address. server_node serving.slots (restart_of serving.restarted start) address store) serving.rules
+      before.bound_node
+  pub clock : HasTold IsClock start before.told
+  pub text : RoundsText (patience_of serving start) (turns_of serving.turns) before after old new
+  pub ends : Ends after.bound_node.node.store
+
+abbrev pub IsServedInRounds : Store → Links → Clocks → Status → Serving → (Ends : Store → Type 0) → (old new : Option (List ℕ)) → Type 0
+IsServedInRounds store IsOn IsClock s serving Ends old new = ByStatus s (ServesStore store IsOn IsClock serving Ends old new) ⊥ (Keeps old new)
+
+-- a server whose database is not new restarts
+abbrev pub restarted_by : (is_new : Bool) → Serving → Serving
+restarted_by is_new serving = record serving { restarted = serving.restarted || not is_new }
+
+-- over the document a node served with the store that a database at the path keeps
+pub record ServesKept (IsOnDatabase : Databases) (IsOn : Links) (IsClock : Clocks) (serving : Serving) (path : List ℕ) (old new : Option (List ℕ))
+    (document : Store) : Type 0 where
+  pub is_new : Bool
+  pub first : Store
+  pub serves : ServesStore first IsOn IsClock (restarted_by is_new serving) (IsOnDatabase path is_new document first) old new
+
+-- where the command line is refused, nothing was printed
+abbrev pub IsServedOver : Databases → Links → Clocks → Status → Serving → (path : List ℕ) → (document : Store) → (old new : Option (List ℕ)) → Type 0
+IsServedOver IsOnDatabase IsOn IsClock s serving path document old new =
+    ByStatus s (ServesKept IsOnDatabase IsOn IsClock serving path old new document) ⊥ (Keeps old new)
+
+abbrev pub IsServedKept : (IsFile : (path : List ℕ) → (content : Option (List ℕ)) → Type 0) → (objects : Option (List ℕ)) → Databases → Links → Clocks
+    → Status → Serving → (path : List ℕ) → (old new : Option (List ℕ)) → Type 0
+IsServedKept IsFile objects IsOnDatabase IsOn IsClock s serving path old new =
+    ByStatus s (OfDocument IsFile objects (ServesKept IsOnDatabase IsOn IsClock serving path old new)) ⊥ (Keeps old new)
+
+-- ---- listing: what is printed stands in Listing
+
+abbrev pub IsListed : Status → (old new : Option (List ℕ)) → Type 0
+IsListed s old new = ByStatus s (Unit {0}) ⊥ (Keeps old new)

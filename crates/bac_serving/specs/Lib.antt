@@ -1,0 +1,9 @@
+pub mod Serving
+pub mod GivenGuard
+pub mod GivenServing
+pub mod Looking
+pub mod Online
+pub mod Stores
+pub mod Forgetting
+pub mod Keeping
+pub mod Listing

@@ -1,0 +1,31 @@
+-- How a node is to serve.
+use Rattle.std.specs.Prelude.{ℕ, ◌*◌, min, Bool, true, false, not, Option, Some, None}
+use Rattle.bac_driver.specs.Waits.{MOST}
+use Rattle.bac_driver.specs.declared.wait_limit.WaitLimit.{WaitLimit}
+use Rattle.bac_transaction.specs.Given.{ANEW, STRICTLY}
+use Rattle.bac_transaction.specs.declared.rules.Rules.{Rules}
+use Rattle.bac_environment.specs.Limits.{until_of}
+use Rattle.bac_serving.specs.declared.serving.Serving.{Serving}
+
+-- how long its turns wait: 100 ms where it takes so many, otherwise until something is due
+abbrev pub wait_of : (turns : Option ℕ) → ℕ
+wait_of None = MOST
+wait_of (Some turns) = 100
+
+abbrev pub patience_of : Serving → (start : ℕ) → WaitLimit
+patience_of serving start = record { wait = wait_of serving.turns; until = until_of serving.seconds start }
+
+abbrev pub restart_of : (restarted : Bool) → (start : ℕ) → Option ℕ
+restart_of true start = Some start
+restart_of false start = None
+
+-- whether it lets clients use invoke IDs again: in a run of so many turns where it is told to, otherwise unless it is strict
+abbrev pub is_reusing : (turns : Option ℕ) → (is_told is_strict : Bool) → Bool
+is_reusing None is_told is_strict = not is_strict
+is_reusing (Some turns) is_told is_strict = is_told
+
+-- its rules, where it keeps so many octets at the most; it then remembers a request for so many seconds, where they are given
+abbrev pub rules_by : (is_reusing : Bool) → (seconds : Option ℕ) → (memory : ℕ) → Rules
+rules_by true (Some seconds) memory = record ANEW { remember = Some (min (seconds * 1000) MOST); memory = Some memory }
+rules_by true None memory = record ANEW { memory = Some memory }
+rules_by false seconds memory = record STRICTLY { memory = Some memory }

@@ -1,0 +1,354 @@
+//! A document that a server follows: it is read again, and where it changed the node gets the values that it changed.
+ghost use Rattle.bac_serving.specs.Looking.{IsChanged};
+
+use crate::fault_lines::{FaultTime, print_fault_objects};
+use crate::listing::kept_words;
+use crate::part_words::print_about;
+use crate::reasons::print_document_fault;
+use bac_commands::{LevelLog, LogFormat};
+use bac_driver::{BoundNode, Clock, Link};
+use bac_environment::{OpenFiles, Station};
+use bac_follow::{Documents, FollowFault, changes_between};
+use bac_keep_json::KeptPart;
+use bac_log_json::LogEvent;
+use bac_objects::{DocumentFault, read_object_list, read_objects};
+use bac_store::{Change, ChangeFault, Object, Store};
+use bac_text::no_memory;
+use bac_value::NoMemory;
+use std::alloc::Global;
+use std::io;
+use std::io::{ErrorKind, Read, Write};
+
+/// A document that a server follows.
+#[derive(Drop)]
+pub(crate) struct Followed<'p> {
+    alloc: Global,
+    path: &'p str,
+    /// The octets that were read last; None where the file could not be read.
+    octets: Option<Vec<u8>>,
+    /// The store that the document meant when its values were last given to the node.
+    store: Store,
+    /// The objects that it listed then.
+    objects: Vec<Object>,
+}
+
+/// Why a document is not followed now, apart from memory.
+#[derive(Drop)]
+enum Refusal {
+    /// It means no store.
+    Wrong(DocumentFault),
+    /// The served objects cannot follow it.
+    Unfit(FollowFault),
+}
+
+/// What a document as it is now changes.
+#[derive(Drop)]
+struct News {
+    store: Store,
+    objects: Vec<Object>,
+    changes: Vec<Change>,
+}
+
+/// All octets of a file.
+fn octets_at<F: OpenFiles>(alloc: Global, files: &F, path: &str) -> io::Result<Vec<u8>> {
+    let mut file = files.open(path)?;
+    let mut octets = Vec::new(alloc);
+    file.read_to_end(&mut octets)?;
+    Ok(octets)
+}
+
+/// The objects that a document lists which means a store.
+fn objects_in(alloc: Global, octets: &[u8]) -> Result<Vec<Object>, NoMemory> {
+    match read_object_list(alloc, octets) {
+        Ok(objects) => Ok(objects),
+        Err(_) => Err(NoMemory),
+    }
+}
+
+/// What the octets of a document change of the store that it meant before, when it listed those objects. `NoMemory` where that is refused.
+fn news_in(
+    alloc: Global,
+    before: &Store,
+    served: &[Object],
+    octets: &[u8],
+) -> Result<Result<News, Refusal>, NoMemory> {
+    let store = match read_objects(alloc, octets) {
+        Ok(store) => store,
+        Err(DocumentFault::NoMemory) => return Err(NoMemory),
+        Err(fault) => return Ok(Err(Refusal::Wrong(fault))),
+    };
+    let objects = objects_in(alloc, octets)?;
+    let documents = Documents {
+        before,
+        now: &store,
+    };
+    match changes_between(alloc, documents, served, &objects) {
+        Ok(changes) => Ok(Ok(News {
+            store,
+            objects,
+            changes,
+        })),
+        Err(FollowFault::NoMemory) => Err(NoMemory),
+        Err(fault) => Ok(Err(Refusal::Unfit(fault))),
+    }
+}
+
+/// Tells that the served objects cannot follow a document, and why.
+fn print_unfit<E: Write>(alloc: Global, path: &str, fault: FollowFault, err: &mut E) {
+    // if that fails too, nothing is printed
+    match fault {
+        FollowFault::Cannot {
+            object,
+            property,
+            fault,
+        } => {
+            let served = match fault {
+                ChangeFault::NoSuchObject | ChangeFault::NoSuchProperty => " is served",
+                _ => "",
+            };
+            if let Ok(why) = format!(in alloc;
+                "{fault}{served}: not followed; restart the server"
+            ) {
+                let _ = print_about(alloc, path, object, property, &why, err);
+            }
+        }
+        FollowFault::Other {
+            object: Some(object),
+        } => {
+            if let Ok(why) = format!(in alloc; "{fault}: not followed; restart the server") {
+                let _ = print_about(alloc, path, object, None, &why, err);
+            }
+        }
+        fault => {
+            let _ = writeln!(err, "{path}: {fault}: not followed; restart the server");
+        }
+    }
+}
+
+/// Tells why a document, whose octets those are, is not followed now.
+fn print_refusal<E: Write>(
+    alloc: Global,
+    path: &str,
+    octets: &[u8],
+    refusal: Refusal,
+    err: &mut E,
+) {
+    match refusal {
+        Refusal::Wrong(fault) => {
+            let _ = print_document_fault(alloc, path, octets, &fault, err);
+        }
+        Refusal::Unfit(fault) => print_unfit(alloc, path, fault, err),
+    }
+}
+
+/// What the document gave to a property or a file.
+fn part_of(change: &Change) -> KeptPart<'_> {
+    match change {
+        Change::Value {
+            object,
+            property,
+            octets,
+        } => KeptPart::Values {
+            object: *object,
+            property: *property,
+            octets: octets.as_slice(),
+        },
+        Change::File { object, octets } => KeptPart::File {
+            object: *object,
+            length: octets.len() as u64,
+        },
+    }
+}
+
+/// The node makes a change, and the log tells it.
+fn make<L: Link, E: Write>(
+    alloc: Global,
+    moment: u64,
+    bound_node: &mut BoundNode<L>,
+    change: &Change,
+    log: &mut LevelLog,
+    err: &mut E,
+) -> Result<(), ChangeFault>
+    ensures { IsChanged bound_node.old bound_node.new }
+{
+    let part = part_of(change);
+    let words = if log.is_on() {
+        kept_words(alloc, part)?
+    } else {
+        Vec::new(alloc)
+    };
+    bound_node.change(change)?;
+    let words = words.as_slice();
+    log.write_event(moment, LogEvent::Document { part, words }, err);
+    Ok(())
+}
+
+impl<'p> Followed<'p> {
+    /// The document at a path, whose octets mean that store.
+    pub(crate) fn new(
+        alloc: Global,
+        path: &'p str,
+        octets: Vec<u8>,
+        store: &Store,
+    ) -> Result<Followed<'p>, NoMemory> {
+        let store = store.copy(alloc)?;
+        let objects = objects_in(alloc, &octets)?;
+        Ok(Followed {
+            alloc,
+            path,
+            octets: Some(octets),
+            store,
+            objects,
+        })
+    }
+
+    /// Whether the octets are those that were read last.
+    fn has_read(&self, octets: &[u8]) -> bool {
+        match &self.octets {
+            Some(last) => last.as_slice() == octets,
+            None => false,
+        }
+    }
+
+    /// The node makes the changes of the document, in order. At a fault the rest is left for the next look.
+    fn make_all<L: Link, C: Clock, E: Write>(
+        &mut self,
+        station: &mut Station<L, C>,
+        news: News,
+        log: &mut LevelLog,
+        err: &mut E,
+    ) -> Result<(), ChangeFault>
+        ensures { IsChanged station.old.bound_node station.new.bound_node }
+    {
+        let News {
+            store,
+            objects,
+            changes,
+        } = news;
+        let moment = station.clock.now();
+        for change in &changes {
+            make(
+                station.alloc,
+                moment,
+                &mut station.bound_node,
+                change,
+                log,
+                err,
+            )?;
+        }
+        self.store = store;
+        self.objects = objects;
+        Ok(())
+    }
+
+    /// Tells why the document, whose octets those are, is not followed now: in the form of the log.
+    fn tell<C: Clock, E: Write>(
+        &self,
+        clock: &mut C,
+        octets: &[u8],
+        refusal: Refusal,
+        format: LogFormat,
+        err: &mut E,
+    ) {
+        match format {
+            LogFormat::Lines => print_refusal(self.alloc, self.path, octets, refusal, err),
+            LogFormat::Objects { epoch } => {
+                let mut text = Vec::new(self.alloc);
+                print_refusal(self.alloc, self.path, octets, refusal, &mut text);
+                let moment = clock.now();
+                print_fault_objects(self.alloc, FaultTime { moment, epoch }, &text, err);
+            }
+        }
+    }
+
+    /// Takes the octets of the document that are new. An Err is out of memory: then they are tried again at the next look.
+    fn take<L: Link, C: Clock, E: Write>(
+        &mut self,
+        station: &mut Station<L, C>,
+        octets: &[u8],
+        format: LogFormat,
+        log: &mut LevelLog,
+        err: &mut E,
+    ) -> Result<(), NoMemory>
+        ensures { IsChanged station.old.bound_node station.new.bound_node }
+    {
+        match news_in(station.alloc, &self.store, &self.objects, octets)? {
+            Ok(news) => match self.make_all(station, news, log, err) {
+                Ok(()) => Ok(()),
+                Err(_) => Err(NoMemory),
+            },
+            Err(refusal) => {
+                self.tell(&mut station.clock, octets, refusal, format, err);
+                Ok(())
+            }
+        }
+    }
+
+    /// Tells that the file cannot be read: in the form of the log.
+    fn tell_unread<C: Clock, E: Write>(
+        &self,
+        clock: &mut C,
+        error: &io::Error,
+        format: LogFormat,
+        err: &mut E,
+    ) {
+        let path = self.path;
+        // if that fails, nothing is printed
+        match format {
+            LogFormat::Lines => {
+                let _ = writeln!(err, "cannot read\n{path}: {error}");
+            }
+            LogFormat::Objects { epoch } => {
+                if let Ok(text) = format!(in self.alloc; "{path}: {error}") {
+                    let moment = clock.now();
+                    let at = FaultTime { moment, epoch };
+                    print_fault_objects(self.alloc, at, text.as_bytes(), err);
+                }
+            }
+        }
+    }
+
+    /// Tells once that the file cannot be read.
+    fn print_unread<C: Clock, E: Write>(
+        &mut self,
+        clock: &mut C,
+        error: &io::Error,
+        format: LogFormat,
+        err: &mut E,
+    ) {
+        if error.kind() == ErrorKind::OutOfMemory {
+            let _ = no_memory(err);
+            return;
+        }
+        if self.octets.is_some() {
+            self.tell_unread(clock, error, format, err);
+        }
+        self.octets = None;
+    }
+
+    /// Looks at the document. If it has other octets than before, the node makes its changes; a document that is wrong is told once, and nothing changes.
+    pub(crate) fn look<F: OpenFiles, L: Link, C: Clock, E: Write>(
+        &mut self,
+        files: &F,
+        station: &mut Station<L, C>,
+        format: LogFormat,
+        log: &mut LevelLog,
+        err: &mut E,
+    )
+        ensures { IsChanged station.old.bound_node station.new.bound_node }
+    {
+        let octets = match octets_at(station.alloc, files, self.path) {
+            Ok(octets) => octets,
+            Err(error) => return self.print_unread(&mut station.clock, &error, format, err),
+        };
+        if self.has_read(&octets) {
+            return;
+        }
+        match self.take(station, &octets, format, log, err) {
+            Ok(()) => self.octets = Some(octets),
+            Err(_) => {
+                let _ = no_memory(err);
+            }
+        }
+    }
+}

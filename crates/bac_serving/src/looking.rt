@@ -1,0 +1,330 @@
+//! `serve --follow` and `serve --until-eof`: serving in stretches of at most a second, between which a server looks at its document and at standard input.
+ghost use Rattle.std.specs.Prelude.{◌≡◌, ◌≤◌, true, IfErr, IfOk, IfSome, IsTrue, MatchBool, MatchOption};
+ghost use Rattle.std.specs.Option.{option_map};
+ghost use Rattle.bac_commands.specs.Statuses.{ByStatus};
+ghost use Rattle.std.specs.Io.KnownBytes.{Keeps};
+ghost use Rattle.bac_driver.specs.Runs.{timed};
+ghost use Rattle.bac_driver.specs.Serving.{IsBefore, IsOver};
+ghost use Rattle.bac_driver.specs.Waits.{MOST};
+ghost use Rattle.bac_text.specs.Statuses.{IsFailure, IsStop};
+ghost use Rattle.bac_environment.specs.Files.{OfFile, OnFile};
+ghost use Rattle.bac_serving.specs.Keeping.{IsDocument};
+ghost use Rattle.bac_serving.specs.Looking.{IsChanged, IsServedLooking, IsServer, ServesLooking, TakesStretch, TakesStretches, stop_limit, stop_of, stretch_limit};
+ghost use Rattle.bac_environment.specs.Sockets.{OnClock, OnPort};
+ghost use Rattle.bac_serving.specs.Stores.{MeansStore};
+
+use crate::followed::Followed;
+use crate::input::StandardInput;
+use crate::objects::{document_of, store_in};
+use crate::serving::{Serving, Start, epoch_of, print_listening, print_not_bound};
+use bac_commands::{LevelLog, LogFormat, bound_server, clock_unread, print_served, serve_stretch};
+use bac_driver::{Clock, RunLimit, WaitLimit};
+use bac_environment::{Environment, OpenFiles, Sockets, Station, octets_of, opened};
+use bac_node::NewNodeFault;
+use bac_store::Store;
+use bac_text::{Status, complain, no_memory};
+use std::alloc::Global;
+use std::io::{Read, Write};
+
+/// The longest stretch, in milliseconds.
+const STRETCH: u64 = 1_000;
+
+/// The store that a node serves, and its document if it is followed.
+#[derive(Drop)]
+struct Served<'p> {
+    store: Store,
+    followed: Option<Followed<'p>>,
+}
+
+/// When a server stops.
+#[derive(Clone, Copy)]
+struct Stop {
+    /// At this moment, if there is one.
+    at: Option<u64>,
+    /// When standard input ends.
+    with_input: bool,
+}
+
+/// What came of a stretch.
+#[derive(Clone, Copy)]
+struct Stretch {
+    /// How many requests were performed in it.
+    effects: u64,
+    /// Whether the server stops behind it.
+    is_last: bool,
+}
+
+/// What a server looks at between stretches, and where it tells of it.
+#[derive(Drop)]
+struct Looker<'p> {
+    followed: Option<Followed<'p>>,
+    /// The form of what is told.
+    format: LogFormat,
+    log: LevelLog,
+}
+
+/// The limit of the stretch that begins at a moment, of a server that stops at one, if there is one.
+fn stretch_from(now: u64, stop: Option<u64>) -> RunLimit
+    ensures turns { result.turns ≡ MOST }
+    ensures until { result.wait_limit ≡ stretch_limit now stop }
+{
+    let stretch = now.saturating_add(STRETCH);
+    let until = match stop {
+        Some(moment) => moment.min(stretch),
+        None => stretch,
+    };
+    RunLimit {
+        turns: u64::MAX,
+        wait_limit: WaitLimit {
+            wait: u64::MAX,
+            until: Some(until),
+        },
+    }
+}
+
+/// Whether a moment is the one at which a server stops, or after it.
+fn is_over(now: u64, stop: Option<u64>) -> bool
+    ensures { MatchBool result (MatchOption stop ⊥ (λ moment. moment ≤ now)) (IsBefore now stop) }
+{
+    match stop {
+        Some(moment) => moment <= now,
+        None => false,
+    }
+}
+
+impl Stop {
+    /// When a server stops that began at that moment.
+    fn of(serving: &Serving, start: u64) -> Stop
+        ensures { result ≡ stop_of serving.now start }
+    {
+        Stop {
+            at: serving.wait_limit(start).until,
+            with_input: serving.until_eof,
+        }
+    }
+}
+
+/// The store that the octets of an open file mean, and the document that is followed.
+#[tactic(auto, using(crate::proofs::StoresOfFiles::meant_by_file))]
+fn followed_from<'p, F: Read + Drop, E: Write>(
+    alloc: Global,
+    path: &'p str,
+    file: F,
+    err: &mut E,
+) -> Result<Served<'p>, Status>
+    ensures store { IfOk result (λ s. MeansStore (F.remaining file) s.store) }
+    ensures told { IfErr result IsStop }
+{
+    let octets = octets_of(alloc, path, file, err)?;
+    let store = store_in(alloc, path, &octets, err)?;
+    match Followed::new(alloc, path, octets, &store) {
+        Ok(followed) => Ok(Served {
+            store,
+            followed: Some(followed),
+        }),
+        Err(_) => Err(no_memory(err)),
+    }
+}
+
+/// The store of a document that is followed.
+fn followed_document<'p, F: OpenFiles, M: Sockets, E: Write>(
+    environment: &Environment<'_, F, M>,
+    path: &'p str,
+    err: &mut E,
+) -> Result<Served<'p>, Status>
+    ensures store { IfOk result (λ s. OfFile (OnFile F.is_file F.File.remaining) path.now (λ content. MeansStore content s.store)) }
+    ensures told { IfErr result IsStop }
+{
+    let file = opened(environment.files, path, err)?;
+    followed_from(environment.alloc, path, file, err)
+}
+
+/// The store of a document, which is followed where that is wanted.
+fn served_document<'p, F: OpenFiles, M: Sockets, E: Write>(
+    environment: &Environment<'_, F, M>,
+    serving: &Serving,
+    objects: Option<&'p str>,
+    err: &mut E,
+) -> Result<Served<'p>, Status>
+    ensures document { IfOk result (λ s. IsDocument (OnFile F.is_file F.File.remaining) (option_map (λ p. p.now) objects.entry) s.store) }
+    ensures told { IfErr result IsStop }
+{
+    match objects {
+        Some(path) if serving.follow => followed_document(environment, path, err),
+        objects => Ok(Served {
+            store: document_of(environment, objects, err)?,
+            followed: None,
+        }),
+    }
+}
+
+/// A node with a store on its link, and when it begins.
+fn station_of<F: OpenFiles, M: Sockets, E: Write>(
+    environment: &Environment<'_, F, M>,
+    serving: &Serving,
+    store: Store,
+    err: &mut E,
+) -> Result<(Station<M::Link, M::Timer>, Start), Status>
+    ensures server { IfOk result (λ r. IsServer (OnPort M.is_bound M.Link.failures M.Link.calls) (OnClock M.is_made M.Timer.told) serving.now store r.1.moment
+        (timed r.0.bound_node (M.Timer.told r.0.clock))) }
+    ensures told { IfErr result IsStop }
+{
+    let alloc = environment.alloc;
+    let machine = environment.machine;
+    let (link, address) = match machine.bind(serving.host, serving.port, &serving.guard) {
+        Ok(bound) => bound,
+        Err(error) => return Err(print_not_bound(serving, &error, err)),
+    };
+    let Some(mut clock) = environment.machine.timer() else {
+        return Err(clock_unread(err));
+    };
+    let start = clock.now();
+    let objects = store.object_count();
+    let restart = serving.restart(start);
+    let bound = bound_server(alloc, link, address, store, serving.slots, restart);
+    let mut bound_node = match bound {
+        Ok(bound_node) => bound_node,
+        Err(NewNodeFault::BadSlots) => {
+            return Err(complain(err, "bad slots", Status::CommandLine));
+        }
+        Err(_) => return Err(no_memory(err)),
+    };
+    serving.set(&mut bound_node);
+    let began = Start {
+        moment: start,
+        epoch: epoch_of(start, environment.machine.time_of_day()),
+    };
+    print_listening(alloc, serving, address, objects, began, err);
+    let station = Station {
+        alloc,
+        bound_node,
+        clock,
+    };
+    Ok((station, began))
+}
+
+/// Looks at what a server looks at. Returns whether it stops with standard input, which has ended.
+fn look<F: OpenFiles, M: Sockets + StandardInput, E: Write>(
+    environment: &Environment<'_, F, M>,
+    stop: Stop,
+    looker: &mut Looker<'_>,
+    station: &mut Station<M::Link, M::Timer>,
+    err: &mut E,
+) -> bool
+    ensures changed { IsChanged station.old.bound_node station.new.bound_node }
+    ensures input { IsTrue result → stop.with_input ≡ true }
+{
+    if stop.with_input && environment.machine.has_input_ended() {
+        return true;
+    }
+    let format = looker.format;
+    if let Some(followed) = &mut looker.followed {
+        followed.look(environment.files, station, format, &mut looker.log, err);
+    }
+    false
+}
+
+/// A node serves a stretch, and looks. None where it is over.
+fn take_stretch<F: OpenFiles, M: Sockets + StandardInput, E: Write>(
+    environment: &Environment<'_, F, M>,
+    stop: Stop,
+    looker: &mut Looker<'_>,
+    station: &mut Station<M::Link, M::Timer>,
+    err: &mut E,
+) -> Result<Option<Stretch>, Status>
+    ensures taken { IfOk result (λ s. MatchOption s
+        (IsOver (stop_limit stop.at) (timed station.old.bound_node (M.Timer.told station.old.clock)) (timed station.new.bound_node (M.Timer.told station.new.clock)))
+        (λ stretch. TakesStretch stop.at (timed station.old.bound_node (M.Timer.told station.old.clock)) stretch.effects
+        (timed station.new.bound_node (M.Timer.told station.new.clock)))) }
+    ensures input { IfOk result (λ s. IfSome s (λ stretch. stretch.is_last ≡ true → stop.with_input ≡ true)) }
+    ensures failed { IfErr result IsFailure }
+{
+    let now = station.clock.now();
+    if is_over(now, stop.at) {
+        return Ok(None);
+    }
+    let effects = serve_stretch(
+        &mut station.bound_node,
+        &mut station.clock,
+        &stretch_from(now, stop.at),
+        &mut looker.log,
+        err,
+    )?;
+    let is_last = look(environment, stop, looker, station, err);
+    Ok(Some(Stretch { effects, is_last }))
+}
+
+/// A node serves in stretches until it stops. Returns how many requests it performed, at most 2^64 - 1.
+fn serve_stretches<F: OpenFiles, M: Sockets + StandardInput, E: Write>(
+    environment: &Environment<'_, F, M>,
+    stop: Stop,
+    looker: &mut Looker<'_>,
+    station: &mut Station<M::Link, M::Timer>,
+    err: &mut E,
+) -> Result<u64, Status>
+    ensures taken { IfOk result (λ effects. TakesStretches stop effects (timed station.old.bound_node (M.Timer.told station.old.clock))
+        (timed station.new.bound_node (M.Timer.told station.new.clock))) }
+    ensures failed { IfErr result IsFailure }
+{
+    let mut effects = 0u64;
+    for _count in 0..u64::MAX {
+        let Some(stretch) = take_stretch(environment, stop, looker, station, err)? else {
+            return Ok(effects);
+        };
+        effects = effects.saturating_add(stretch.effects);
+        if stretch.is_last {
+            return Ok(effects);
+        }
+    }
+    Ok(effects)
+}
+
+/// A node serves with a store, and how many requests it performed is printed.
+fn serve_store<F: OpenFiles, M: Sockets + StandardInput, O: Write, E: Write>(
+    environment: &Environment<'_, F, M>,
+    serving: &Serving,
+    served: Served<'_>,
+    out: &mut O,
+    err: &mut E,
+) -> Result<(), Status>
+    ensures served { IfOk result (λ _. ServesLooking (OnPort M.is_bound M.Link.failures M.Link.calls) (OnClock M.is_made M.Timer.told) serving.now
+        (O.contents out.old) (O.contents out.new) served.entry.store) }
+    ensures failed { IfErr result (λ s. ByStatus s ⊥ ⊥ (Keeps (O.contents out.old) (O.contents out.new))) }
+{
+    let Served { store, followed } = served;
+    let (mut station, start) = station_of(environment, serving, store, err)?;
+    let mut looker = Looker {
+        followed,
+        format: serving.log_format(start),
+        log: serving.log_from(environment.alloc, start),
+    };
+    let stop = Stop::of(serving, start.moment);
+    let effects = serve_stretches(environment, stop, &mut looker, &mut station, err)?;
+    print_served(effects, out, err)?;
+    looker.log.end(err);
+    Ok(())
+}
+
+/// Serves a node over the objects of a document, or the house if there is no document. At least once a second it looks at the document, if it follows it, and at
+/// standard input, if it ends with that.
+///
+/// If the document cannot be read or is invalid, prints why on `err`.
+pub fn serve_looking<F: OpenFiles, M: Sockets + StandardInput, O: Write, E: Write>(
+    environment: &Environment<'_, F, M>,
+    serving: &Serving,
+    objects: Option<&str>,
+    out: &mut O,
+    err: &mut E,
+) -> Status
+    ensures { IsServedLooking (OnFile F.is_file F.File.remaining) (option_map (λ p. p.now) objects.entry) (OnPort M.is_bound M.Link.failures M.Link.calls)
+        (OnClock M.is_made M.Timer.told) result serving.now (O.contents out.old) (O.contents out.new) }
+{
+    let served = match served_document(environment, serving, objects, err) {
+        Ok(served) => served,
+        Err(status) => return status,
+    };
+    match serve_store(environment, serving, served, out, err) {
+        Ok(()) => Status::Done,
+        Err(status) => status,
+    }
+}
