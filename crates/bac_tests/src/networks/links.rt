@@ -3,9 +3,9 @@ use bac_core::{Clock, Link, LinkAddress, MonotonicClock, UdpLink};
 use std::alloc::Global;
 use std::test::Fail;
 
-/// Whether these octets, or as many of them as a buffer of two has room for, arrive from an address.
+/// Whether these octets arrive from an address, in a buffer of four.
 fn comes(link: &mut UdpLink, wait: u64, from: LinkAddress, octets: &[u8]) -> bool {
-    let mut buffer = [0u8; 2];
+    let mut buffer = [0u8; 4];
     match link.recv(&mut buffer, wait) {
         Ok(Some(received)) => received.0 == from && buffer.get(..received.1) == Some(octets),
         _ => false,
@@ -14,7 +14,7 @@ fn comes(link: &mut UdpLink, wait: u64, from: LinkAddress, octets: &[u8]) -> boo
 
 /// Whether nothing arrives.
 fn comes_nothing(link: &mut UdpLink, wait: u64) -> bool {
-    matches!(link.recv(&mut [0u8; 2], wait), Ok(None))
+    matches!(link.recv(&mut [0u8; 4], wait), Ok(None))
 }
 
 /// Whether a link is at a free port of the loopback, and says what it is bound to.
@@ -22,11 +22,21 @@ fn is_local(link: &UdpLink) -> bool {
     link.address().starts_with(&[127, 0, 0, 1]) && link.port() == 0 && link.host() == [127, 0, 0, 1]
 }
 
-/// Whether three octets arrive at another link, cut off after two, and nothing after them.
+/// Whether three octets arrive at another link, and nothing after them.
 fn are_exchanged(one: &mut UdpLink, other: &mut UdpLink) -> bool {
     one.send(other.address(), &[0x81, 0x0A, 0x00]).is_ok()
-        && comes(other, 100, one.address(), &[0x81, 0x0A])
+        && comes(other, 100, one.address(), &[0x81, 0x0A, 0x00])
         && comes_nothing(other, 100)
+}
+
+/// Whether datagrams of four and of five octets are dropped, since each fills the buffer, and the next one arrives.
+fn are_dropped(one: &mut UdpLink, other: &mut UdpLink) -> bool {
+    one.send(other.address(), &[0x81, 0x0A, 0x00, 0x04]).is_ok()
+        && comes_nothing(other, 100)
+        && one.send(other.address(), &[0x81, 0x0A, 0x00, 0x04, 0x01]).is_ok()
+        && comes_nothing(other, 100)
+        && one.send(other.address(), &[0x81]).is_ok()
+        && comes(other, 100, one.address(), &[0x81])
 }
 
 /// Whether a datagram that is too long is not sent.
@@ -40,6 +50,7 @@ fn datagrams_are_sent_and_received(rt: HostRuntime) -> Result<(), Fail> {
     let mut one = UdpLink::bind(&rt, 0)?;
     let mut other = UdpLink::bind(&rt, 0)?;
     assert!(&rt; is_local(&other) && are_exchanged(&mut one, &mut other));
+    assert!(&rt; are_dropped(&mut one, &mut other));
     assert!(&rt; one.failures() == 0 && is_too_long(rt.alloc(), &mut one, other.address()));
     assert!(&rt; one.failures() == 1);
     Ok(())
