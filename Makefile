@@ -22,6 +22,7 @@ targets:
 install:
 	install -d $(AT)/bin $(AT)/share/man/man1 $(AT)/share/bash-completion/completions $(AT)/share/bac $(AT)/lib/systemd/system $(ETC)/bac
 	install -m 755 $(PROGRAM) $(AT)/bin/bac
+	if test -e $(dir $(PROGRAM))bac.build; then install -m 644 $(dir $(PROGRAM))bac.build $(AT)/share/bac/bac.build; fi
 	install -m 644 docs/bac.1 $(AT)/share/man/man1/bac.1
 	$(PROGRAM) completion > $(AT)/share/bash-completion/completions/bac
 	install -m 644 docs/plant.toml $(AT)/share/bac/plant.toml
@@ -29,7 +30,7 @@ install:
 	sed -e 's|@PREFIX@|$(PREFIX)|g' -e 's|@SYSCONFDIR@|$(SYSCONFDIR)|g' install/bac.service.in > $(AT)/lib/systemd/system/bac.service
 
 uninstall:
-	rm -f $(AT)/bin/bac $(AT)/share/man/man1/bac.1 $(AT)/share/bash-completion/completions/bac $(AT)/share/bac/plant.toml $(AT)/lib/systemd/system/bac.service
+	rm -f $(AT)/bin/bac $(AT)/share/man/man1/bac.1 $(AT)/share/bash-completion/completions/bac $(AT)/share/bac/plant.toml $(AT)/share/bac/bac.build $(AT)/lib/systemd/system/bac.service
 
 # What `make install` and `make -C include install` put below /usr/local and /etc, with the SHA-256 sum of each file: the same octets of the same commit, program and
 # library.

@@ -128,4 +128,5 @@ if ! (cd "$top/crates/bac" && rt run -- $(cat args)) > "$WORK/out" 2> "$WORK/err
 fi
 echo "[$COUNT/$COUNT] bac: $(($(date +%s) - begun)) seconds"
 cmp "$WORK/out" "$top/crates/bac/stdout"
+sh "$top/tests/built.sh" > "$top/crates/bac/out/bac.build"
 echo "proved: crates/bac/out/bac, $(($(date +%s) - begun_all)) seconds"

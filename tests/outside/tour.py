@@ -6,6 +6,7 @@ documents.py says which blocks are commands, scripts, files and output. Each doc
 build, install, or run a program of another make are listed and not run. docs/bac.1 has to be what `help --man` prints, docs/terminal.svg what picture.py draws.
 """
 
+import re
 import subprocess
 import sys
 sys.dont_write_bytecode = True  # no __pycache__ beside the sources
@@ -18,6 +19,12 @@ from picture import drawn
 
 DOCUMENTS = ('README.md', 'docs/GUIDE.md', 'docs/FORMATS.md', 'docs/OBJECTS.md')
 OTHERS = ('sh tests/', 'sudo ', 'make ', 'bacrp ')
+WAITS = re.compile(r'^(serving from 65)\d{3}$')  # a busy machine opens the kept values some milliseconds later
+
+
+def settled(lines):
+    """Lines that are the same on a fast and on a busy machine."""
+    return [WAITS.sub(r'\1...', line) for line in lines]
 
 
 class Tour:
@@ -34,7 +41,7 @@ class Tour:
     def type(self, block):
         for command, below in commands_of(block):
             self.ran += 1
-            self.hold(command, below, self.desk.type(command, len(below)))
+            self.hold(command, settled(below), settled(self.desk.type(command, len(below))))
 
     def run(self, block, after):
         script = '\n'.join(block.lines) + '\n'

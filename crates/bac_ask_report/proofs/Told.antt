@@ -9,6 +9,7 @@ use Rattle.bac_text.specs.Peers.{peer_text}
 use Rattle.bac_ask_report.specs.Objects.{AnswerMembers, AreMembers, AskedMembers, IsObject, ask_object, asked_members, end_members, index_or_null, property_or_null}
 use Rattle.bac_ask_report.specs.Questions.{object_asked, property_asked, verb}
 use Rattle.bac_ask_report.specs.Records.{AskRecord}
+use Rattle.bac_ask_report.specs.declared.cell_text.CellText.{CellText}
 use Rattle.bac_ask_report.specs.Rows.{AreCells, AreSoleCells, AreValueCells, Cells, IsRow, fields_of, sole_value}
 use Rattle.bac_moment.specs.Times.{IsTextOf}
 
@@ -21,15 +22,15 @@ values_told run words values sole c are is cells = record {
   cells = subst (λ (s : Option (Data × Data)). AreSoleCells s words c) is cells;
 }
 
-pub row_told : (r : AskRecord) (time : Option (List ℕ)) (cell : List ℕ) (answer : Answer) (c : Cells) (text : List ℕ) → IsTextOf r.time time
+pub row_told : (t : CellText) (r : AskRecord) (time : Option (List ℕ)) (cell : List ℕ) (answer : Answer) (c : Cells) (text : List ℕ) → IsTextOf r.time time
     → cell ≡ unwrap_or time [] → answer ≡ answer_of r.request r.outcome → AreCells answer r.words c
-    → text ≡ row_text default_writer (fields_of r cell c) → IsRow r text
-row_told r time cell answer c text of cell_is answer_is are is = record {
+    → text ≡ row_text default_writer (fields_of t r cell c) → IsRow t r text
+row_told t r time cell answer c text of cell_is answer_is are is = record {
   time = time;
   time_of = of;
   cells = c;
   are = subst (λ (a : Answer). AreCells a r.words c) answer_is are;
-  is = is ∙ ap (λ (t : List ℕ). row_text default_writer (fields_of r t c)) cell_is;
+  is = is ∙ ap (λ (time_cell : List ℕ). row_text default_writer (fields_of t r time_cell c)) cell_is;
 }
 
 pub object_told : (r : AskRecord) (time : Option (List ℕ)) (answer : Answer) (m : AnswerMembers) (d : Data) → IsTextOf r.time time

@@ -5,8 +5,8 @@ ghost use Rattle.std.specs.Io.KnownBytes.{Appends};
 ghost use Rattle.bac_ask_report.specs.Answers.{answer_view};
 ghost use Rattle.bac_ask_report.specs.Cells.{cells_view};
 ghost use Rattle.bac_ask_report.specs.Records.{name_view, record_view};
-ghost use Rattle.bac_ask_report.specs.Rows.{AreCells, AreSoleCells, AreValueCells, IsCell, IsRow, behind_answered, both, fields_of, header, header_text, name_fields, no_cells};
-ghost use Rattle.bac_ask_report.specs.Rows.{sole_value, status_cell, word_cells};
+ghost use Rattle.bac_ask_report.specs.Rows.{AreCells, AreSoleCells, AreValueCells, IsCell, IsRow, behind_answered, both, fields_of, header, header_text, is_number, name_fields, no_cells};
+ghost use Rattle.bac_ask_report.specs.Rows.{sole_value, status_cell, value_field, word_cells};
 ghost use Rattle.bac_json_report.specs.Lines.{IsJsonText};
 ghost use Rattle.bac_text.specs.Texts.{AppendsText};
 ghost use Rattle.csv.specs.Records as records;
@@ -14,6 +14,7 @@ ghost use Rattle.csv.specs.Writing.{default_writer, row_text};
 ghost use Rattle.serde_json.specs.View.{items_view, view};
 
 use crate::answer::{Answer, answer_of};
+use crate::cell_text::CellText;
 use crate::question::{object_asked, property_asked, property_column};
 use crate::record::{AskRecord, LineName};
 use bac_json::data_json;
@@ -50,6 +51,19 @@ fn cell(alloc: Global, json: &Json) -> Result<Vec<u8>, AllocError>
     }
 }
 
+fn is_number(json: &Json) -> bool
+    ensures { result ≡ is_number (view json.now) }
+{
+    match json {
+        Json::Null => false,
+        Json::Bool(_) => false,
+        Json::Number(_) => true,
+        Json::String(_) => false,
+        Json::Array(_) => false,
+        Json::Object(_) => false,
+    }
+}
+
 /// Both, where there are both.
 fn both<'a>(first: Option<&'a Json>, second: Option<&'a Json>) -> Option<(&'a Json, &'a Json)>
     ensures { option_map (λ p. (view p.0.now, view p.1.now)) result ≡ both (option_map (λ v. view v.now) first.entry) (option_map (λ v. view v.now) second.entry) }
@@ -82,6 +96,8 @@ fn behind_answered(words: &[u8]) -> &[u8]
 struct Cells {
     kind: Vec<u8>,
     value: Vec<u8>,
+    /// Whether the value is a number.
+    is_number: bool,
 }
 
 fn no_cells(alloc: Global) -> Cells
@@ -90,6 +106,7 @@ fn no_cells(alloc: Global) -> Cells
     Cells {
         kind: Vec::new(alloc),
         value: Vec::new(alloc),
+        is_number: false,
     }
 }
 
@@ -99,6 +116,7 @@ fn word_cells(alloc: Global, words: &[u8]) -> Result<Cells, AllocError>
     Ok(Cells {
         kind: Vec::new(alloc),
         value: Vec::from_slice(alloc, behind_answered(words))?,
+        is_number: false,
     })
 }
 
@@ -113,6 +131,7 @@ fn sole_cells(
         Some((kind, value)) => Ok(Cells {
             kind: cell(alloc, kind)?,
             value: cell(alloc, value)?,
+            is_number: is_number(value),
         }),
         None => word_cells(alloc, words),
     }
@@ -186,30 +205,48 @@ fn time_cell(time: &Option<TimeText>) -> &[u8]
     }
 }
 
+/// The value; a number as it is.
+fn value_field(alloc: Global, texts: CellText, cells: &Cells) -> Result<Vec<u8>, AllocError>
+    ensures { IfOk result (λ t. t.items ≡ value_field texts (cells_view cells.now)) }
+{
+    if cells.is_number {
+        Vec::from_slice(alloc, &cells.value)
+    } else {
+        texts.of(alloc, &cells.value)
+    }
+}
+
 /// The name of the line, where a line of the list has one.
-fn push_name(name: LineName<'_>, row: &mut ByteRecord) -> Result<(), AllocError>
+fn push_name(
+    alloc: Global,
+    texts: CellText,
+    name: LineName<'_>,
+    row: &mut ByteRecord,
+) -> Result<(), AllocError>
     requires { records.partial_of row.old ≡ [] }
-    ensures { OnOk result (records.fields_of row.new ≡ records.fields_of row.old ++ name_fields (name_view name.entry)) }
+    ensures { OnOk result (records.fields_of row.new ≡ records.fields_of row.old ++ name_fields texts (name_view name.entry)) }
 {
     match name {
         LineName::Unnamed => Ok(()),
         LineName::Without => row.push_field(b""),
-        LineName::Named(name) => row.push_field(name.as_bytes()),
+        LineName::Named(name) => row.push_field(&texts.of(alloc, name.as_bytes())?),
     }
 }
 
 /// The columns of an ask.
 fn fields_of(
     alloc: Global,
+    texts: CellText,
     ask: &AskRecord<'_, '_, '_>,
     time: &[u8],
     cells: &Cells,
 ) -> Result<ByteRecord, AllocError>
-    ensures { IfOk result (λ r. records.fields_of r ≡ fields_of (record_view ask.now) time.now (cells_view cells.now)) }
+    ensures { IfOk result (λ r. records.fields_of r ≡ fields_of texts (record_view ask.now) time.now (cells_view cells.now)) }
 {
     let peer = peer_text(alloc, ask.peer)?;
     let object = object_text(alloc, object_asked(ask.request))?;
     let property = property_column(alloc, property_asked(ask.request))?;
+    let value = value_field(alloc, texts, cells)?;
     let answer = answer_of(ask.request, ask.outcome);
     let mut row = ByteRecord::new(alloc);
     row.push_field(time)?;
@@ -217,33 +254,34 @@ fn fields_of(
     row.push_field(&object)?;
     row.push_field(&property)?;
     row.push_field(&cells.kind)?;
-    row.push_field(&cells.value)?;
+    row.push_field(&value)?;
     row.push_field(status_cell(answer, ask.words))?;
-    push_name(ask.name, &mut row)?;
+    push_name(alloc, texts, ask.name, &mut row)?;
     Ok(row)
 }
 
 fn row_with(
     alloc: Global,
+    texts: CellText,
     ask: &AskRecord<'_, '_, '_>,
     time: &[u8],
     cells: &Cells,
 ) -> Result<Vec<u8>, AllocError>
-    ensures { IfOk result (λ t. t.items ≡ row_text default_writer (fields_of (record_view ask.now) time.now (cells_view cells.now))) }
+    ensures { IfOk result (λ t. t.items ≡ row_text default_writer (fields_of texts (record_view ask.now) time.now (cells_view cells.now))) }
 {
-    let row = fields_of(alloc, ask, time, cells)?;
+    let row = fields_of(alloc, texts, ask, time, cells)?;
     row_text(alloc, &row)
 }
 
 /// The row of an ask.
 #[tactic(auto, using(crate::proofs::Told::row_told))]
-fn row_of(alloc: Global, ask: &AskRecord<'_, '_, '_>) -> Result<Vec<u8>, NoMemory>
-    ensures { IfOk result (λ t. IsRow (record_view ask.now) t.items) }
+fn row_of(alloc: Global, texts: CellText, ask: &AskRecord<'_, '_, '_>) -> Result<Vec<u8>, NoMemory>
+    ensures { IfOk result (λ t. IsRow texts (record_view ask.now) t.items) }
 {
     let time = time_text(ask.time);
     let answer = answer_of(ask.request, ask.outcome);
     let cells = cells_of(alloc, answer, ask.words)?;
-    Ok(row_with(alloc, ask, time_cell(&time), &cells)?)
+    Ok(row_with(alloc, texts, ask, time_cell(&time), &cells)?)
 }
 
 /// The names of the columns; the last one only where a line of the list has a name.
@@ -282,15 +320,16 @@ pub fn print_csv_header<W: Write>(alloc: Global, has_names: bool, out: &mut W) -
     out.write_all(&text)
 }
 
-/// Prints an ask as a row. An Err is the writer's, or out of memory.
+/// Prints an ask as a row; `texts` says what becomes of a name, and of a value that is no number. An Err is the writer's, or out of memory.
 pub fn print_csv_row<W: Write>(
     alloc: Global,
+    texts: CellText,
     ask: &AskRecord<'_, '_, '_>,
     out: &mut W,
 ) -> io::Result<()>
-    ensures { OnOk result (AppendsText (W.contents out.old) (W.contents out.new) (IsRow (record_view ask.now))) }
+    ensures { OnOk result (AppendsText (W.contents out.old) (W.contents out.new) (IsRow texts (record_view ask.now))) }
 {
-    let Ok(row) = row_of(alloc, ask) else {
+    let Ok(row) = row_of(alloc, texts, ask) else {
         return Err(io::Error::from(io::ErrorKind::OutOfMemory));
     };
     out.write_all(&row)

@@ -8,3 +8,4 @@ pub mod AskedLines
 pub mod Fleets
 pub mod InFlight
 pub mod Once
+pub mod Gathered

@@ -2,6 +2,8 @@
 use Rattle.std.specs.Prelude.{◌≡◌, ℕ, ◌<◌, ◌≤◌, ◌*◌, min, Bool, true, false, codes, decimal, Option, Some, None}
 use Rattle.std.specs.Option.{option_map}
 use Rattle.clap.specs.declared.parser.matches.ArgMatches.{ArgMatches}
+use Rattle.bac_ask_report.specs.declared.cell_text.CellText.{CellText}
+use Rattle.bac_ask_report.specs.declared.cell_text.CellText.TheVariants as texts
 use Rattle.bac_commands.specs.declared.online.output_format.OutputFormat.{OutputFormat}
 use Rattle.bac_commands.specs.declared.online.output_format.Style.{Style}
 use Rattle.bac_commands.specs.declared.online.output_format.Style.TheVariants as style
@@ -29,17 +31,23 @@ pub record IsManner (given : ArgMatches) (m : OutputFormat) : Type 0 where
   pub style : IsStyle given m.style
   pub strict : IsFlag given (codes "fail") m.strict
 
-abbrev pub records_by : (json csv : Bool) → Option RecordForm
-records_by true csv = Some form.Json
-records_by false true = Some form.Csv
-records_by false false = None
+abbrev pub cell_text_by : (raw : Bool) → CellText
+cell_text_by true = texts.Raw
+cell_text_by false = texts.Shielded
+
+abbrev pub records_by : (json csv raw : Bool) → Option RecordForm
+records_by true csv raw = Some form.Json
+records_by false true raw = Some (form.Csv (cell_text_by raw))
+records_by false false raw = None
 
 pub record AreRecordsOf (given : ArgMatches) (records : Option RecordForm) : Type 0 where
   pub json : Bool
   pub csv : Bool
+  pub raw : Bool
   pub json_is : IsFlag given (codes "json") json
   pub csv_is : IsFlag given (codes "csv") csv
-  pub are : records ≡ records_by json csv
+  pub raw_is : IsFlag given (codes "raw-text") raw
+  pub are : records ≡ records_by json csv raw
 
 -- of whole seconds the milliseconds between rounds
 pub record IsPace (given : ArgMatches) (is : Option ℕ) : Type 0 where
@@ -71,3 +79,29 @@ pub record IsGiven (given : ArgMatches) (asking : Asking) : Type 0 where
   pub rounds : AreRoundsOf given asking.rounds
   pub window : IsNumber given (codes "window") asking.window
   pub unnamed : asking.has_names ≡ false
+
+-- ---- how it prints
+
+abbrev pub is_octets : Style → Bool
+is_octets style.Octets = true
+is_octets style.Words = false
+is_octets style.Numbers = false
+
+abbrev pub is_raw_by : Option RecordForm → Style → Bool
+is_raw_by None s = is_octets s
+is_raw_by (Some form.Json) s = false
+is_raw_by (Some (form.Csv texts.Raw)) s = true
+is_raw_by (Some (form.Csv texts.Shielded)) s = false
+
+-- what it prints is wanted as it came
+abbrev pub is_raw : Asking → Bool
+is_raw asking = is_raw_by asking.records asking.output_format.style
+
+abbrev pub is_json_by : Option RecordForm → Bool
+is_json_by None = false
+is_json_by (Some form.Json) = true
+is_json_by (Some (form.Csv t)) = false
+
+-- objects of JSON
+abbrev pub is_json : Asking → Bool
+is_json asking = is_json_by asking.records

@@ -11,3 +11,4 @@ pub mod AskedLines
 pub mod InFlight
 pub mod Asked
 pub mod WholeFiles
+pub mod Gathering

@@ -60,7 +60,7 @@ record_of time asker round q end words = record {
 
 abbrev pub IsRecordText : RecordForm → AskRecord → List ℕ → Type 0
 IsRecordText form.Json r text = IsLineOf (IsObject r) text
-IsRecordText form.Csv r text = IsRow r text
+IsRecordText (form.Csv texts) r text = IsRow texts r text
 
 -- how an ask of a line, or of none, ended was printed as a record, with the words of `ask --text`; whether it succeeded
 pub record PrintsRecord (form : RecordForm) (strict : Bool) (asker : Asker) (q : Question) (end : AskEnd) (succeeded : Bool) (old new : Option (List ℕ)) :
@@ -83,4 +83,4 @@ PrintsAsk (Some form) output_format asker q end succeeded old new = PrintsRecord
 abbrev pub PrintsHeader : Option RecordForm → (has_names : Bool) → (old new : Option (List ℕ)) → Type 0
 PrintsHeader None has_names old new = new ≡ old
 PrintsHeader (Some form.Json) has_names old new = new ≡ old
-PrintsHeader (Some form.Csv) has_names old new = Appends old new (header_text has_names)
+PrintsHeader (Some (form.Csv texts)) has_names old new = Appends old new (header_text has_names)

@@ -2,13 +2,14 @@
 ghost use Rattle.std.specs.Prelude.{◌≡◌};
 ghost use Rattle.bac_asking.specs.Asked.{for_lines};
 ghost use Rattle.bac_asking.specs.Asking.{patience_for};
-ghost use Rattle.bac_asking.specs.Given.{AreRecordsOf, AreRoundsOf, IsGiven, IsManner, IsPace, IsPatience, records_by, rounds_by, style_by};
+ghost use Rattle.bac_asking.specs.Given.{AreRecordsOf, AreRoundsOf, IsGiven, IsManner, IsPace, IsPatience, cell_text_by, is_json, is_raw, records_by, rounds_by, style_by};
 ghost use Rattle.bac_asking.specs.Rounds.{next_from};
 ghost use Rattle.bac_environment.specs.Limits.{turns_of};
 
 use crate::client_sockets::ClientSockets;
 use crate::recording::RecordForm;
 use crate::seconds::read_seconds;
+use bac_ask_report::CellText;
 use bac_commands::{OutputFormat, Style};
 use bac_driver::WaitLimit;
 use bac_environment::{flag_of, number_of};
@@ -79,6 +80,25 @@ pub struct Asking {
 }
 
 impl Asking {
+    /// Whether what it prints is wanted as it came: the octets of a file, or records with their texts as they came.
+    pub fn is_raw(&self) -> bool
+        ensures { result ≡ is_raw self.now }
+    {
+        match self.records {
+            Some(RecordForm::Json) => false,
+            Some(RecordForm::Csv(CellText::Raw)) => true,
+            Some(RecordForm::Csv(CellText::Shielded)) => false,
+            None => matches!(self.output_format.style, Style::Octets),
+        }
+    }
+
+    /// Whether it prints objects of JSON.
+    pub fn is_json(&self) -> bool
+        ensures { result ≡ is_json self.now }
+    {
+        matches!(self.records, Some(RecordForm::Json))
+    }
+
     /// The same, but asked from the address of this machine that the peer sees, if the machine tells it.
     pub fn towards<M: ClientSockets>(self, machine: &M, peer: Peer) -> Asking
         ensures { result ≡ record self { host = result.host } }
@@ -197,13 +217,23 @@ fn manner_of(given: &ArgMatches<'_>) -> OutputFormat
     }
 }
 
-fn records_by(json: bool, csv: bool) -> Option<RecordForm>
-    ensures { result ≡ records_by json csv }
+fn cell_text_by(raw: bool) -> CellText
+    ensures { result ≡ cell_text_by raw }
+{
+    if raw {
+        CellText::Raw
+    } else {
+        CellText::Shielded
+    }
+}
+
+fn records_by(json: bool, csv: bool, raw: bool) -> Option<RecordForm>
+    ensures { result ≡ records_by json csv raw }
 {
     if json {
         Some(RecordForm::Json)
     } else if csv {
-        Some(RecordForm::Csv)
+        Some(RecordForm::Csv(cell_text_by(raw)))
     } else {
         None
     }
@@ -215,7 +245,8 @@ fn records_of(given: &ArgMatches<'_>) -> Option<RecordForm>
 {
     let json = flag_of(given, "json");
     let csv = flag_of(given, "csv");
-    records_by(json, csv)
+    let raw = flag_of(given, "raw-text");
+    records_by(json, csv, raw)
 }
 
 /// How many milliseconds it waits, where a number of seconds is given.

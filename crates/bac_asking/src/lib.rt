@@ -13,6 +13,7 @@ mod file_words;
 mod fleet;
 mod flights;
 mod folder;
+mod gathering;
 mod listed_files;
 mod online;
 mod pace;
@@ -38,7 +39,8 @@ pub use file_task::{
     ChosenFiles, FileTask, FileWork, backup_of, do_with_files, file_task_of, work_of,
 };
 pub use file_words::ask;
+pub use gathering::gather;
 pub use online::{pair, question_in};
-pub use recording::{RecordForm, print_header};
+pub use recording::{RecordForm, outcome_of, print_header};
 pub use seconds::{bad_pace, print_bad_pace, read_seconds};
 pub use unsent::tell_unsent;

@@ -9,7 +9,9 @@ ghost use Rattle.bac_text.specs.Statuses.{IsFailure};
 ghost use Rattle.bac_text.specs.Texts.{AppendsText};
 
 use crate::asking::Asking;
-use bac_ask_report::{AskRecord, Outcome, print_ask_object, print_csv_header, print_csv_row};
+use bac_ask_report::{
+    AskRecord, CellText, Outcome, print_ask_object, print_csv_header, print_csv_row,
+};
 use bac_commands::{OutputFormat, Style, print_ask_end};
 use bac_driver::{AskEnd, Question};
 use bac_lists::Asker;
@@ -26,7 +28,7 @@ pub enum RecordForm {
     /// An object of JSON on each line.
     Json,
     /// A row of CSV on each line, below one with the names of the columns.
-    Csv,
+    Csv(CellText),
 }
 
 /// When an ask ended, and in which round.
@@ -74,7 +76,8 @@ fn outcome_of_ending(ending: &Ending) -> Outcome<'_>
     }
 }
 
-fn outcome_of(end: &AskEnd) -> Outcome<'_>
+/// How an ask ended, as reports tell it.
+pub fn outcome_of(end: &AskEnd) -> Outcome<'_>
     ensures { outcome_view result ≡ outcome_of end.now }
 {
     match end {
@@ -136,7 +139,7 @@ fn print_in<O: Write>(
 {
     match form {
         RecordForm::Json => print_ask_object(alloc, ask, out),
-        RecordForm::Csv => print_csv_row(alloc, ask, out),
+        RecordForm::Csv(texts) => print_csv_row(alloc, texts, ask, out),
     }
 }
 
@@ -240,7 +243,7 @@ fn print_names<O: Write>(
     ensures { OnOk result (PrintsHeader records has_names (O.contents out.old) (O.contents out.new)) }
 {
     match records {
-        Some(RecordForm::Csv) => print_csv_header(alloc, has_names, out),
+        Some(RecordForm::Csv(_)) => print_csv_header(alloc, has_names, out),
         Some(RecordForm::Json) => Ok(()),
         None => Ok(()),
     }

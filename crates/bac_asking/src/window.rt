@@ -412,7 +412,7 @@ fn go_on<M: ClientSockets, E: Write>(
 }
 
 /// A client asks until the ask of the line at that place among all has ended. Answers how it did.
-fn end_line<M: ClientSockets, E: Write>(
+pub(crate) fn end_line<M: ClientSockets, E: Write>(
     plan: &Plan<'_>,
     client: &mut Client<'_, M>,
     traffic: &mut Traffic<M::Link>,
@@ -508,7 +508,7 @@ fn tell_line<M: ClientSockets, O: Write, E: Write>(
 }
 
 /// The nodes that leave are given up.
-fn part_with_all<M: ClientSockets, E: Write>(
+pub(crate) fn part_with_all<M: ClientSockets, E: Write>(
     client: &mut Client<'_, M>,
     leaving: Vec<Leaving<M::Link>>,
     err: &mut E,

@@ -11,7 +11,7 @@ use crate::check_fault::{CapturedFault, Verdict};
 use crate::judging::judge;
 use crate::others::print_named;
 use crate::report::{FileReport, report_over};
-use crate::tally::Tally;
+use crate::tally::FrameTally;
 use crate::{FileFault, Frame, Ports};
 use bac_text::{CheckError, Status, check_lines_over, fault_in_words};
 use std::alloc::{AllocError, Global};
@@ -35,7 +35,7 @@ fn words_of(alloc: Global, fault: CapturedFault) -> Result<String, AllocError>
 pub(crate) struct Check {
     pub alloc: Global,
     pub in_words: bool,
-    pub tally: Tally,
+    pub tally: FrameTally,
 }
 
 impl Check {
@@ -54,7 +54,7 @@ impl Check {
     }
 
     /// Counts a frame, and prints what is wrong with it.
-    fn count<W: Write>(self, verdict: Verdict, out: &mut W) -> Result<Tally, CheckError>
+    fn count<W: Write>(self, verdict: Verdict, out: &mut W) -> Result<FrameTally, CheckError>
         ensures { IfOk result (λ t. IsPrinted (IsCounted self.in_words) verdict (W.contents out.old) (W.contents out.new) (counts_of self.tally) (counts_of t)) }
     {
         let Some(counted) = self.tally.with(verdict) else {
@@ -68,7 +68,7 @@ impl Check {
 }
 
 /// Prints the counts, in words with those of other functions by name.
-fn print_tally<W: Write>(in_words: bool, tally: Tally, out: &mut W) -> io::Result<()>
+fn print_tally<W: Write>(in_words: bool, tally: FrameTally, out: &mut W) -> io::Result<()>
     ensures { OnOk result (Appends (W.contents out.old) (W.contents out.new) (tally_text in_words (counts_of tally))) }
 {
     print_named(in_words, tally.others, out)?;
@@ -176,7 +176,7 @@ pub fn check_capture_over<R: BufRead, O: Write, E: Write>(
     let mut report = Check {
         alloc,
         in_words,
-        tally: Tally::NONE,
+        tally: FrameTally::NONE,
     };
     report_over(alloc, input, ports, &mut report, out, err)
 }

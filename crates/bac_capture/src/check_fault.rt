@@ -8,7 +8,7 @@ use std::fmt;
 
 /// Why a frame is bad.
 #[derive(Clone, Copy, PartialEq, Eq)]
-pub(crate) enum CapturedFault {
+pub enum CapturedFault {
     /// Its link layer is unknown.
     Link,
     /// The packet in it is not complete.
@@ -37,12 +37,13 @@ impl fmt::Display for CapturedFault {
 
 /// The result of checking a frame.
 #[derive(Clone, Copy, PartialEq, Eq)]
-pub(crate) enum Verdict {
+pub enum Verdict {
     /// It carries no datagram of BACnet/IP.
     Nothing,
     /// Its datagram has no fault.
     Good,
     /// Its datagram is a BVLL with another function, which is not checked.
     Other(OtherBvll),
+    /// It has this fault.
     Bad(CapturedFault),
 }

@@ -21,8 +21,8 @@ fn judge_datagram(datagram: &[u8]) -> Verdict
     }
 }
 
-/// The result of checking a frame, from its link layer number and its octets.
-pub(crate) fn judge(frame: Frame<'_>, ports: Ports) -> Verdict
+/// Checks a frame, by the number of its link layer and its octets: whether it carries a datagram of BACnet/IP at these ports, and whether that has a fault.
+pub fn judge(frame: Frame<'_>, ports: Ports) -> Verdict
     ensures { IsVerdict ports.also (frame_view frame.entry) result }
 {
     let Some(link) = LinkKind::of(frame.link) else {

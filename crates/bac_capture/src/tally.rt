@@ -6,21 +6,26 @@ use crate::check_fault::Verdict;
 use crate::others::{OTHERS, place_of};
 use bac_text::Status;
 
-/// Counts of the frames so far.
+/// Counts of the frames of a capture so far.
 #[derive(Clone, Copy)]
-pub(crate) struct Tally {
+pub struct FrameTally {
+    /// All of them.
     pub frames: u64,
+    /// Frames whose datagram has no fault.
     pub good: u64,
+    /// Frames with a fault.
     pub bad: u64,
+    /// Frames whose BVLL has another function.
     pub other: u64,
-    /// Frames with other functions, by index.
+    /// The same by function: those over IPv4 at the index of their number, those over IPv6 at the last one.
     pub others: [u64; OTHERS],
     pub ghost counted: { good + bad + other ≤ frames },
     pub ghost few: { All (λ n. n ≤ frames) others },
 }
 
-impl Tally {
-    pub(crate) const NONE: Tally = Tally {
+impl FrameTally {
+    /// No frame so far.
+    pub const NONE: FrameTally = FrameTally {
         frames: 0,
         good: 0,
         bad: 0,
@@ -42,8 +47,8 @@ impl Tally {
         others
     }
 
-    /// The counts with one more frame; None exactly if the number of frames overflows.
-    pub(crate) fn with(self, verdict: Verdict) -> Option<Tally>
+    /// The counts with one more frame, of this verdict; None exactly if the number of frames overflows.
+    pub fn with(self, verdict: Verdict) -> Option<FrameTally>
         ensures some { IsSome result ↔ (self.frames < 2 ^ 64 - 1) }
         ensures frames { IfSome result (λ t. t.frames ≡ self.frames + 1) }
         ensures good { IfSome result (λ t. t.good ≡ self.good + good_in verdict) }
@@ -58,7 +63,7 @@ impl Tally {
             Verdict::Bad(_) => (0, 1, 0),
             Verdict::Other(_) => (0, 0, 1),
         };
-        Some(Tally {
+        Some(FrameTally {
             frames,
             good: self.good + good,
             bad: self.bad + bad,
@@ -67,8 +72,8 @@ impl Tally {
         })
     }
 
-    /// Whether no frame is bad.
-    pub(crate) fn status(self) -> Status
+    /// `Done` if no frame is bad, else `Faulty`.
+    pub fn status(self) -> Status
         ensures { IsTallied self.bad result }
     {
         if self.bad == 0 {

@@ -4,28 +4,31 @@ ghost use Rattle.bac_serving.specs.Forgetting.{OnForgotten};
 ghost use Rattle.bac_serving.specs.Keeping.{OnDatabase};
 ghost use Rattle.bac_serving.specs.Listing.{OnListed};
 ghost use Rattle.bac_environment.specs.Sockets.{OnClock, OnPort};
-ghost use Rattle.bac_command_line.specs.Tasks.{ForgetsAsAsked, IsPerformed, ListsAsAsked};
+ghost use Rattle.bac_command_line.specs.Tasks.{ForgetsAsAsked, IsAtEnd, IsPerformed, ListsAsAsked};
 
 use crate::machine::Machine;
+use crate::output::Output;
 use crate::reasons::print_no_task;
+use crate::shown_form::form_of;
 use crate::task::{Task, task_of};
 use crate::telling::tell;
 use crate::told::{Told, is_brief};
 use bac_asking::{ask, ask_lines, do_with_files, pair};
-use bac_environment::{Environment, OpenFiles};
-use bac_reading::{
-    chart, check, check_json, check_json_lines, check_lines, decode, decode_copied, decode_json,
-    explain, explain_html, explain_json, show, simulate,
-};
-use bac_serving::{ListForm, answer, forget_kept, list_kept, serve, serve_kept, serve_looking};
-use bac_text::{Status, no_memory};
+use bac_environment::Environment;
+use bac_points::do_with_points;
+use bac_reading::{decode, print_report, simulate};
+use bac_serving::{RegularFiles, answer, forget_kept, list_kept, serve, serve_kept, serve_looking};
+use bac_shown::Form;
+use bac_text::{Status, no_memory, output_failed};
 use bac_words::{Telling, matches};
+use clap::ArgMatches;
 use clap::error::ErrorKind;
 use std::alloc::Global;
+use std::io;
 use std::io::Write;
 
 /// Does what was asked for.
-fn perform<F: OpenFiles, M: Machine, O: Write, E: Write>(
+fn perform<F: RegularFiles, M: Machine, O: Write, E: Write>(
     environment: &Environment<'_, F, M>,
     task: Task<'_, '_>,
     out: &mut O,
@@ -40,29 +43,14 @@ fn perform<F: OpenFiles, M: Machine, O: Write, E: Write>(
     let files = environment.files;
     match task {
         Task::Answer { datagram, objects } => { answer(alloc, files, datagram, objects, out, err) }
-        Task::Decode { in_words, datagram } => {
-            decode(alloc, files, in_words, datagram, out, err)
+        Task::Decode {
+            decoding,
+            datagrams,
+        } => { decode(alloc, files, decoding, datagrams, out, err) }
+        Task::Report { report, capture } => {
+            print_report(alloc, files, report, &capture, out, err)
         }
-        Task::DecodeForm { copied, datagrams } => {
-            decode_copied(alloc, files, copied, datagrams, out, err)
-        }
-        Task::DecodeJson(datagram) => decode_json(alloc, files, datagram, out, err),
-        Task::CheckJson(capture) => check_json(alloc, files, &capture, out, err),
-        Task::CheckJsonLines(path) => check_json_lines(alloc, files, path, out, err),
-        Task::Check { in_words, capture } => check(alloc, files, in_words, &capture, out, err),
-        Task::CheckLines { in_words, path } => {
-            check_lines(alloc, files, in_words, path, out, err)
-        }
-        Task::Explain { options, capture } => { explain(alloc, files, options, &capture, out, err) }
-        Task::ExplainJson { options, capture } => {
-            explain_json(alloc, files, options, &capture, out, err)
-        }
-        Task::ExplainHtml { options, capture } => {
-            explain_html(alloc, files, options, &capture, out, err)
-        }
-        Task::Chart { options, capture } => { chart(alloc, files, options, &capture, out, err) }
-        Task::Simulate(script) => simulate(alloc, files, &script, out, err),
-        Task::Show { view, script } => show(alloc, files, view, &script, out, err),
+        Task::Simulate { view, script } => simulate(alloc, files, view, &script, out, err),
         Task::Serve { serving, objects } => { serve(environment, &serving, objects, out, err) }
         Task::ServeLooking { serving, objects } => {
             serve_looking(environment, &serving, objects, out, err)
@@ -72,10 +60,7 @@ fn perform<F: OpenFiles, M: Machine, O: Write, E: Write>(
             objects,
             path,
         } => serve_kept(environment, &serving, objects, path, out, err),
-        Task::Keep { path, loss } => list_kept(environment, path, loss, ListForm::Lines, out, err),
-        Task::KeepJson { path, loss } => {
-            list_kept(environment, path, loss, ListForm::Objects, out, err)
-        }
+        Task::Keep { path, loss, form } => list_kept(environment, path, loss, form, out, err),
         Task::Forget(forgetting) => forget_kept(environment, forgetting, out, err),
         Task::Ask {
             asking,
@@ -88,9 +73,38 @@ fn perform<F: OpenFiles, M: Machine, O: Write, E: Write>(
             path,
         } => ask_lines(environment, &asking, default, path, out, err),
         Task::Files { task, work } => do_with_files(environment, &task, work, out, err),
+        Task::Points(task) => do_with_points(environment, &task, out, err),
         Task::Pair => pair(alloc, environment.machine, out, err),
-        Task::Tell(telling) => tell(telling, out, err),
+        Task::Tell(telling) => tell(environment.machine, telling, out, err),
     }
+}
+
+/// Whether it was told that standard output cannot be written, or that memory is out.
+fn has_failed(status: Status) -> bool {
+    matches!(status, Status::Output | Status::Memory)
+}
+
+/// The status of a task whose last octets could be written, or not.
+fn status_at_end<E: Write>(status: Status, ended: io::Result<()>, err: &mut E) -> Status
+    ensures { IsAtEnd status result }
+{
+    match ended {
+        Err(error) if !has_failed(status) => output_failed(err, &error),
+        _ => status,
+    }
+}
+
+/// Does what was asked for. What it prints is shown in the form of the task.
+fn perform_shown<F: RegularFiles, M: Machine, O: Write, E: Write>(
+    environment: &Environment<'_, F, M>,
+    task: Task<'_, '_>,
+    out: &mut O,
+    err: &mut E,
+) -> Status {
+    let mut shown = Output::new(environment.alloc, form_of(&task), out);
+    let status = perform(environment, task, &mut shown, err);
+    let (_, ended) = shown.finish();
+    status_at_end(status, ended, err)
 }
 
 /// Whether the words of a command line are `--version` alone, behind the program's name.
@@ -101,22 +115,34 @@ fn asks_version(words: &[String]) -> bool {
     }
 }
 
-/// Does what the words of a command line ask for; the first word is the program's name. `--version` alone does what the command `version` does.
-///
-/// Words of no form: clap's text on `err`, and `CommandLine`. Out of memory: `no memory` on `err`. Where a brief command line fails and standard error is no
-/// terminal, `err` gets one line; otherwise what went wrong, and why.
-pub fn run<F: OpenFiles, M: Machine, O: Write, E: Write>(
-    alloc: Global,
-    words: &[String],
-    files: &F,
-    machine: &M,
+/// What clap makes of the words of a command line.
+type Parsed<'a> = Result<ArgMatches<'a>, clap::Error>;
+
+/// Whether a command draws its progress on a terminal, by control characters of its own.
+fn draws_progress(command: &str) -> bool {
+    command == "ask" || command == "backup" || command == "restore"
+}
+
+/// How complaints are shown: the log of a server has objects of JSON where they are wanted. As they come where progress is drawn between them.
+fn form_of_complaints(parsed: &Parsed<'_>, is_terminal: bool) -> Option<Form> {
+    let Ok(matches) = parsed else {
+        return Some(Form::Text);
+    };
+    match matches.subcommand() {
+        Some((command, _)) if is_terminal && draws_progress(command) => None,
+        Some(("serve", given)) if given.get_flag("json") => Some(Form::Json),
+        _ => Some(Form::Text),
+    }
+}
+
+/// Does what parsed words ask for.
+fn run_parsed<F: RegularFiles, M: Machine, O: Write, E: Write>(
+    environment: &Environment<'_, F, M>,
+    parsed: Parsed<'_>,
     out: &mut O,
     err: &mut E,
 ) -> Status {
-    if asks_version(words) {
-        return tell(Telling::Version, out, err);
-    }
-    let matches = match matches(alloc, words) {
+    let matches = match parsed {
         Ok(matches) => matches,
         Err(error) if error.kind() == ErrorKind::OutOfMemory => return no_memory(err),
         Err(error) => {
@@ -125,16 +151,45 @@ pub fn run<F: OpenFiles, M: Machine, O: Write, E: Write>(
             return Status::CommandLine;
         }
     };
+    let machine = environment.machine;
+    let is_terminal = machine.shows_progress();
+    let tells_why = is_terminal || !is_brief(&matches);
+    let mut told = Told::new(err, tells_why);
+    match task_of(&matches, is_terminal, tells_why) {
+        Some(task) => perform_shown(environment, task.from_source(machine), out, &mut told),
+        None => print_no_task(&matches, &mut told),
+    }
+}
+
+/// Does what the words of a command line ask for; the first word is the program's name. `--version` alone does what the command `version` does.
+///
+/// Words of no form: clap's text on `err`, and `CommandLine`. Out of memory: `no memory` on `err`. Where a brief command line fails and standard error is no
+/// terminal, `err` gets one line; otherwise what went wrong, and why.
+///
+/// What would act on a terminal or hide is escaped, in what is printed and in complaints, but not in octets of a file or a capture, nor in what is wanted as it
+/// came, nor in the complaints of a command that draws its progress on a terminal.
+pub fn run<F: RegularFiles, M: Machine, O: Write, E: Write>(
+    alloc: Global,
+    words: &[String],
+    files: &F,
+    machine: &M,
+    out: &mut O,
+    err: &mut E,
+) -> Status {
+    let parsed = matches(alloc, words);
+    let form = form_of_complaints(&parsed, machine.shows_progress());
+    let mut told = Output::new(alloc, form, err);
     let environment = Environment {
         alloc,
         files,
         machine,
     };
-    let is_terminal = machine.shows_progress();
-    let tells_why = is_terminal || !is_brief(&matches);
-    let mut told = Told::new(err, tells_why);
-    match task_of(&matches, is_terminal, tells_why) {
-        Some(task) => perform(&environment, task.from_source(machine), out, &mut told),
-        None => print_no_task(&matches, &mut told),
-    }
+    let status = if asks_version(words) {
+        perform_shown(&environment, Task::Tell(Telling::Version), out, &mut told)
+    } else {
+        run_parsed(&environment, parsed, out, &mut told)
+    };
+    // if its last octets cannot be written, only the status is left
+    let _ = told.finish();
+    status
 }

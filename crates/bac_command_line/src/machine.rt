@@ -1,10 +1,13 @@
 //! What a command line runs on beside files.
 
 use bac_asking::ClientSockets;
-use bac_serving::{Databases, StandardInput};
+use bac_serving::{Databases, StandardError, StandardInput};
 
-/// The links and the clocks of a machine, its databases, its standard input and its standard error.
-pub trait Machine: ClientSockets + Databases + StandardInput {
+/// The links and the clocks of a machine, its databases, its standard input and its standard error, and its copy of the program.
+pub trait Machine: ClientSockets + Databases + StandardInput + StandardError {
     /// Whether standard error is a terminal, which shows the progress of an ask.
     fn shows_progress(&self) -> bool;
+
+    /// What is known of how the program was built.
+    fn built(&self) -> Option<String>;
 }

@@ -6,6 +6,7 @@ use bac_asking::{bad_pace, print_bad_pace};
 use bac_forms::FORM_NAMES;
 use bac_guard::SourcesFault;
 use bac_lists::{EVERY_HOST, is_of_node, read_end, read_host, read_link, read_route};
+use bac_points::{bad_timeout, print_bad_timeout};
 use bac_serving::{bad_peers, read_memory, remembers_in_vain};
 use bac_text::{Status, complain};
 use clap::ArgMatches;
@@ -141,6 +142,13 @@ pub(crate) fn print_no_task<E: Write>(matches: &ArgMatches<'_>, err: &mut E) -> 
             None => print_bad_address(bad_node(given), err),
         },
         Some(("backup" | "restore", given)) => print_bad_address(bad_node(given), err),
+        Some(("read" | "write" | "points", given)) => match bad_timeout(given) {
+            Some(text) => {
+                print_bad_timeout(text, err);
+                Status::CommandLine
+            }
+            None => print_bad_address(bad_node(given), err),
+        },
         _ => complain(err, "no command", Status::CommandLine),
     }
 }

@@ -7,7 +7,10 @@ ghost use Rattle.bac_keep_file.specs.Made.{HasEmptyTable};
 ghost use Rattle.sqlite_store.specs.FileStore.{view};
 ghost use Rattle.sqlite_trees.specs.View.{IsClean};
 
+use crate::built::built_beside;
 use crate::client_key::key_of_host;
+use crate::host_side::{HostSide, INPUT, has_room, is_ready};
+use crate::lasting::Lasting;
 use crate::machine::Machine;
 use crate::replacing::{make_private, put_out, remove_empty, rename, replace};
 use bac_asking::{ClientSockets, NoPair};
@@ -18,11 +21,10 @@ use bac_keep::KeepFault;
 use bac_keep_file::{Checkpoint, KeptFile, Loss, OpenFault};
 use bac_npdu::LinkAddress;
 use bac_pairs::{ClientPair, PairKey, left_at, pair_at};
-use bac_serving::{Databases, StandardInput};
-use mio::unix::SourceFd;
-use mio::{Events, Interest, Poll, Token};
+use bac_serving::{Databases, RegularFiles, StandardError, StandardInput};
+use mio::Interest;
 use std::cell::Cell;
-use std::fs::{File, OpenOptions};
+use std::fs::{File, Metadata, OpenOptions};
 use std::io::{ErrorKind, Read};
 use std::net::{Ipv4Addr, Net, SocketAddr, UdpSocket};
 use std::random::RandomSource;
@@ -31,9 +33,6 @@ use std::{fs, io, thread};
 
 /// The file that is standard input, which `-` stands for.
 const STANDARD_INPUT: &str = "/dev/stdin";
-
-/// The descriptor of standard input.
-const INPUT: i32 = 0;
 
 /// The system's number for a file that is a directory (EISDIR).
 const IS_A_DIRECTORY: i32 = 21;
@@ -112,30 +111,11 @@ fn random_key<R: RandomSource>(source: &R) -> io::Result<u64> {
     Ok(u64::from_le_bytes(octets))
 }
 
-/// Whether the system says of standard input that a read does not wait: something is there, or it has ended. A file, which it has no such word of, never lets a
-/// read wait.
-fn is_ready(runtime: &HostRuntime) -> io::Result<bool> {
-    let mut poll = Poll::new(runtime)?;
-    let mut source = SourceFd(&INPUT);
-    let registered = poll
-        .registry()
-        .register(&mut source, Token(0), Interest::READABLE);
-    if let Err(error) = registered {
-        return match error.kind() {
-            ErrorKind::PermissionDenied => Ok(true),
-            _ => Err(error),
-        };
-    }
-    let mut events = Events::with_capacity(runtime.alloc(), 1)?;
-    poll.poll(&mut events, Some(Duration::from_millis(0)))?;
-    Ok(!events.is_empty())
-}
-
 /// Whether standard input has ended. What is there is read, up to 256 KiB, and forgotten.
 fn is_at_end(runtime: &HostRuntime) -> io::Result<bool> {
     let mut buffer = [0; 4096];
     for _ in 0..READS {
-        if !is_ready(runtime)? {
+        if !is_ready(runtime, INPUT, Interest::READABLE)? {
             return Ok(false);
         }
         match runtime.stdin().read(&mut buffer) {
@@ -147,6 +127,17 @@ fn is_at_end(runtime: &HostRuntime) -> io::Result<bool> {
         }
     }
     Ok(false)
+}
+
+/// Refuses what is no regular file, or has more than so many octets.
+fn refuse_irregular(found: &Metadata, most: u64) -> io::Result<()> {
+    if !found.is_file() {
+        return Err(io::Error::new(ErrorKind::InvalidInput, "not a regular file"));
+    }
+    if found.len() > most {
+        return Err(io::Error::from(ErrorKind::FileTooLarge));
+    }
+    Ok(())
 }
 
 impl OpenFiles for System<'_, HostRuntime> {
@@ -181,23 +172,35 @@ impl OpenFiles for System<'_, HostRuntime> {
     }
 }
 
+impl RegularFiles for System<'_, HostRuntime> {
+    /// It is looked at before it is opened, and again once it is open: to open a pipe would wait.
+    fn open_regular(&self, path: &str, most: u64) -> io::Result<File> {
+        refuse_irregular(&fs::metadata(self.runtime, path)?, most)?;
+        let file = fs::open(self.runtime, path)?;
+        refuse_irregular(&file.metadata()?, most)?;
+        Ok(file)
+    }
+}
+
 impl<'a> Sockets for System<'a, HostRuntime> {
-    type Link = Guarded<UdpLink, MonotonicClock<'a, HostRuntime>>;
+    type Link = Guarded<Lasting<UdpLink, HostSide<'a>>, MonotonicClock<'a, HostRuntime>>;
 
     type Timer = MonotonicClock<'a, HostRuntime>;
 
-    ghost is_bound = { λ host port l address. (bound_host (link_below l) ≡ host) × (bound_port (link_below l) ≡ port) × (udp_address (link_below l) ≡ address) };
+    ghost is_bound = { λ host port l address. (bound_host (link_below l).link ≡ host) × (bound_port (link_below l).link ≡ port) × (udp_address (link_below l).link ≡ address) };
 
     ghost is_made = { λ c. latest_told c ≡ 0 };
 
     fn bind(&self, host: [u8; 4], port: u16, guard: &Guard) -> io::Result<(Self::Link, LinkAddress)>
-        ensures bound { IfOk result (λ b. (bound_host (link_below b.0) ≡ host) × (bound_port (link_below b.0) ≡ port) × (udp_address (link_below b.0) ≡ b.1)) }
+        ensures bound { IfOk result (λ b. (bound_host (link_below b.0).link ≡ host) × (bound_port (link_below b.0).link ≡ port) × (udp_address (link_below b.0).link ≡ b.1)) }
         ensures guarded { IfOk result (λ b. IsGuardedBy 0 guard.now b.0) }
     {
         let key = random_key(self.runtime)?;
         let clock = MonotonicClock::new(self.runtime)?;
+        let beside = HostSide::new(self.runtime)?;
         let link = UdpLink::bind_at(self.runtime, host, port)?;
         let address = link.address();
+        let link = Lasting::new(link, beside);
         match guard.over(self.runtime.alloc(), key, CLOCK_START, link, clock) {
             Ok(guarded) => Ok((guarded, address)),
             Err(_) => Err(io::Error::from(ErrorKind::OutOfMemory)),
@@ -302,8 +305,18 @@ impl StandardInput for System<'_, HostRuntime> {
     }
 }
 
+impl StandardError for System<'_, HostRuntime> {
+    fn has_room(&self) -> bool {
+        has_room(self.runtime)
+    }
+}
+
 impl Machine for System<'_, HostRuntime> {
     fn shows_progress(&self) -> bool {
         self.shows_progress
+    }
+
+    fn built(&self) -> Option<String> {
+        built_beside(self.runtime)
     }
 }

@@ -4,11 +4,11 @@ use bac_asking::{
     Asking, FileTask, FileWork, asking_of, backup_of, bad_pace, default_of, file_task_of, peer_of,
     work_of,
 };
-use bac_explain_report::{ChartOptions, ReportOptions};
 use bac_keep_file::Loss;
 use bac_npdu::Peer;
-use bac_reading::{CaptureFile, Copied, ScriptFile, chart_of, copied_of, is_copied, options_of};
-use bac_serving::{Forgetting, Serving, serving_of};
+use bac_points::{PointTask, point_task_of};
+use bac_reading::{CaptureFile, Decoding, Report, ScriptFile, check_of, decoding_of, report_of};
+use bac_serving::{Forgetting, ListForm, Serving, serving_of};
 use bac_simulate::View;
 use bac_words::Telling;
 use clap::ArgMatches;
@@ -20,57 +20,19 @@ pub(crate) enum Task<'m, 'a> {
         datagram: &'a str,
         objects: Option<&'a str>,
     },
-    /// The layers of this datagram, or of those on standard input; in words or not.
+    /// The layers of this datagram, or of those on standard input.
     Decode {
-        in_words: bool,
-        datagram: &'a str,
-    },
-    /// The same, in a form of their own.
-    DecodeForm {
-        copied: Copied,
+        decoding: Decoding,
         datagrams: &'a str,
     },
-    /// The same as objects of JSON.
-    DecodeJson(&'a str),
-    /// What is bad of this capture, in words, with counts of other functions by name, or not.
-    Check {
-        in_words: bool,
+    /// What is bad of this capture, or its transactions.
+    Report {
+        report: Report,
         capture: CaptureFile<'a>,
     },
-    /// The bad lines of the capture in this file, which has notes.
-    CheckLines {
-        in_words: bool,
-        path: &'a str,
-    },
-    /// What is bad of this capture, as objects of JSON.
-    CheckJson(CaptureFile<'a>),
-    /// The bad lines of the capture in this file, which has notes, as objects of JSON.
-    CheckJsonLines(&'a str),
-    /// The transactions of this capture, as those options say.
-    Explain {
-        options: ReportOptions,
-        capture: CaptureFile<'a>,
-    },
-    /// The same as objects of JSON.
-    ExplainJson {
-        options: ReportOptions,
-        capture: CaptureFile<'a>,
-    },
-    /// The same as a page of HTML.
-    ExplainHtml {
-        options: ReportOptions,
-        capture: CaptureFile<'a>,
-    },
-    /// The datagrams of this capture, drawn as that.
-    Chart {
-        options: ChartOptions,
-        capture: CaptureFile<'a>,
-    },
-    /// This script.
-    Simulate(ScriptFile<'a>),
-    /// The run of this script, shown as that.
-    Show {
-        view: View,
+    /// The events of this script, or a view of its run.
+    Simulate {
+        view: Option<View>,
         script: ScriptFile<'a>,
     },
     /// A node that serves so, with the house or the objects in this file.
@@ -93,11 +55,7 @@ pub(crate) enum Task<'m, 'a> {
     Keep {
         path: &'a str,
         loss: Loss,
-    },
-    /// The same as objects of JSON.
-    KeepJson {
-        path: &'a str,
-        loss: Loss,
+        form: ListForm,
     },
     /// That the file at a path forgets something.
     Forget(Forgetting<'a>),
@@ -118,6 +76,8 @@ pub(crate) enum Task<'m, 'a> {
         task: FileTask,
         work: FileWork<'m, 'a>,
     },
+    /// Properties of a node, for people.
+    Points(PointTask<'m, 'a>),
     /// Two nodes.
     Pair,
     /// What is told of the program.
@@ -169,6 +129,7 @@ impl<'m, 'a> Task<'m, 'a> {
                 task: task.from_source(machine),
                 work,
             },
+            Task::Points(task) => Task::Points(task.from_source(machine)),
             task => task,
         }
     }
@@ -187,62 +148,26 @@ pub(crate) fn task_of<'m, 'a>(
             let objects = given.get_str("objects");
             Some(Task::Answer { datagram, objects })
         }
-        ("decode", given) if given.get_flag("json") => {
-            Some(Task::DecodeJson(given.get_str("HEX")?))
-        }
-        ("decode", given) if is_copied(given) => {
-            let datagrams = given.get_str("HEX")?;
-            let copied = copied_of(given)?;
-            Some(Task::DecodeForm { copied, datagrams })
-        }
-        ("decode", given) => {
-            let datagram = given.get_str("HEX")?;
-            let in_words = given.get_flag("text");
-            Some(Task::Decode { in_words, datagram })
-        }
-        ("check", given) if given.get_flag("notes") => {
-            let path = given.get_str("FILE")?;
-            if given.get_flag("json") {
-                return Some(Task::CheckJsonLines(path));
-            }
-            let in_words = given.get_flag("text");
-            Some(Task::CheckLines { in_words, path })
-        }
-        ("check", given) if given.get_flag("json") => {
-            Some(Task::CheckJson(capture_of(given, tells_why)?))
-        }
-        ("check", given) => {
-            let capture = capture_of(given, tells_why)?;
-            let in_words = given.get_flag("text");
-            Some(Task::Check { in_words, capture })
-        }
-        ("explain", given) => {
-            let capture = capture_of(given, tells_why)?;
-            if let Some(options) = chart_of(given) {
-                return Some(Task::Chart { options, capture });
-            }
-            let options = options_of(given)?;
-            if given.get_flag("json") {
-                return Some(Task::ExplainJson { options, capture });
-            }
-            if given.get_flag("html") {
-                return Some(Task::ExplainHtml { options, capture });
-            }
-            Some(Task::Explain { options, capture })
-        }
-        ("simulate", given) => {
-            let path = given.get_str("FILE")?;
-            let notes = given.get_flag("notes");
-            let script = ScriptFile {
-                path,
-                notes,
+        ("decode", given) => Some(Task::Decode {
+            decoding: decoding_of(given)?,
+            datagrams: given.get_str("HEX")?,
+        }),
+        ("check", given) => Some(Task::Report {
+            report: check_of(given),
+            capture: capture_of(given, tells_why)?,
+        }),
+        ("explain", given) => Some(Task::Report {
+            report: report_of(given)?,
+            capture: capture_of(given, tells_why)?,
+        }),
+        ("simulate", given) => Some(Task::Simulate {
+            view: view_of(given),
+            script: ScriptFile {
+                path: given.get_str("FILE")?,
+                notes: given.get_flag("notes"),
                 reasons: tells_why,
-            };
-            match view_of(given) {
-                Some(view) => Some(Task::Show { view, script }),
-                None => Some(Task::Simulate(script)),
-            }
-        }
+            },
+        }),
         ("serve", given) => {
             let serving = serving_of(given)?;
             let objects = given.get_str("objects");
@@ -273,10 +198,12 @@ pub(crate) fn task_of<'m, 'a>(
             } else {
                 Loss::Refused
             };
-            if given.get_flag("json") {
-                return Some(Task::KeepJson { path, loss });
-            }
-            Some(Task::Keep { path, loss })
+            let form = if given.get_flag("json") {
+                ListForm::Objects
+            } else {
+                ListForm::Lines
+            };
+            Some(Task::Keep { path, loss, form })
         }
         ("ask", given) if bad_pace(given).is_some() => None,
         ("ask", given) => {
@@ -309,6 +236,9 @@ pub(crate) fn task_of<'m, 'a>(
             task: file_task_of(given, is_terminal)?,
             work: FileWork::Restore(given.get_str("folder")?),
         }),
+        (command @ ("read" | "write" | "points"), given) => {
+            Some(Task::Points(point_task_of(command, given)?))
+        }
         ("pair", _) => Some(Task::Pair),
         ("help", given) if given.get_flag("man") => Some(Task::Tell(Telling::Manual)),
         ("help", given) => Some(Task::Tell(Telling::Help(given.get_str("COMMAND")))),

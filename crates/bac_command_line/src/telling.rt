@@ -1,16 +1,38 @@
 //! Telling of the program: its help, its manual, its version and its completion.
 ghost use Rattle.bac_command_line.specs.Tasks.{IsTold};
 
+use crate::machine::Machine;
 use bac_text::{Status, output_failed};
 use bac_words::Telling;
 use std::io::Write;
 
+/// What is known of how the program was built, where that is told.
+fn built_for<M: Machine>(machine: &M, telling: Telling<'_>) -> Option<String> {
+    match telling {
+        Telling::Version => machine.built(),
+        _ => None,
+    }
+}
+
+fn text_of(text: &Option<String>) -> Option<&str> {
+    match text {
+        Some(text) => Some(text.as_str()),
+        None => None,
+    }
+}
+
 /// Tells of the program. A name of no command: `no command`, and that name, on `err`.
 #[tactic(auto, using(crate::proofs::FirstLines::failed_told))]
-pub(crate) fn tell<O: Write, E: Write>(telling: Telling<'_>, out: &mut O, err: &mut E) -> Status
+pub(crate) fn tell<M: Machine, O: Write, E: Write>(
+    machine: &M,
+    telling: Telling<'_>,
+    out: &mut O,
+    err: &mut E,
+) -> Status
     ensures { IsTold result }
 {
-    match telling.write(out) {
+    let built = built_for(machine, telling);
+    match telling.write(text_of(&built), out) {
         Ok(true) => match out.flush() {
             Ok(()) => Status::Done,
             Err(error) => output_failed(err, &error),

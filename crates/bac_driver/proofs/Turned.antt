@@ -83,13 +83,15 @@ one_more_sent view turns i turn lost more now f g h l m n within is sends after 
 -- what the node makes of what had come, over the octets that the bound node had in its buffer
 pub taken : (now : ℕ) (seen : Octets) (before old new : BoundNode) (middle : Node) (turn : Turn) → before ≡ old → seen ≡ before.buffer → turn.at ≡ now
     → turn.lost ≡ 0 → new.calls ≡ before.calls → new.failures ≡ before.failures → new.buffer ≡ before.buffer → new.rules ≡ before.rules
-    → Hears before.rules now seen turn.received before.node middle turn.heard → Ticks now middle new.node turn.ticked → IsTaken now old turn new
-taken now seen before old new middle turn is seen_is at none calls failures same rules hears ticks =
+    → Hears before.rules now seen turn.received before.node middle turn.heard → IsWithin before.rules.memory before.node middle
+    → Ticks now middle new.node turn.ticked → IsTaken now old turn new
+taken now seen before old new middle turn is seen_is at none calls failures same rules hears within ticks =
     subst (λ (o : BoundNode). IsTaken now o turn new) is
     (record {
       at = at;
       middle = middle;
       hears = subst (λ (b : Octets). Hears before.rules now b turn.received before.node middle turn.heard) seen_is hears;
+      within = within;
       ticks = ticks;
       lost = none;
       calls = calls;
@@ -109,6 +111,7 @@ acted now old middle before new turn sent lost same taken is node buffer rules s
       at = takes.at;
       middle = takes.middle;
       hears = takes.hears;
+      within = takes.within;
       ticks = subst (λ (n : Node). Ticks now takes.middle n turn.ticked) (sym node) takes.ticks;
       carried =
           record {

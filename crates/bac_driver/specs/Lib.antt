@@ -15,3 +15,4 @@ pub mod Calls
 pub mod Udp
 pub mod Moments
 pub mod Clocks
+pub mod Changes

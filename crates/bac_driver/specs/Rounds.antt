@@ -10,6 +10,7 @@ use Rattle.bac_transaction.specs.Sends.{Datagram}
 use Rattle.bac_world.specs.Node.{Node}
 use Rattle.bac_world.specs.Services.{Performed}
 use Rattle.bac_driver.specs.BoundNodes.{BoundNode}
+use Rattle.bac_node.specs.Memory.{IsWithin}
 use Rattle.bac_driver.specs.Calls.{Call, Calls, one_more, with_call}
 use Rattle.bac_driver.specs.Calls.Call.{FailedReceive}
 use Rattle.bac_driver.specs.Moments.{with_moment}
@@ -66,11 +67,12 @@ sends_of_all (turn ∷ turns) = sends_in turn ++ sends_of_all turns
 
 -- ---- a held turn
 
--- the node took what had come and did all that was due; nothing was sent
+-- the node took what had come, within the memory of its rules, and did all that was due; nothing was sent
 pub record IsTaken (now : ℕ) (old : BoundNode) (turn : Turn) (new : BoundNode) : Type 0 where
   pub at : turn.at ≡ now
   pub middle : Node
   pub hears : Hears old.rules now old.buffer turn.received old.node middle turn.heard
+  pub within : IsWithin old.rules.memory old.node middle
   pub ticks : Ticks now middle new.node turn.ticked
   pub lost : turn.lost ≡ 0
   pub calls : new.calls ≡ old.calls

@@ -9,6 +9,7 @@ use Rattle.bac_driver.specs.Calls.Call.{Send}
 use Rattle.bac_world.specs.Node.{Cause, Node, Outcome, NodeTick}
 use Rattle.bac_world.specs.Services.{Performed}
 use Rattle.bac_node.specs.Calls.{IsForNoneOpen, IsNotHeard}
+use Rattle.bac_node.specs.Memory.{IsWithin}
 use Rattle.bac_node.specs.Serving.{NodeHearsBy}
 use Rattle.bac_transaction.specs.Views.{rules_view}
 use Rattle.bac_transaction.specs.declared.rules.Rules.{Rules}
@@ -120,11 +121,12 @@ pub record Receives (p : WaitLimit) (now : ℕ) (old : BoundNode) (came : Option
   pub node : new.node ≡ old.node
   pub rules : new.rules ≡ old.rules
 
--- the node took what had come and did all that was due, and what it sent went to the link
+-- the node took what had come, within the memory of its rules, and did all that was due, and what it sent went to the link
 pub record Acts (now : ℕ) (old : BoundNode) (turn : Turn) (new : BoundNode) : Type 0 where
   pub at : turn.at ≡ now
   pub middle : Node
   pub hears : Hears old.rules now old.buffer turn.received old.node middle turn.heard
+  pub within : IsWithin old.rules.memory old.node middle
   pub ticks : Ticks now middle new.node turn.ticked
   pub carried : IsCarried (sends_of turn.heard ++ sends_of turn.ticked) turn.lost old new
   pub buffer : new.buffer ≡ old.buffer

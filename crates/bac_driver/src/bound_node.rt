@@ -16,7 +16,7 @@ ghost use Rattle.bac_driver.specs.Asking.{IsBegun};
 ghost use Rattle.bac_driver.specs.Views.{question_view, turn_view};
 ghost use Rattle.bac_store.specs.AtNode.{IsFaultOf};
 ghost use Rattle.bac_store.specs.Views.{change_view};
-ghost use Rattle.bac_world.specs.Node.{with_change};
+ghost use Rattle.bac_driver.specs.Changes.{MakesChange};
 
 use crate::fault::TurnFault;
 use crate::question::Question;
@@ -115,7 +115,7 @@ impl<L: Link> BoundNode<L> {
     ///
     /// The faults are those of `Node::change`. After a fault the bound node is as before.
     pub fn change(&mut self, change: &Change) -> Result<(), ChangeFault>
-        ensures made { OnOk result (self.new ≡ record self.old { node = with_change (change_view change.now) self.old.node }) }
+        ensures made { OnOk result (MakesChange self.old (change_view change.now) self.new) }
         ensures fault { IfErr result (IsFaultOf self.old.node.store (change_view change.now)) }
         ensures err { OnErr result (self.new ≡ self.old) }
     {

@@ -1,12 +1,9 @@
 //! `bac check --json`: each bad frame of a capture file as one object, and the counts.
 ghost use Rattle.std.specs.Prelude.{◌≡◌, codes, IfOk, OnOk};
-ghost use Rattle.bac_capture.specs.BlockViews.{frame_view};
-ghost use Rattle.bac_capture.specs.Counts.{IsTallied};
 ghost use Rattle.bac_capture.specs.Reports.{IsPrinted};
 ghost use Rattle.bac_capture.specs.Texts.{file_fault_text, packet_fault_text};
-ghost use Rattle.std.specs.Option.{option_map};
-ghost use Rattle.bac_json_report.specs.CheckedFiles.{IsCounted, IsDatagramVerdict, IsFaultText, IsReportOf, IsVerdict, count_of, counted, summary_form};
-ghost use Rattle.bac_json_report.specs.CheckedFiles.{IsBadFrame, bad_frame_form, verdict_fault};
+ghost use Rattle.bac_json_report.specs.CheckedFiles.{IsCounted, IsFaultText, IsReportOf, count_of, summary_form};
+ghost use Rattle.bac_json_report.specs.CheckedFiles.{IsBadFrame, bad_frame_form, captured_form, verdict_fault};
 ghost use Rattle.bac_json_report.specs.Faults.{outer_fault_form};
 ghost use Rattle.bac_json_report.specs.Lines.{IsLineOf};
 ghost use Rattle.bac_text.specs.Texts.{AppendsText};
@@ -14,44 +11,19 @@ ghost use Rattle.serde_json.specs.View.{view};
 
 use crate::check_lines::check_json_lines_over;
 use crate::fault::{fault_json, outer_fault_json};
-use crate::file_check::{FileCheck, Verdict};
+use crate::file_check::FileCheck;
 use crate::line::print_json;
 use crate::moment::{number_or_null, time_json};
 use bac_capture::{
-    FileFault, FileReport, Frame, LinkKind, OtherBvll, PacketFault, Ports, read_frame, report_over,
+    CapturedFault, FileFault, FileReport, Frame, FrameTally, PacketFault, Ports, Verdict, judge,
+    report_over,
 };
 use bac_json::Members;
-use bac_text::{CheckError, Status, check_datagram};
+use bac_text::{CheckError, Status};
 use serde_json::Value as Json;
 use std::alloc::{AllocError, Global};
 use std::io;
 use std::io::{BufRead, ErrorKind, Write};
-
-fn judge_datagram(datagram: &[u8]) -> Verdict
-    ensures { IsDatagramVerdict datagram.now result }
-{
-    if let Some(other) = OtherBvll::of(datagram) {
-        return Verdict::Other(other);
-    }
-    match check_datagram(datagram) {
-        Ok(()) => Verdict::Good,
-        Err(fault) => Verdict::Faulty(fault),
-    }
-}
-
-/// The result of checking a frame, from its link layer number and its octets.
-fn judge(frame: Frame<'_>, ports: Ports) -> Verdict
-    ensures { IsVerdict ports.also (frame_view frame.entry) result }
-{
-    let Some(link) = LinkKind::of(frame.link) else {
-        return Verdict::Link;
-    };
-    match read_frame(link, ports, frame.octets) {
-        Ok(None) => Verdict::Nothing,
-        Ok(Some(datagram)) => judge_datagram(datagram.octets),
-        Err(fault) => Verdict::Packet(fault),
-    }
-}
 
 fn bad_frame_object(
     alloc: Global,
@@ -112,16 +84,15 @@ fn file_fault_json(alloc: Global, fault: FileFault) -> Result<Json, AllocError>
     outer_fault_json(alloc, "file", text.as_str())
 }
 
-/// What is wrong with a frame, if something is.
-fn fault_of(alloc: Global, verdict: Verdict) -> Result<Option<Json>, AllocError>
-    ensures { IfOk result (λ o. option_map view o ≡ verdict_fault verdict) }
+/// What is wrong with a frame.
+fn fault_of(alloc: Global, fault: CapturedFault) -> Result<Json, AllocError>
+    ensures { IfOk result (λ v. view v ≡ captured_form fault) }
 {
-    match verdict {
-        Verdict::Nothing | Verdict::Good | Verdict::Other(_) => Ok(None),
-        Verdict::Link => Ok(Some(outer_fault_json(alloc, "frame", "unknown link layer")?)),
-        Verdict::Packet(fault) => Ok(Some(packet_fault_json(alloc, fault)?)),
-        Verdict::Faulty(fault) => Ok(Some(fault_json(alloc, fault)?)),
-        Verdict::File(fault) => Ok(Some(file_fault_json(alloc, fault)?)),
+    match fault {
+        CapturedFault::Link => outer_fault_json(alloc, "frame", "unknown link layer"),
+        CapturedFault::Packet(fault) => packet_fault_json(alloc, fault),
+        CapturedFault::Datagram { fault, .. } => fault_json(alloc, fault),
+        CapturedFault::File(fault) => file_fault_json(alloc, fault),
     }
 }
 
@@ -135,36 +106,14 @@ fn print_verdict<W: Write>(
 ) -> io::Result<()>
     ensures { OnOk result (AppendsText (W.contents out.old) (W.contents out.new) (IsFaultText number moment (verdict_fault verdict))) }
 {
-    match fault_of(alloc, verdict)? {
-        Some(fault) => print_bad(alloc, number, moment, fault, out),
-        None => Ok(()),
-    }
+    let Verdict::Bad(fault) = verdict else {
+        return Ok(());
+    };
+    let fault = fault_of(alloc, fault)?;
+    print_bad(alloc, number, moment, fault, out)
 }
 
 impl FileCheck {
-    /// One frame more. An Err where their number does not fit.
-    fn count(&mut self, verdict: Verdict) -> Result<(), CheckError>
-        ensures { OnOk result (count_of self.new ≡ counted (count_of self.old) verdict) }
-    {
-        let Some(frames) = self.frames.checked_add(1) else {
-            return Err(CheckError::Input(io::Error::from(ErrorKind::FileTooLarge)));
-        };
-        let (good, bad, other) = match verdict {
-            Verdict::Nothing => (0, 0, 0),
-            Verdict::Good => (1, 0, 0),
-            Verdict::Other(_) => (0, 0, 1),
-            Verdict::Link | Verdict::Packet(_) | Verdict::Faulty(_) | Verdict::File(_) => (0, 1, 0),
-        };
-        *self = FileCheck {
-            alloc: self.alloc,
-            frames,
-            good: self.good + good,
-            bad: self.bad + bad,
-            other: self.other + other,
-        };
-        Ok(())
-    }
-
     /// Counts a frame of that moment, and prints what is wrong with it.
     fn see<W: Write>(
         &mut self,
@@ -174,8 +123,11 @@ impl FileCheck {
     ) -> Result<(), CheckError>
         ensures { OnOk result (IsPrinted (IsCounted moment) verdict (W.contents out.old) (W.contents out.new) (count_of self.old) (count_of self.new)) }
     {
-        self.count(verdict)?;
-        match print_verdict(self.alloc, self.frames, moment, verdict, out) {
+        let Some(tally) = self.tally.with(verdict) else {
+            return Err(CheckError::Input(io::Error::from(ErrorKind::FileTooLarge)));
+        };
+        self.tally = tally;
+        match print_verdict(self.alloc, tally.frames, moment, verdict, out) {
             Ok(()) => Ok(()),
             Err(error) => Err(CheckError::Output(error)),
         }
@@ -185,10 +137,10 @@ impl FileCheck {
         ensures { IfOk result (λ v. view v ≡ summary_form (count_of self.now)) }
     {
         Members::new(self.alloc)
-            .number("bad", self.bad)
-            .number("frames", self.frames)
-            .number("good", self.good)
-            .number("other", self.other)
+            .number("bad", self.tally.bad)
+            .number("frames", self.tally.frames)
+            .number("good", self.tally.good)
+            .number("other", self.tally.other)
             .text("type", "summary")
             .end()
     }
@@ -200,26 +152,16 @@ impl FileCheck {
         print_json(self.alloc, &json, out)?;
         out.flush()
     }
-
-    /// Whether no frame is bad.
-    fn status(&self) -> Status
-        ensures { IsTallied self.now.bad result }
-    {
-        if self.bad == 0 {
-            Status::Done
-        } else {
-            Status::Faulty
-        }
-    }
 }
 
 impl<W: Write> FileReport<W> for FileCheck {
     ghost use Rattle.bac_capture.specs.FileReports.{no_heading};
-    ghost use Rattle.bac_json_report.specs.CheckedFiles.{BreaksFile, Count, EndsFile, SeesFrame, count_of};
+    ghost use Rattle.bac_capture.specs.Counts.{Counts};
+    ghost use Rattle.bac_json_report.specs.CheckedFiles.{BreaksFile, EndsFile, SeesFrame, count_of};
     ghost use Rattle.bac_json_report.specs.CheckedLines.{AreChecked};
     ghost use Rattle.std.specs.Prelude.{false};
 
-    ghost State = { Count };
+    ghost State = { Counts };
 
     ghost state = { count_of };
 
@@ -243,7 +185,7 @@ impl<W: Write> FileReport<W> for FileCheck {
     }
 
     fn break_off(&mut self, fault: FileFault, out: &mut W) -> Result<(), CheckError> {
-        self.see(None, Verdict::File(fault), out)
+        self.see(None, Verdict::Bad(CapturedFault::File(fault)), out)
     }
 
     fn heading_text(&self) -> &'static str {
@@ -252,7 +194,7 @@ impl<W: Write> FileReport<W> for FileCheck {
 
     fn end(&mut self, out: &mut W) -> Result<Status, CheckError> {
         match self.print_summary(out) {
-            Ok(()) => Ok(self.status()),
+            Ok(()) => Ok(self.tally.status()),
             Err(error) => Err(CheckError::Output(error)),
         }
     }
@@ -284,10 +226,7 @@ pub fn check_json_over<R: BufRead, O: Write, E: Write>(
 {
     let mut check = FileCheck {
         alloc,
-        frames: 0,
-        good: 0,
-        bad: 0,
-        other: 0,
+        tally: FrameTally::NONE,
     };
     report_over(alloc, input, ports, &mut check, out, err)
 }

@@ -194,12 +194,12 @@ answered_turns = record {
       so_far = record {
         middle = FIRST;
         so_far = record { middle = OPENING; so_far = refl; last = asked };
-        last = idle_step 253 FIRST 0 ASKED refl strict_set (Some T_OUT) asked_due asked_calm;
+        last = idle_step 253 FIRST 0 ASKED refl strict_set refl (Some T_OUT) asked_due asked_calm;
       };
-      last = hearing_step 253 IDLE 1 (station 1) refl strict_set None fresh_due 0 (link 0) (copy 0 1 ASK).octets request_comes _ served_hears
+      last = hearing_step 253 IDLE 1 (station 1) refl strict_set refl None fresh_due 0 (link 0) (copy 0 1 ASK).octets request_comes _ served_hears
           (node_in THIRD 1) served_is served_calm;
     };
-    last = hearing_step 253 SERVED 0 waiting refl strict_set (Some T_OUT) asked_due 1 (link 1) (copy 1 0 ANSWER).octets answer_comes _ answered_hears
+    last = hearing_step 253 SERVED 0 waiting refl strict_set refl (Some T_OUT) asked_due 1 (link 1) (copy 1 0 ANSWER).octets answer_comes _ answered_hears
         (node_in LAST 0) answered_is answered_calm;
   };
   log = refl;
@@ -249,14 +249,14 @@ answered_round = record {
         so_far = record {
           middle = FIRST;
           so_far = record { middle = OPENING; so_far = refl; last = asked };
-          last = idle_step 253 FIRST 0 ASKED refl strict_set (Some T_OUT) asked_due asked_calm;
+          last = idle_step 253 FIRST 0 ASKED refl strict_set refl (Some T_OUT) asked_due asked_calm;
         };
-        last = holding_step 253 IDLE 1 (station 1) refl strict_set None fresh_due 0 (link 0) (copy 0 1 ASK).octets request_comes _ served_hears
+        last = holding_step 253 IDLE 1 (station 1) refl strict_set refl None fresh_due 0 (link 0) (copy 0 1 ASK).octets request_comes _ served_hears
             (node_in THIRD 1) served_is served_calm;
       };
       last = record { before = held_station; at = refl; after = sent_station; sends = sends_held; is = refl };
     };
-    last = hearing_step 253 SENT 0 waiting refl strict_set (Some T_OUT) asked_due 1 (link 1) (copy 1 0 ANSWER).octets answer_comes_again _ answered_hears
+    last = hearing_step 253 SENT 0 waiting refl strict_set refl (Some T_OUT) asked_due 1 (link 1) (copy 1 0 ANSWER).octets answer_comes_again _ answered_hears
         (node_in LAST 0) answered_is answered_calm;
   };
   log = refl;
@@ -284,7 +284,7 @@ idle_run : CutPlantRun 253 (Goes (Takes 0 Nowhere (turn_by_none 0)) ∷ Goes (Be
 idle_run = record {
   middle = cut_plant FIRST;
   so_far = record { middle = CUT_OPENING; so_far = refl; last = record { free = refl; goes = asked; same = refl } };
-  last = record { free = refl; goes = idle_step 253 FIRST 0 ASKED refl strict_set (Some T_OUT) asked_due asked_calm; same = refl };
+  last = record { free = refl; goes = idle_step 253 FIRST 0 ASKED refl strict_set refl (Some T_OUT) asked_due asked_calm; same = refl };
 }
 
 loses : LosesTurnAt 253 (cut_plant IDLE) 1 (Station 0) served_turn (record { plant = IDLE; losing = losing_one })
@@ -292,9 +292,9 @@ loses = record {
   before = station 1;
   at = refl;
   after = held_station;
-  holds = holds_now 253 IDLE 1 (station 1) refl strict_set None fresh_due 0 (link 0) (copy 0 1 ASK).octets request_comes _ served_hears
+  holds = holds_now 253 IDLE 1 (station 1) refl strict_set refl None fresh_due 0 (link 0) (copy 0 1 ASK).octets request_comes _ served_hears
       (node_in THIRD 1) served_is served_calm;
-  comes = comes_now 253 IDLE 1 (station 1) refl strict_set None fresh_due 0 (link 0) (copy 0 1 ASK).octets request_comes _ served_hears
+  comes = comes_now 253 IDLE 1 (station 1) refl strict_set refl None fresh_due 0 (link 0) (copy 0 1 ASK).octets request_comes _ served_hears
       (node_in THIRD 1) served_is served_calm;
   is = refl;
 }
@@ -332,7 +332,7 @@ cut_rounds = record {
       so_far = idle_run;
       last = record {
         free = refl;
-        goes = holding_step 253 IDLE 1 (station 1) refl strict_set None fresh_due 0 (link 0) (copy 0 1 ASK).octets request_comes _ served_hears
+        goes = holding_step 253 IDLE 1 (station 1) refl strict_set refl None fresh_due 0 (link 0) (copy 0 1 ASK).octets request_comes _ served_hears
             (node_in THIRD 1) served_is served_calm;
         same = refl;
       };

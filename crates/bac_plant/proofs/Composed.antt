@@ -34,7 +34,7 @@ module _ (W overtake : ℕ) (p : Plant) (r : IsReached W overtake p) where
   called (BeginsAway i peer limits request) c =
       led overtake p (BeginsAway i peer limits request) i c.after
       (strangers_asked_go_on overtake p i c.before c.at peer c.stranger limits request c.ticket c.after c.begun)
-  called (Changes i change) c = led overtake p (Changes i change) i _ (changes_go_on overtake p i c.before c.at change c.may)
+  called (Changes i change) c = led overtake p (Changes i change) i c.after (changes_go_on overtake p i c.before c.at change c.after c.made)
   called (Restarts i exact store) c =
       let after : BoundNode =
       record c.before { node = restarted (clock_at p.time.pace exact).shows (store_after_restart c.before.node.store store) c.before.node } in

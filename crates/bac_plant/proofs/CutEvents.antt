@@ -5,7 +5,7 @@ use Rattle.bac_world.specs.Node.{Node}
 use Rattle.bac_world.specs.ReusingLogs.{Reuses}
 use Rattle.bac_world.specs.ReusingWorlds.{WorldRunSo, WorldStepSo}
 use Rattle.bac_world.specs.World.{Event, World, WorldStep}
-use Rattle.bac_cuts.specs.Cuts.{CutEvent, CutRun, CutRunSo, StartsAgain}
+use Rattle.bac_plant.specs.PowerCuts.{CutEvent, CutRun, CutRunSo, StartsAgain}
 use Rattle.bac_plant.specs.Cuts.{CutPlant, CutPlantRun, CutStep, cut_events_of, steps_of}
 use Rattle.bac_plant.specs.Events.{events_in}
 use Rattle.bac_plant.specs.Plants.{HasNoReuse, Plant, settings_of, world_of}

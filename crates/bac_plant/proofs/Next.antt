@@ -7,7 +7,7 @@ use Rattle.bac_service.specs.Values.{Request}
 use Rattle.bac_protocol.specs.Service.{Octets}
 use Rattle.bac_transaction.specs.Meanings.{EndedView}
 use Rattle.bac_transaction.specs.Sends.{Datagram, Pairwise}
-use Rattle.bac_world.specs.Node.{Node, Outcome, with_change}
+use Rattle.bac_world.specs.Node.{Node, Outcome}
 use Rattle.bac_world.specs.Once.{Fact}
 use Rattle.bac_world.specs.Once.Fact.{Asked, AskedAway, Changed, Performed, Restarted, Served}
 use Rattle.bac_world.specs.Services as service
@@ -340,11 +340,15 @@ failures_go_on overtake p i old new at failed = record {
 }
 
 pub changes_go_on : (overtake : ℕ) (p : Plant) → ChangesGoOn overtake p
-changes_go_on overtake p i before at c may =
-    let after : BoundNode = record before { node = with_change c before.node } in
+changes_go_on overtake p i before at c after made =
     record {
       new = record (with_station p i after) { log = Changed i c ∷ p.log };
-      goes = record { before = before; at = at; may = may; is = refl };
+      goes = record {
+        before = before;
+        at = at;
+        may = made.may;
+        is = ap (λ (b : BoundNode). record (with_station p i b) { log = Changed i c ∷ p.log }) made.is;
+      };
       there = get_set p.stations i after (slice_get_within p.stations i before at);
     }
 

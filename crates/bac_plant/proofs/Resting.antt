@@ -14,6 +14,7 @@ use Rattle.bac_world.specs.Node.{Node, NodeOn, NodeTick, Outcome}
 use Rattle.bac_world.specs.ReusingWorlds.{AreLoggedSo}
 use Rattle.bac_world.specs.World.{Hears, World, with_act}
 use Rattle.bac_world.proofs.Pairs.{append_none, pairwise_none}
+use Rattle.bac_node.specs.Memory.{IsWithin}
 use Rattle.bac_node.specs.Serving.{NodeHearsBy}
 use Rattle.bac_node.proofs.Rules.{hears_as_in_worlds}
 use Rattle.bac_transaction.specs.Views.{rules_view}
@@ -117,9 +118,13 @@ hears_it now b off from octets n o on =
     (hears_as_in_worlds false (rules_view b.rules) off now from (take (length octets) octets) b.node n o).1
     (subst (λ os. NodeOn now from os b.node n o) (sym (take-length octets)) on)
 
-takes_turn : (now : ℕ) (b : BoundNode) → IsSetTo false b → (due : Option ℕ) → IsDue b.node due → (from octets : Octets) (n : Node) (o : Outcome)
+-- no bound on memory is kept by everything
+unbounded : (memory : Option ℕ) (old new : Node) → memory ≡ None → IsWithin memory old new
+unbounded memory old new free = subst (λ (m : Option ℕ). IsWithin m old new) (sym free) tt
+
+takes_turn : (now : ℕ) (b : BoundNode) → IsSetTo false b → b.rules.memory ≡ None → (due : Option ℕ) → IsDue b.node due → (from octets : Octets) (n : Node) (o : Outcome)
     → NodeOn now from octets b.node n o → IsCalm now n → IsSomeTurn now b (turn_by now from octets o) (after_turn now b from octets n o)
-takes_turn now b off due is from octets n o on calm = record {
+takes_turn now b off free due is from octets n o on calm = record {
   limit = AT_ONCE;
   began = now;
   is = record {
@@ -129,6 +134,7 @@ takes_turn now b off due is from octets n o on calm = record {
       at = refl;
       middle = n;
       hears = hears_it now b off from octets n o on;
+      within = unbounded b.rules.memory b.node n free;
       ticks = ticks now n calm;
       carried = record { order = refl; count = refl; most = omega arith };
       buffer = refl;
@@ -137,9 +143,9 @@ takes_turn now b off due is from octets n o on calm = record {
   };
 }
 
-holds_turn : (now : ℕ) (b : BoundNode) → IsSetTo false b → (due : Option ℕ) → IsDue b.node due → (from octets : Octets) (n : Node) (o : Outcome)
+holds_turn : (now : ℕ) (b : BoundNode) → IsSetTo false b → b.rules.memory ≡ None → (due : Option ℕ) → IsDue b.node due → (from octets : Octets) (n : Node) (o : Outcome)
     → NodeOn now from octets b.node n o → IsCalm now n → HoldsSomeTurn now b (turn_by now from octets o) (after_held now b from octets n)
-holds_turn now b off due is from octets n o on calm = record {
+holds_turn now b off free due is from octets n o on calm = record {
   limit = AT_ONCE;
   began = now;
   middle = came b from octets;
@@ -148,6 +154,7 @@ holds_turn now b off due is from octets n o on calm = record {
     at = refl;
     middle = n;
     hears = hears_it now b off from octets n o on;
+    within = unbounded b.rules.memory b.node n free;
     ticks = ticks now n calm;
     lost = refl;
     calls = refl;
@@ -163,8 +170,8 @@ turn_by_none now = record { at = now; received = None; heard = None; ticked = So
 abbrev pub after_none : ℕ → BoundNode → BoundNode
 after_none now b = record b { node = ticked now b.node; calls = with_calls (with_call b.calls (received 0 b.buffer (Ok None))) [] }
 
-takes_none : (now : ℕ) (b : BoundNode) (due : Option ℕ) → IsDue b.node due → IsCalm now b.node → IsSomeTurn now b (turn_by_none now) (after_none now b)
-takes_none now b due is calm = record {
+takes_none : (now : ℕ) (b : BoundNode) → b.rules.memory ≡ None → (due : Option ℕ) → IsDue b.node due → IsCalm now b.node → IsSomeTurn now b (turn_by_none now) (after_none now b)
+takes_none now b free due is calm = record {
   limit = AT_ONCE;
   began = now;
   is = record {
@@ -174,6 +181,7 @@ takes_none now b due is calm = record {
       at = refl;
       middle = b.node;
       hears = (refl, refl);
+      within = unbounded b.rules.memory b.node b.node free;
       ticks = ticks now b.node calm;
       carried = record { order = refl; count = refl; most = omega arith };
       buffer = refl;
@@ -188,8 +196,8 @@ abbrev pub next_plant : Plant → ℕ → BoundNode → World → Plant
 next_plant p i b w = record (with_station p i b) { lives = with_act (with_act p.lives i) i; copies = w.copies; log = w.log }
 
 -- what a node hears in the world is a turn of its station
-module _ (overtake : ℕ) (old : Plant) (i : ℕ) (b : BoundNode) (at : slice_get old.stations i ≡ Some b) (off : IsSetTo false b) (due : Option ℕ)
-    (is : IsDue b.node due) where
+module _ (overtake : ℕ) (old : Plant) (i : ℕ) (b : BoundNode) (at : slice_get old.stations i ≡ Some b) (off : IsSetTo false b)
+    (free : b.rules.memory ≡ None) (due : Option ℕ) (is : IsDue b.node due) where
   module _ (number : ℕ) (from octets : Octets) (comes : IsOfStation overtake old i number from octets) (w : World) (h : Hears (world_of old) i from octets w)
       (n : Node) (same : h.after ≡ n) (calm : IsCalm (shows old i) n) where
     was : h.before ≡ b.node
@@ -224,14 +232,14 @@ module _ (overtake : ℕ) (old : Plant) (i : ℕ) (b : BoundNode) (at : slice_ge
       before = b;
       at = at;
       after = after_turn (shows old i) b from octets n h.outcome;
-      takes = takes_turn (shows old i) b off due is from octets n h.outcome on calm;
+      takes = takes_turn (shows old i) b off free due is from octets n h.outcome on calm;
       reuse = false;
       set = off;
       happens = happens (after_turn (shows old i) b from octets n h.outcome) refl;
     }
 
     pub holds_now : HoldsSomeTurn (shows old i) b (turn_by (shows old i) from octets h.outcome) (after_held (shows old i) b from octets n)
-    holds_now = holds_turn (shows old i) b off due is from octets n h.outcome on calm
+    holds_now = holds_turn (shows old i) b off free due is from octets n h.outcome on calm
 
     pub comes_now : HandsOver overtake old i (Station number) (Some (from, length octets)) octets
     comes_now = subst (λ os. IsOfStation overtake old i number from os) (sym (take-length octets)) comes
@@ -256,7 +264,7 @@ module _ (overtake : ℕ) (old : Plant) (i : ℕ) (b : BoundNode) (at : slice_ge
     before = b;
     at = at;
     after = after_none (shows old i) b;
-    takes = takes_none (shows old i) b due is calm;
+    takes = takes_none (shows old i) b free due is calm;
     reuse = false;
     set = off;
     happens = record {

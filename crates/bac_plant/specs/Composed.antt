@@ -3,7 +3,8 @@ use Rattle.std.specs.Prelude.{◌≡◌, ℕ, true, false, List, [], ◌∷◌, 
 use Rattle.bac_apdu.specs.Apdu.{Limits}
 use Rattle.bac_npdu.specs.Peers.{PeerView}
 use Rattle.bac_service.specs.Values.{Request}
-use Rattle.bac_store.specs.AtNode.{Change, change_fault}
+use Rattle.bac_store.specs.AtNode.{Change}
+use Rattle.bac_driver.specs.Changes.{MakesChange}
 use Rattle.bac_store.specs.Stores.{Store}
 use Rattle.bac_protocol.specs.Service.{Octets}
 use Rattle.bac_world.specs.World.{IsOfNone, is_quiet, link_at, peer_at}
@@ -73,7 +74,8 @@ pub record CallsToAskAway (p : Plant) (i : ℕ) (peer : PeerView) (limits : Limi
 pub record CallsToChange (p : Plant) (i : ℕ) (change : Change) : Type 0 where
   pub before : BoundNode
   pub at : slice_get p.stations i ≡ Some before
-  pub may : change_fault before.node.store change ≡ None
+  pub after : BoundNode
+  pub made : MakesChange before change after
 
 -- there is such a station: it restarts
 pub record IsThere (p : Plant) (i : ℕ) : Type 0 where

@@ -1,6 +1,6 @@
 -- A plant in which the power of stations is cut at any moment, also in the midst of a round, and each starts again with the store that its keeper finds.
 use Rattle.std.specs.Prelude.{◌≡◌, ◌≢◌, ℕ, List, [], ◌∷◌, ◌++◌, map, Option, Some, None, slice_get, if◌then◌else◌, nat_eq, IfSome}
-use Rattle.bac_cuts.specs.Cuts.{CutEvent}
+use Rattle.bac_plant.specs.PowerCuts.{CutEvent}
 use Rattle.bac_driver.specs.BoundNodes.{BoundNode}
 use Rattle.bac_driver.specs.Runs.{Run}
 use Rattle.bac_driver.specs.Turns.{Turn}

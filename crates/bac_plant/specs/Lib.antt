@@ -10,3 +10,9 @@ pub mod Cuts
 pub mod NextCuts
 pub mod Example
 pub mod Pauses
+pub mod Answers
+pub mod AnswersExamples
+pub mod Moments
+pub mod WritesExamples
+pub mod Writes
+pub mod PowerCuts

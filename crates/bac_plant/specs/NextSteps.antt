@@ -3,11 +3,12 @@ use Rattle.std.specs.Prelude.{◌≡◌, ℕ, true, false, List, Option, Some, N
 use Rattle.bac_apdu.specs.Apdu.{Limits}
 use Rattle.bac_npdu.specs.Peers.{PeerView}
 use Rattle.bac_service.specs.Values.{Request}
-use Rattle.bac_store.specs.AtNode.{Change, change_fault}
+use Rattle.bac_store.specs.AtNode.{Change}
+use Rattle.bac_driver.specs.Changes.{MakesChange}
 use Rattle.bac_store.specs.Stores.{Store}
 use Rattle.bac_protocol.specs.Pace.{IsTimely, clock_at}
 use Rattle.bac_protocol.specs.Service.{Octets}
-use Rattle.bac_world.specs.Node.{begun_again, restarted, store_after_restart, with_change}
+use Rattle.bac_world.specs.Node.{begun_again, restarted, store_after_restart}
 use Rattle.bac_world.specs.World.{IsBounded, IsFresh, IsOfNone, is_quiet, link_at, peer_at}
 use Rattle.bac_transaction.specs.Views.{rules_view}
 use Rattle.bac_driver.specs.Asking.{IsBegun}
@@ -77,8 +78,8 @@ FailuresGoOn overtake p =
 -- each change of its own store that has no fault
 abbrev pub ChangesGoOn : (overtake : ℕ) → Plant → Type 0
 ChangesGoOn overtake p =
-    (i : ℕ) (before : BoundNode) → slice_get p.stations i ≡ Some before → (c : Change) → change_fault before.node.store c ≡ None
-    → LeadsTo overtake p (Changes i c) i (record before { node = with_change c before.node })
+    (i : ℕ) (before : BoundNode) → slice_get p.stations i ≡ Some before → (c : Change) (after : BoundNode) → MakesChange before c after
+    → LeadsTo overtake p (Changes i c) i after
 
 -- each restart with a new clock, whatever its new link and buffer are
 abbrev pub RestartsGoOn : (overtake : ℕ) → Plant → Type 0

@@ -4,6 +4,9 @@
 #![tactic(auto)]
 
 pub mod examples;
+mod power;
+mod replies;
+mod strangers;
 
 ghost use Rattle.std.specs.Prelude.{◌≡◌, ◌⊎◌, ◌+◌, ◌≤◌, ℕ, List, length, map, Some, slice_get, true};
 ghost use Rattle.bac_protocol.specs.Pace.{IsTimely};
@@ -13,7 +16,7 @@ ghost use Rattle.bac_world.specs.Once.{IsOnce, IsOnceByRequests};
 ghost use Rattle.bac_world.specs.ReusingLogs.{IsOnceSo};
 ghost use Rattle.bac_world.specs.ReusingWorlds.{WorldRunSo};
 ghost use Rattle.bac_world.specs.World.{IsBounded, IsFresh, WorldRun, is_quiet, stores_of};
-ghost use Rattle.bac_cuts.specs.Cuts.{CutRun, CutRunSo};
+ghost use Rattle.bac_plant.specs.PowerCuts.{CutRun, CutRunSo};
 ghost use Rattle.bac_driver.specs.BoundNodes.{BoundNode};
 ghost use Rattle.bac_driver.specs.Asking.{AskingEnds, AskingFails, Question};
 ghost use Rattle.bac_driver.specs.Observed.{Observed};
@@ -42,6 +45,9 @@ ghost use Rattle.bac_plant.specs.Steps.Step.{SendsHeld};
 
 use bac_driver::Observer;
 use bac_keep::Keeper;
+pub use power::power_cuts_are_restarts;
+pub use replies::answers_are_replies;
+pub use strangers::strangers_writes_act_once;
 
 /// The turns that stations take, also those of a round, whose sends are held, their asks, changes and restarts are events of a world: a run of a plant is the
 /// run of its world through the events of its steps, in which the nodes let clients use invoke IDs again whose stations do; no step changes a setting, how reads

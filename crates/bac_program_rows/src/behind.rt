@@ -103,7 +103,11 @@ impl<'a> Behind<'a> {
     pub(crate) fn keeps_all(self) -> bool {
         matches!(
             self,
-            Behind::Backwards | Behind::HousesOnce | Behind::Reads(_) | Behind::ReadsOnce(_)
+            Behind::Backwards
+                | Behind::HousesOnce
+                | Behind::Reads(_)
+                | Behind::ReadsOnce(_)
+                | Behind::Replies(_)
         )
     }
 

@@ -14,7 +14,7 @@ use bac_guard::{Guard, Guarded};
 use bac_keep::KeepFault;
 use bac_keep_file::{Checkpoint, Loss, OpenFault};
 use bac_pairs::ClientPair;
-use bac_serving::{Databases, StandardInput};
+use bac_serving::{Databases, StandardError, StandardInput};
 use sqlite_trees::memory::MemStore;
 use std::alloc::Global;
 use std::cell::Cell;
@@ -144,6 +144,8 @@ pub(crate) struct BenchMachine<'a> {
     next: Cell<u16>,
     /// The time of day of the next look.
     time: Cell<u64>,
+    /// How often it was asked whether standard error has room.
+    asked: Cell<u64>,
     /// Where its last link is bound.
     pub bound: Cell<Option<Bound>>,
 }
@@ -157,6 +159,7 @@ impl<'a> BenchMachine<'a> {
             last_free: Cell::new(50_000),
             next: Cell::new(FIRST),
             time: Cell::new(MORNING),
+            asked: Cell::new(0),
             bound: Cell::new(None),
         }
     }
@@ -300,8 +303,25 @@ impl StandardInput for BenchMachine<'_> {
     }
 }
 
+impl StandardError for BenchMachine<'_> {
+    /// As the scene says, by how often it was asked.
+    fn has_room(&self) -> bool {
+        let asked = self.asked.get();
+        self.asked.set(asked.saturating_add(1));
+        match self.scene.full {
+            Some((from, to)) => asked < from || to <= asked,
+            None => true,
+        }
+    }
+}
+
 impl Machine for BenchMachine<'_> {
     fn shows_progress(&self) -> bool {
         self.scene.is_terminal
+    }
+
+    fn built(&self) -> Option<String> {
+        let heading = self.setup.line("built")?;
+        String::from_str(self.alloc, heading.words).ok()
     }
 }

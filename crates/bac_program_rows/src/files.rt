@@ -5,6 +5,7 @@ use crate::lines::{Heading, of_block};
 use crate::scene::Setup;
 use crate::spelling::put_line;
 use bac_environment::OpenFiles;
+use bac_serving::RegularFiles;
 use std::alloc::Global;
 use std::cell::Cell;
 use std::io;
@@ -26,6 +27,8 @@ pub(crate) struct OpenedFile {
     octets: Vec<u8>,
     read: usize,
     fault: Option<ErrorKind>,
+    /// Whether it stands for a pipe.
+    is_pipe: bool,
 }
 
 impl Read for OpenedFile {
@@ -169,7 +172,21 @@ fn opened(octets: Vec<u8>, word: &str) -> io::Result<OpenedFile> {
         octets,
         read: 0,
         fault,
+        is_pipe: word == "pipe",
     })
+}
+
+impl RegularFiles for Files<'_> {
+    fn open_regular(&self, path: &str, most: u64) -> io::Result<OpenedFile> {
+        let file = self.open(path)?;
+        if file.is_pipe {
+            return Err(io::Error::new(ErrorKind::InvalidInput, "not a regular file"));
+        }
+        if file.octets.len() as u64 > most {
+            return Err(io::Error::from(ErrorKind::FileTooLarge));
+        }
+        Ok(file)
+    }
 }
 
 impl OpenFiles for Files<'_> {

@@ -14,16 +14,18 @@
 //!   `clock none` can't be read. Without it the clock stands at 0.
 //! - `day +STEP`: the time of day goes on by so many milliseconds each time that it is looked at; it is 2026-11-27, 7:10 in UTC, at first.
 //! - `file NAME` is a file of the lines below it, each after `| `; `file NAME denied` and `file NAME memory` fail behind them, with permission denied or want of
-//!   memory, and `file NAME unopened` can't be opened for want of memory. A file that is there twice has the second text where it is opened again, and so on.
+//!   memory, `file NAME unopened` can't be opened for want of memory, and `file NAME pipe` is none that can be followed. A file that is there twice has the second text where it is opened again, and so on.
 //! - `hex NAME` is a file of octets, in hexadecimal, with blanks between them.
 //! - `disk`: files can be written. `disk NAME`: those whose names begin so get half of the octets, and then the disk is full.
 //!   `disk silent NAME`: they get half of the octets, and nothing is said.
 //! - `database NAME` keeps cells, each `PLACE HEX` after `| `; `database NAME new` is made when it is opened; `locked` and `damaged` can't be opened.
 //! - `terminal`: standard error is one. `errors fail`: nothing can be written to it; `errors fail once`: the first write fails. `output fails`: nothing
 //!   can be written to standard output.
+//! - `full FROM TO`: where a server asks whether standard error has room, it has none from the FROM-th time on, counted from 0, and again from the TO-th on.
 //! - `taken N`: clients try the ports from 40,000 on, and so many of them are taken. `source A.B.C.D`: the address that the machine sends from.
 //! - `machine`: the command line runs on the files, sockets and clock of the machine that plays the rows; of the other lines only `errors` means something then.
 //!   `machine taken PORT`: that port of 127.0.0.1 is taken meanwhile.
+//! - `built TEXT`: that is known of how the program was built.
 //! - `pairs`: a moment in microseconds stands for the command line, and the port and the first invoke ID of a client that begins then are printed.
 //! - `# ..` is a note, also below a command line.
 //!

@@ -77,7 +77,7 @@ impl<'a> Setup<'a> {
 /// The words that begin lines of a setup.
 const WORDS: &[&str] = &[
     "|", "#", "links", "clock", "day", "file", "hex", "disk", "database", "terminal", "errors",
-    "output", "taken", "source", "machine", "pairs",
+    "output", "taken", "source", "machine", "pairs", "built", "full",
 ];
 
 /// Whether each line of a text begins with a word that sets a scene.
@@ -106,6 +106,8 @@ pub(crate) struct Scene<'a> {
     pub day: u64,
     /// How many of the ports are taken at which clients begin; None where a client begins at any free port.
     pub taken: Option<u16>,
+    /// From which time on that it is asked standard error has no room, and from which on it has some again.
+    pub full: Option<(u64, u64)>,
     /// The address that it sends from.
     pub source: Option<[u8; 4]>,
     pub is_terminal: bool,
@@ -145,6 +147,17 @@ fn day_in(setup: Setup<'_>) -> Option<u64> {
 fn taken_in(setup: Setup<'_>) -> Option<Option<u16>> {
     match setup.line("taken") {
         Some(heading) => Some(Some(heading.words.parse::<u16>().ok()?)),
+        None => Some(None),
+    }
+}
+
+/// `FROM TO`; always room where nothing is said.
+fn full_in(setup: Setup<'_>) -> Option<Option<(u64, u64)>> {
+    match setup.line("full") {
+        Some(heading) => {
+            let (from, to) = first(heading.words);
+            Some(Some((from.parse::<u64>().ok()?, to.parse::<u64>().ok()?)))
+        }
         None => Some(None),
     }
 }
@@ -193,6 +206,7 @@ pub(crate) fn scene_of(setup: Setup<'_>) -> Option<Scene<'_>> {
         clock: clock_in(setup)?,
         day: day_in(setup)?,
         taken: taken_in(setup)?,
+        full: full_in(setup)?,
         source: source_in(setup)?,
         is_terminal: setup.has("terminal"),
     })

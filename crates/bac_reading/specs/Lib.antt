@@ -1,6 +1,6 @@
 pub mod Files
-pub mod Explaining
-pub mod Lines
-pub mod Json
 pub mod Selecting
 pub mod Copied
+pub mod Decodings
+pub mod Reports
+pub mod Scripts

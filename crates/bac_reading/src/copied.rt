@@ -2,7 +2,7 @@
 ghost use Rattle.bac_reading.specs.Copied.{AreDecodedCopied, AreDecodedIn, IsCopiedFile};
 ghost use Rattle.bac_environment.specs.Files.{OnFile};
 
-use crate::lines::STANDARD_INPUT;
+use crate::decoding::STANDARD_INPUT;
 use bac_environment::{OpenFiles, octets_of, opened};
 use bac_forms::{Form, Printing, decode_form_over, guess};
 use bac_text::Status;
@@ -20,7 +20,7 @@ pub struct Copied {
 }
 
 /// Whether the arguments of `decode` name a form, ask for numbers, or take frames.
-pub fn is_copied(given: &ArgMatches<'_>) -> bool {
+pub(crate) fn is_copied(given: &ArgMatches<'_>) -> bool {
     given.get_flag("number") || given.get_flag("frame") || given.get_str("form").is_some()
 }
 
@@ -34,7 +34,7 @@ fn form_of(given: &ArgMatches<'_>) -> Option<Option<Form>> {
 }
 
 /// How the arguments of `decode` say that datagrams are read and printed. None if the form is invalid.
-pub fn copied_of(given: &ArgMatches<'_>) -> Option<Copied> {
+pub(crate) fn copied_of(given: &ArgMatches<'_>) -> Option<Copied> {
     let form = form_of(given)?;
     let printing = Printing {
         in_words: given.get_flag("text"),
@@ -83,7 +83,7 @@ fn decode_file<F: OpenFiles, O: Write, E: Write>(
 }
 
 /// Prints the layers of the datagrams in a text, or in standard input if the text is `-`.
-pub fn decode_copied<F: OpenFiles, O: Write, E: Write>(
+pub(crate) fn decode_copied<F: OpenFiles, O: Write, E: Write>(
     alloc: Global,
     files: &F,
     copied: Copied,

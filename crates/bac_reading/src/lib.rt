@@ -2,18 +2,17 @@
 #![tactic(auto)]
 
 mod copied;
+mod decoding;
 mod digit_lines;
-mod explaining;
 mod files;
-mod json;
-mod lines;
 mod reasons;
+mod report;
+mod script;
 mod selecting;
 mod watched;
 
-pub use copied::{Copied, copied_of, decode_copied, is_copied};
-pub use explaining::{explain_html, explain_json};
-pub use files::{CaptureFile, ScriptFile, chart, check, explain, show, simulate};
-pub use json::{check_json, check_json_lines, decode_json};
-pub use lines::{STANDARD_INPUT, check_lines, decode};
-pub use selecting::{chart_of, options_of};
+pub use copied::Copied;
+pub use decoding::{Decoding, LayerForm, STANDARD_INPUT, decode};
+pub use report::{CaptureFile, Report, print_report};
+pub use script::{ScriptFile, simulate};
+pub use selecting::{check_of, decoding_of, report_of};

@@ -1,7 +1,10 @@
-//! Which transactions of a capture are printed, what counts as a fault, and how datagrams are drawn.
+//! What the arguments of `decode`, `check` and `explain` ask for: which transactions are printed, what counts as a fault, and how datagrams are drawn.
 ghost use Rattle.std.specs.Prelude.{◌≡◌, IfSome};
 ghost use Rattle.bac_reading.specs.Selecting.{AreChartOptions, AreGivenOptions, form_by};
 
+use crate::copied::{copied_of, is_copied};
+use crate::decoding::{Decoding, LayerForm};
+use crate::report::Report;
 use bac_environment::{flag_of, number_of};
 use bac_explain_report::{ChartFormat, ChartOptions, PeerFilter, ReportOptions, Selection};
 use bac_lists::read_end;
@@ -19,7 +22,7 @@ fn peer_of(given: &ArgMatches<'_>) -> Option<Option<PeerFilter>> {
 }
 
 /// Which transactions the arguments of `explain` select, and what counts as a fault. None if the address of `--peer` is invalid.
-pub fn options_of(given: &ArgMatches<'_>) -> Option<ReportOptions>
+fn options_of(given: &ArgMatches<'_>) -> Option<ReportOptions>
     ensures { IfSome result (AreGivenOptions given.now) }
 {
     let selection = Selection {
@@ -47,7 +50,7 @@ fn form_by(mermaid: bool) -> ChartFormat
 }
 
 /// How the arguments of `explain` say that datagrams are drawn. None if transactions are printed.
-pub fn chart_of(given: &ArgMatches<'_>) -> Option<ChartOptions>
+fn chart_of(given: &ArgMatches<'_>) -> Option<ChartOptions>
     ensures { IfSome result (AreChartOptions given.now) }
 {
     let chart = flag_of(given, "chart");
@@ -62,4 +65,46 @@ pub fn chart_of(given: &ArgMatches<'_>) -> Option<ChartOptions>
     } else {
         None
     }
+}
+
+/// What the arguments of `check` say is printed of a capture.
+pub fn check_of(given: &ArgMatches<'_>) -> Report {
+    let in_words = given.get_flag("text");
+    match (given.get_flag("notes"), given.get_flag("json")) {
+        (true, true) => Report::CheckLinesJson,
+        (true, false) => Report::CheckLines { in_words },
+        (false, true) => Report::CheckJson,
+        (false, false) => Report::Check { in_words },
+    }
+}
+
+/// What the arguments of `explain` say is printed of a capture. None if the address of `--peer` is invalid.
+pub fn report_of(given: &ArgMatches<'_>) -> Option<Report> {
+    if let Some(options) = chart_of(given) {
+        return Some(Report::Chart(options));
+    }
+    let options = options_of(given)?;
+    if given.get_flag("json") {
+        return Some(Report::ExplainJson(options));
+    }
+    if given.get_flag("html") {
+        return Some(Report::ExplainHtml(options));
+    }
+    Some(Report::Explain(options))
+}
+
+/// How the arguments of `decode` say that datagrams are read and printed. None if the form is invalid.
+pub fn decoding_of(given: &ArgMatches<'_>) -> Option<Decoding> {
+    if given.get_flag("json") {
+        return Some(Decoding::Lines(LayerForm::Objects));
+    }
+    if is_copied(given) {
+        return Some(Decoding::Copied(copied_of(given)?));
+    }
+    let form = if given.get_flag("text") {
+        LayerForm::Words
+    } else {
+        LayerForm::Numbers
+    };
+    Some(Decoding::Lines(form))
 }

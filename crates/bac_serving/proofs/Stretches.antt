@@ -1,5 +1,5 @@
 -- Stretches of a server, one after the other.
-use Rattle.std.proofs.Common.{◌≡◌, ℕ, ◌+◌, true, List, ◌∷◌, Option, Some, IfSome, MatchOption, refl, ap, subst, ◌∙◌, inl, inr, arith, min}
+use Rattle.std.proofs.Common.{◌≡◌, ℕ, ◌+◌, ◌≤◌, true, List, ◌∷◌, Option, Some, IfSome, MatchOption, refl, ap, subst, ◌∙◌, inl, inr, arith, min}
 use Rattle.std.specs.Io.KnownBytes.{Appends}
 use Rattle.bac_driver.specs.BoundNodes.{BoundNode}
 use Rattle.bac_driver.specs.Moments.{Told, with_moment}
@@ -9,25 +9,27 @@ use Rattle.bac_driver.specs.Waits.{MOST}
 use Rattle.bac_driver.specs.declared.wait_limit.WaitLimit.{WaitLimit}
 use Rattle.bac_store.specs.Stores.{Store}
 use Rattle.bac_commands.specs.Reports.{served_line}
-use Rattle.bac_serving.specs.Looking.{AreTaken, IsChanged, IsServer, ServesLooking, TakesStretch, TakesStretches, stop_limit, stop_of, stretch_limit}
+use Rattle.bac_serving.specs.Looking.{AreTaken, IsChanged, IsServer, STRETCH, ServesLooking, TakesStretch, TakesStretches, stop_limit, stop_of, stretch_limit}
 use Rattle.bac_environment.specs.Sockets.{Clocks, Links}
 use Rattle.bac_serving.specs.declared.looking.Stop.{Stop}
 use Rattle.bac_serving.specs.declared.looking.Stretch.{Stretch}
 use Rattle.bac_serving.specs.declared.serving.Serving.{Serving}
 
 -- a stretch whose limit is that of its beginning
-pub one_taken : (stop : Option ℕ) (began turns effects : ℕ) (limit : WaitLimit) (old new : BoundNode) (before looked middle after : Told) (served : BoundNode)
-    → looked ≡ with_moment before began → IsBefore began stop → turns ≡ MOST → limit ≡ stretch_limit began stop
+pub one_taken : (stop : Option ℕ) (began longest turns effects : ℕ) (limit : WaitLimit) (old new : BoundNode) (before looked middle after : Told) (served : BoundNode)
+    → looked ≡ with_moment before began → IsBefore began stop → longest ≤ STRETCH → turns ≡ MOST → limit ≡ stretch_limit began longest stop
     → Serves limit turns effects (timed old looked) (timed served middle) → IsChanged served new
     → TakesStretch stop (timed old before) effects (timed new after)
-one_taken stop began turns effects limit old new before looked middle after served told early most is serves changed =
+one_taken stop began longest turns effects limit old new before looked middle after served told early short most is serves changed =
     record {
       began = began;
       early = early;
+      longest = longest;
+      short = short;
       middle = timed served middle;
       serves =
-          subst (λ (t : Told). Serves (stretch_limit began stop) MOST effects (timed old t) (timed served middle)) told
-          (subst (λ (n : ℕ). Serves (stretch_limit began stop) n effects (timed old looked) (timed served middle)) most
+          subst (λ (t : Told). Serves (stretch_limit began longest stop) MOST effects (timed old t) (timed served middle)) told
+          (subst (λ (n : ℕ). Serves (stretch_limit began longest stop) n effects (timed old looked) (timed served middle)) most
           (subst (λ (p : WaitLimit). Serves p turns effects (timed old looked) (timed served middle)) is serves));
       changed = changed;
     }

@@ -156,6 +156,7 @@ pub record IsServing (given : ArgMatches) (s : Serving) : Type 0 where
   pub level : s.level ≡ level_given (words_text given (codes "log-level"))
   pub json : IsFlag given (codes "json") s.json
   pub follow : IsFlag given (codes "follow") s.follow
+  pub follow_limit : IsNumber given (codes "follow-limit") s.follow_limit
   pub until_eof : IsFlag given (codes "until-eof") s.until_eof
 
 -- it would remember requests in vain, or what is given is no address of a server, no number of octets that it may keep, or no blocks of addresses

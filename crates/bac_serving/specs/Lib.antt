@@ -1,3 +1,5 @@
+pub mod Extents
+pub mod Gaps
 pub mod Serving
 pub mod GivenGuard
 pub mod GivenServing

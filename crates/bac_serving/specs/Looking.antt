@@ -1,11 +1,11 @@
 -- What `serve --follow` and `serve --until-eof` print, and their statuses: a node served in stretches, between which it may change its own store.
-use Rattle.std.specs.Prelude.{◌≡◌, ◌⊎◌, ℕ, ◌+◌, min, true, List, [], ◌∷◌, length, Option, Some, None}
+use Rattle.std.specs.Prelude.{◌≡◌, ◌⊎◌, ℕ, ◌+◌, ◌≤◌, min, true, List, [], ◌∷◌, length, Option, Some, None}
 use Rattle.std.specs.Io.KnownBytes.{Appends, Keeps}
 use Rattle.bac_store.specs.AtNode.{Change}
 use Rattle.bac_store.specs.Stores.{Store}
 use Rattle.bac_text.specs.declared.status.Status.{Status}
-use Rattle.bac_world.specs.Node.{Node, with_change}
 use Rattle.bac_driver.specs.BoundNodes.{BoundNode}
+use Rattle.bac_driver.specs.Changes.{MakesChanges}
 use Rattle.bac_driver.specs.Moments.{with_moment}
 use Rattle.bac_driver.specs.Runs.{Run, Timed, timed}
 use Rattle.bac_driver.specs.Serving.{IsBefore, IsOver, Serves}
@@ -22,15 +22,10 @@ use Rattle.bac_environment.specs.Limits.{until_of}
 use Rattle.bac_serving.specs.declared.looking.Stop.{Stop}
 use Rattle.bac_serving.specs.declared.serving.Serving.{Serving}
 
--- a node after changes of its own store, one after the other
-abbrev pub with_changes : List Change → Node → Node
-with_changes [] n = n
-with_changes (c ∷ cs) n = with_changes cs (with_change c n)
-
--- the node made changes of its own store, and nothing else is new
+-- the node made changes of its own store, none of which has a fault, and nothing else is new
 pub record IsChanged (old new : BoundNode) : Type 0 where
   pub changes : List Change
-  pub is : new ≡ record old { node = with_changes changes old.node }
+  pub made : MakesChanges changes old new
 
 -- ---- stretches
 
@@ -38,13 +33,13 @@ pub record IsChanged (old new : BoundNode) : Type 0 where
 abbrev pub STRETCH : ℕ
 STRETCH = 1000
 
--- when a stretch ends that began at a moment: after that long, or when the server stops
-abbrev pub stretch_end : (began : ℕ) → (stop : Option ℕ) → ℕ
-stretch_end began None = min (began + STRETCH) MOST
-stretch_end began (Some moment) = min moment (min (began + STRETCH) MOST)
+-- when a stretch ends that began at a moment: after so many milliseconds, or when the server stops
+abbrev pub stretch_end : (began longest : ℕ) → (stop : Option ℕ) → ℕ
+stretch_end began longest None = min (began + longest) MOST
+stretch_end began longest (Some moment) = min moment (min (began + longest) MOST)
 
-abbrev pub stretch_limit : (began : ℕ) → (stop : Option ℕ) → WaitLimit
-stretch_limit began stop = record { wait = MOST; until = Some (stretch_end began stop) }
+abbrev pub stretch_limit : (began longest : ℕ) → (stop : Option ℕ) → WaitLimit
+stretch_limit began longest stop = record { wait = MOST; until = Some (stretch_end began longest stop) }
 
 -- the limit of a server that stops at a moment
 abbrev pub stop_limit : (stop : Option ℕ) → WaitLimit
@@ -54,8 +49,10 @@ stop_limit stop = record { wait = MOST; until = stop }
 pub record TakesStretch (stop : Option ℕ) (old : Timed) (effects : ℕ) (new : Timed) : Type 0 where
   pub began : ℕ
   pub early : IsBefore began stop
+  pub longest : ℕ
+  pub short : longest ≤ STRETCH
   pub middle : Timed
-  pub serves : Serves (stretch_limit began stop) MOST effects (timed old.bound_node (with_moment old.told began)) middle
+  pub serves : Serves (stretch_limit began longest stop) MOST effects (timed old.bound_node (with_moment old.told began)) middle
   pub changed : IsChanged middle.bound_node new.bound_node
 
 -- the sum of the requests in stretches, the newest first, as far as the counter goes

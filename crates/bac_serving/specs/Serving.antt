@@ -29,3 +29,8 @@ abbrev pub rules_by : (is_reusing : Bool) → (seconds : Option ℕ) → (memory
 rules_by true (Some seconds) memory = record ANEW { remember = Some (min (seconds * 1000) MOST); memory = Some memory }
 rules_by true None memory = record ANEW { memory = Some memory }
 rules_by false seconds memory = record STRICTLY { memory = Some memory }
+
+-- the most octets of a document that it follows: of so many MiB, or of 8
+abbrev pub follow_limit_of : (mebibytes : Option ℕ) → ℕ
+follow_limit_of None = 8388608
+follow_limit_of (Some mebibytes) = min (mebibytes * 1048576) MOST

@@ -1,13 +1,16 @@
-//! A document that a server follows: it is read again, and where it changed the node gets the values that it changed.
+//! A document that a server follows: it is read again, step by step, and where it changed the node gets the values that it changed.
 ghost use Rattle.bac_serving.specs.Looking.{IsChanged};
 
+use crate::extent::{KEY_LIMIT, has_too_many_keys};
 use crate::fault_lines::{FaultTime, print_fault_objects};
 use crate::listing::kept_words;
 use crate::part_words::print_about;
+use crate::reading::Reading;
 use crate::reasons::print_document_fault;
+use crate::regular_files::RegularFiles;
 use bac_commands::{LevelLog, LogFormat};
 use bac_driver::{BoundNode, Clock, Link};
-use bac_environment::{OpenFiles, Station};
+use bac_environment::Station;
 use bac_follow::{Documents, FollowFault, changes_between};
 use bac_keep_json::KeptPart;
 use bac_log_json::LogEvent;
@@ -19,11 +22,26 @@ use std::alloc::Global;
 use std::io;
 use std::io::{ErrorKind, Read, Write};
 
-/// A document that a server follows.
+/// 1 MiB, in octets.
+pub(crate) const MEBIBYTE: u64 = 1_048_576;
+
+/// How long a document may be of which all faults are told, in octets; of a longer one the first is told. To find them all takes longer than to read it.
+const TOLD_WHOLE: usize = 16_384;
+
+/// Where a document is, and how many octets it may have.
+#[derive(Clone, Copy)]
+pub(crate) struct FollowedPath<'p> {
+    pub path: &'p str,
+    pub most: u64,
+}
+
+/// A document that a server follows, from files of that type.
 #[derive(Drop)]
-pub(crate) struct Followed<'p> {
+pub(crate) struct Followed<'p, R> {
     alloc: Global,
-    path: &'p str,
+    at: FollowedPath<'p>,
+    /// The file, while it is read again.
+    reading: Option<Reading<R>>,
     /// The octets that were read last; None where the file could not be read.
     octets: Option<Vec<u8>>,
     /// The store that the document meant when its values were last given to the node.
@@ -35,6 +53,8 @@ pub(crate) struct Followed<'p> {
 /// Why a document is not followed now, apart from memory.
 #[derive(Drop)]
 enum Refusal {
+    /// It may have more keys than a server reads while it serves.
+    TooManyKeys,
     /// It means no store.
     Wrong(DocumentFault),
     /// The served objects cannot follow it.
@@ -47,14 +67,6 @@ struct News {
     store: Store,
     objects: Vec<Object>,
     changes: Vec<Change>,
-}
-
-/// All octets of a file.
-fn octets_at<F: OpenFiles>(alloc: Global, files: &F, path: &str) -> io::Result<Vec<u8>> {
-    let mut file = files.open(path)?;
-    let mut octets = Vec::new(alloc);
-    file.read_to_end(&mut octets)?;
-    Ok(octets)
 }
 
 /// The objects that a document lists which means a store.
@@ -72,6 +84,9 @@ fn news_in(
     served: &[Object],
     octets: &[u8],
 ) -> Result<Result<News, Refusal>, NoMemory> {
+    if has_too_many_keys(octets) {
+        return Ok(Err(Refusal::TooManyKeys));
+    }
     let store = match read_objects(alloc, octets) {
         Ok(store) => store,
         Err(DocumentFault::NoMemory) => return Err(NoMemory),
@@ -125,6 +140,15 @@ fn print_unfit<E: Write>(alloc: Global, path: &str, fault: FollowFault, err: &mu
     }
 }
 
+/// Tells that a document may have more keys than a server follows.
+pub(crate) fn print_too_many_keys<E: Write>(path: &str, err: &mut E) {
+    // if that fails too, nothing is printed
+    let _ = writeln!(
+        err,
+        "{path}: more than {KEY_LIMIT} \"=\": too many keys to follow"
+    );
+}
+
 /// Tells why a document, whose octets those are, is not followed now.
 fn print_refusal<E: Write>(
     alloc: Global,
@@ -134,11 +158,31 @@ fn print_refusal<E: Write>(
     err: &mut E,
 ) {
     match refusal {
+        Refusal::TooManyKeys => print_too_many_keys(path, err),
+        Refusal::Wrong(fault) if octets.len() > TOLD_WHOLE => {
+            // if that fails too, nothing is printed
+            let _ = writeln!(err, "{path}: {fault}");
+        }
         Refusal::Wrong(fault) => {
             let _ = print_document_fault(alloc, path, octets, &fault, err);
         }
         Refusal::Unfit(fault) => print_unfit(alloc, path, fault, err),
     }
+}
+
+/// Why a document cannot be read, behind its path.
+pub(crate) fn print_unread_words<E: Write>(at: FollowedPath<'_>, error: &io::Error, err: &mut E) {
+    let path = at.path;
+    // if that fails, nothing is printed
+    let _ = if error.kind() == ErrorKind::FileTooLarge {
+        let mebibytes = at.most / MEBIBYTE;
+        writeln!(
+            err,
+            "{path}: larger than {mebibytes} MiB; --follow-limit sets the limit"
+        )
+    } else {
+        writeln!(err, "{path}: {error}")
+    };
 }
 
 /// What the document gave to a property or a file.
@@ -183,23 +227,29 @@ fn make<L: Link, E: Write>(
     Ok(())
 }
 
-impl<'p> Followed<'p> {
+impl<'p, R: Read + Drop> Followed<'p, R> {
     /// The document at a path, whose octets mean that store.
     pub(crate) fn new(
         alloc: Global,
-        path: &'p str,
+        at: FollowedPath<'p>,
         octets: Vec<u8>,
         store: &Store,
-    ) -> Result<Followed<'p>, NoMemory> {
+    ) -> Result<Followed<'p, R>, NoMemory> {
         let store = store.copy(alloc)?;
         let objects = objects_in(alloc, &octets)?;
         Ok(Followed {
             alloc,
-            path,
+            at,
+            reading: None,
             octets: Some(octets),
             store,
             objects,
         })
+    }
+
+    /// Whether it is being read: then the next look should come soon.
+    pub(crate) fn is_reading(&self) -> bool {
+        self.reading.is_some()
     }
 
     /// Whether the octets are those that were read last.
@@ -251,10 +301,10 @@ impl<'p> Followed<'p> {
         err: &mut E,
     ) {
         match format {
-            LogFormat::Lines => print_refusal(self.alloc, self.path, octets, refusal, err),
+            LogFormat::Lines => print_refusal(self.alloc, self.at.path, octets, refusal, err),
             LogFormat::Objects { epoch } => {
                 let mut text = Vec::new(self.alloc);
-                print_refusal(self.alloc, self.path, octets, refusal, &mut text);
+                print_refusal(self.alloc, self.at.path, octets, refusal, &mut text);
                 let moment = clock.now();
                 print_fault_objects(self.alloc, FaultTime { moment, epoch }, &text, err);
             }
@@ -292,18 +342,17 @@ impl<'p> Followed<'p> {
         format: LogFormat,
         err: &mut E,
     ) {
-        let path = self.path;
-        // if that fails, nothing is printed
         match format {
             LogFormat::Lines => {
-                let _ = writeln!(err, "cannot read\n{path}: {error}");
+                // if that fails, nothing is printed
+                let _ = err.writeln("cannot read");
+                print_unread_words(self.at, error, err);
             }
             LogFormat::Objects { epoch } => {
-                if let Ok(text) = format!(in self.alloc; "{path}: {error}") {
-                    let moment = clock.now();
-                    let at = FaultTime { moment, epoch };
-                    print_fault_objects(self.alloc, at, text.as_bytes(), err);
-                }
+                let mut text = Vec::new(self.alloc);
+                print_unread_words(self.at, error, &mut text);
+                let moment = clock.now();
+                print_fault_objects(self.alloc, FaultTime { moment, epoch }, &text, err);
             }
         }
     }
@@ -326,8 +375,52 @@ impl<'p> Followed<'p> {
         self.octets = None;
     }
 
-    /// Looks at the document. If it has other octets than before, the node makes its changes; a document that is wrong is told once, and nothing changes.
-    pub(crate) fn look<F: OpenFiles, L: Link, C: Clock, E: Write>(
+    /// The file as far as it has been read; where none is open, it is opened.
+    fn opened<F: RegularFiles<File = R>>(&mut self, files: &F) -> io::Result<Reading<R>> {
+        match self.reading.take() {
+            Some(reading) => Ok(reading),
+            None => {
+                let file = files.open_regular(self.at.path, self.at.most)?;
+                Reading::new(self.alloc, file)
+            }
+        }
+    }
+
+    /// Reads the file on by a step. Returns its octets once it has ended; where it cannot be read, it is closed.
+    fn read_on<F: RegularFiles<File = R>>(&mut self, files: &F) -> io::Result<Option<Vec<u8>>> {
+        let mut reading = self.opened(files)?;
+        if reading.read_step(self.at.most)? {
+            return Ok(Some(reading.into_octets()));
+        }
+        self.reading = Some(reading);
+        Ok(None)
+    }
+
+    /// Looks at the octets of the document. If it had others before, the node makes its changes.
+    fn look_at<L: Link, C: Clock, E: Write>(
+        &mut self,
+        octets: Vec<u8>,
+        station: &mut Station<L, C>,
+        format: LogFormat,
+        log: &mut LevelLog,
+        err: &mut E,
+    )
+        ensures { IsChanged station.old.bound_node station.new.bound_node }
+    {
+        if self.has_read(&octets) {
+            return;
+        }
+        match self.take(station, &octets, format, log, err) {
+            Ok(()) => self.octets = Some(octets),
+            Err(_) => {
+                let _ = no_memory(err);
+            }
+        }
+    }
+
+    /// Reads the document on by a step. Once it is read, and has other octets than before, the node makes its changes; a document that is wrong is told once, and
+    /// nothing changes.
+    pub(crate) fn look<F: RegularFiles<File = R>, L: Link, C: Clock, E: Write>(
         &mut self,
         files: &F,
         station: &mut Station<L, C>,
@@ -337,18 +430,10 @@ impl<'p> Followed<'p> {
     )
         ensures { IsChanged station.old.bound_node station.new.bound_node }
     {
-        let octets = match octets_at(station.alloc, files, self.path) {
-            Ok(octets) => octets,
-            Err(error) => return self.print_unread(&mut station.clock, &error, format, err),
-        };
-        if self.has_read(&octets) {
-            return;
-        }
-        match self.take(station, &octets, format, log, err) {
-            Ok(()) => self.octets = Some(octets),
-            Err(_) => {
-                let _ = no_memory(err);
-            }
+        match self.read_on(files) {
+            Ok(Some(octets)) => self.look_at(octets, station, format, log, err),
+            Ok(None) => {}
+            Err(error) => self.print_unread(&mut station.clock, &error, format, err),
         }
     }
 }

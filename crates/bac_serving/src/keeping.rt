@@ -11,9 +11,11 @@ ghost use Rattle.bac_serving.specs.Keeping.{EndsWith, HasStore, IsServedInRounds
 ghost use Rattle.bac_environment.specs.Sockets.{OnClock, OnPort};
 
 use crate::databases::Databases;
+use crate::dropping::Dropping;
 use crate::objects::document_of;
 use crate::part_words::print_about;
 use crate::serving::{Serving, Start, epoch_of, print_listening, print_not_bound, serve_kept_from};
+use crate::standard_error::StandardError;
 use bac_commands::{CommandError, KeptServer, bound_server, clock_unread};
 use bac_driver::{Clock, Link, Round};
 use bac_environment::{Environment, OpenFiles, Sockets};
@@ -205,7 +207,7 @@ fn keeper_left<L: Link + Drop, C: Clock + Drop, K: Keeper>(server: KeptServer<L,
 }
 
 /// A node with a store, which a keeper keeps in the file at a path, serves. Returns the keeper too where the node has served and the keeper has not failed.
-fn serve_round<M: Sockets, K: Keeper, O: Write, E: Write>(
+fn serve_round<M: Sockets + StandardError, K: Keeper, O: Write, E: Write>(
     environment: (Global, &M, &str),
     serving: &Serving,
     round: Round<K>,
@@ -247,8 +249,11 @@ fn serve_round<M: Sockets, K: Keeper, O: Write, E: Write>(
         round,
         fault: None,
     };
-    let status = serve_kept_from(alloc, serving, began, &mut server, out, err);
-    print_keep_fault(path, server.fault, err);
+    let format = serving.log_format(began);
+    let mut err = Dropping::new(alloc, machine, machine.timer(), format, err);
+    let status = serve_kept_from(alloc, serving, began, &mut server, out, &mut err);
+    print_keep_fault(path, server.fault, &mut err);
+    err.end();
     let keeper = keeper_left(server);
     (status, keeper)
 }
@@ -280,7 +285,7 @@ fn close_kept<M: Databases, E: Write>(
 }
 
 /// A node serves with the store that a database, which may be new, makes over a document.
-fn serve_database<M: Sockets + Databases, O: Write, E: Write>(
+fn serve_database<M: Sockets + Databases + StandardError, O: Write, E: Write>(
     environment: (Global, &M),
     serving: &Serving,
     path: &str,
@@ -321,7 +326,7 @@ fn serve_database<M: Sockets + Databases, O: Write, E: Write>(
 /// restarts.
 ///
 /// If the file cannot be opened, is damaged or in use, or keeps values that the document cannot have, prints the path and why on `err`. Then nothing has changed.
-pub fn serve_kept<F: OpenFiles, M: Sockets + Databases, O: Write, E: Write>(
+pub fn serve_kept<F: OpenFiles, M: Sockets + Databases + StandardError, O: Write, E: Write>(
     environment: &Environment<'_, F, M>,
     serving: &Serving,
     objects: Option<&str>,

@@ -2,9 +2,12 @@
 #![tactic(auto)]
 
 mod databases;
+mod dropping;
+mod extent;
 mod fault_lines;
 mod followed;
 mod forgetting;
+mod gap;
 mod guard_words;
 mod input;
 mod keeping;
@@ -13,9 +16,12 @@ mod looking;
 mod objects;
 mod online;
 mod part_words;
+mod reading;
 mod reasons;
+mod regular_files;
 mod serving;
 mod serving_words;
+mod standard_error;
 
 pub use databases::Databases;
 pub use forgetting::{Forgetting, forget_kept};
@@ -25,5 +31,7 @@ pub use keeping::serve_kept;
 pub use listing::{ListForm, list_kept};
 pub use looking::serve_looking;
 pub use objects::{answer, serve};
+pub use regular_files::RegularFiles;
 pub use serving::Serving;
 pub use serving_words::{read_memory, remembers_in_vain, serving_of};
+pub use standard_error::StandardError;

@@ -10,30 +10,39 @@ ghost use Rattle.bac_text.specs.Statuses.{IsFailure, IsStop};
 ghost use Rattle.bac_environment.specs.Files.{OfFile, OnFile};
 ghost use Rattle.bac_serving.specs.Keeping.{IsDocument};
 ghost use Rattle.bac_serving.specs.Looking.{IsChanged, IsServedLooking, IsServer, ServesLooking, TakesStretch, TakesStretches, stop_limit, stop_of, stretch_limit};
+ghost use Rattle.bac_serving.specs.Looking.{STRETCH as stretch_most};
 ghost use Rattle.bac_environment.specs.Sockets.{OnClock, OnPort};
 ghost use Rattle.bac_serving.specs.Stores.{MeansStore};
 
-use crate::followed::Followed;
+use crate::dropping::Dropping;
+use crate::extent::has_too_many_keys;
+use crate::followed::{Followed, FollowedPath, print_too_many_keys, print_unread_words};
 use crate::input::StandardInput;
 use crate::objects::{document_of, store_in};
+use crate::regular_files::RegularFiles;
 use crate::serving::{Serving, Start, epoch_of, print_listening, print_not_bound};
+use crate::standard_error::StandardError;
 use bac_commands::{LevelLog, LogFormat, bound_server, clock_unread, print_served, serve_stretch};
 use bac_driver::{Clock, RunLimit, WaitLimit};
-use bac_environment::{Environment, OpenFiles, Sockets, Station, octets_of, opened};
+use bac_environment::{Environment, OpenFiles, Sockets, Station, octets_of};
 use bac_node::NewNodeFault;
 use bac_store::Store;
 use bac_text::{Status, complain, no_memory};
 use std::alloc::Global;
-use std::io::{Read, Write};
+use std::io;
+use std::io::{ErrorKind, Read, Write};
 
 /// The longest stretch, in milliseconds.
 const STRETCH: u64 = 1_000;
 
-/// The store that a node serves, and its document if it is followed.
+/// How long a stretch is while the document is read, in milliseconds.
+const READING: u64 = 4;
+
+/// The store that a node serves, and its document if it is followed, from files of that type.
 #[derive(Drop)]
-struct Served<'p> {
+struct Served<'p, R> {
     store: Store,
-    followed: Option<Followed<'p>>,
+    followed: Option<Followed<'p, R>>,
 }
 
 /// When a server stops.
@@ -56,19 +65,31 @@ struct Stretch {
 
 /// What a server looks at between stretches, and where it tells of it.
 #[derive(Drop)]
-struct Looker<'p> {
-    followed: Option<Followed<'p>>,
+struct Looker<'p, R> {
+    followed: Option<Followed<'p, R>>,
     /// The form of what is told.
     format: LogFormat,
     log: LevelLog,
 }
 
-/// The limit of the stretch that begins at a moment, of a server that stops at one, if there is one.
-fn stretch_from(now: u64, stop: Option<u64>) -> RunLimit
+impl<R: Read + Drop> Looker<'_, R> {
+    /// How long the next stretch is at the most, in milliseconds.
+    fn longest(&self) -> u64
+        ensures { result ≤ stretch_most }
+    {
+        match &self.followed {
+            Some(followed) if followed.is_reading() => READING,
+            _ => STRETCH,
+        }
+    }
+}
+
+/// The limit of the stretch that begins at a moment, of so many milliseconds, of a server that stops at a moment, if there is one.
+fn stretch_from(now: u64, longest: u64, stop: Option<u64>) -> RunLimit
     ensures turns { result.turns ≡ MOST }
-    ensures until { result.wait_limit ≡ stretch_limit now stop }
+    ensures until { result.wait_limit ≡ stretch_limit now longest stop }
 {
-    let stretch = now.saturating_add(STRETCH);
+    let stretch = now.saturating_add(longest);
     let until = match stop {
         Some(moment) => moment.min(stretch),
         None => stretch,
@@ -104,20 +125,31 @@ impl Stop {
     }
 }
 
+/// Complains of a document that cannot be followed since it may have too many keys.
+fn too_many_keys<E: Write>(path: &str, err: &mut E) -> Status
+    ensures { IsStop result }
+{
+    print_too_many_keys(path, err);
+    Status::CommandLine
+}
+
 /// The store that the octets of an open file mean, and the document that is followed.
 #[tactic(auto, using(crate::proofs::StoresOfFiles::meant_by_file))]
-fn followed_from<'p, F: Read + Drop, E: Write>(
+fn followed_from<'p, R: Read + Drop, E: Write>(
     alloc: Global,
-    path: &'p str,
-    file: F,
+    at: FollowedPath<'p>,
+    file: R,
     err: &mut E,
-) -> Result<Served<'p>, Status>
-    ensures store { IfOk result (λ s. MeansStore (F.remaining file) s.store) }
+) -> Result<Served<'p, R>, Status>
+    ensures store { IfOk result (λ s. MeansStore (R.remaining file) s.store) }
     ensures told { IfErr result IsStop }
 {
-    let octets = octets_of(alloc, path, file, err)?;
-    let store = store_in(alloc, path, &octets, err)?;
-    match Followed::new(alloc, path, octets, &store) {
+    let octets = octets_of(alloc, at.path, file, err)?;
+    if has_too_many_keys(&octets) {
+        return Err(too_many_keys(at.path, err));
+    }
+    let store = store_in(alloc, at.path, &octets, err)?;
+    match Followed::new(alloc, at, octets, &store) {
         Ok(followed) => Ok(Served {
             store,
             followed: Some(followed),
@@ -126,31 +158,48 @@ fn followed_from<'p, F: Read + Drop, E: Write>(
     }
 }
 
+/// Complains of a document that cannot be opened to be followed: `cannot read`, its path, and why.
+fn print_unopened<E: Write>(at: FollowedPath<'_>, error: &io::Error, err: &mut E) -> Status
+    ensures { IsStop result }
+{
+    if error.kind() == ErrorKind::OutOfMemory {
+        return no_memory(err);
+    }
+    let status = complain(err, "cannot read", Status::CommandLine);
+    print_unread_words(at, error, err);
+    status
+}
+
 /// The store of a document that is followed.
-fn followed_document<'p, F: OpenFiles, M: Sockets, E: Write>(
+fn followed_document<'p, F: RegularFiles, M: Sockets, E: Write>(
     environment: &Environment<'_, F, M>,
-    path: &'p str,
+    at: FollowedPath<'p>,
     err: &mut E,
-) -> Result<Served<'p>, Status>
-    ensures store { IfOk result (λ s. OfFile (OnFile F.is_file F.File.remaining) path.now (λ content. MeansStore content s.store)) }
+) -> Result<Served<'p, F::File>, Status>
+    ensures store { IfOk result (λ s. OfFile (OnFile F.is_file F.File.remaining) at.entry.path.now (λ content. MeansStore content s.store)) }
     ensures told { IfErr result IsStop }
 {
-    let file = opened(environment.files, path, err)?;
-    followed_from(environment.alloc, path, file, err)
+    match environment.files.open_regular(at.path, at.most) {
+        Ok(file) => followed_from(environment.alloc, at, file, err),
+        Err(error) => Err(print_unopened(at, &error, err)),
+    }
 }
 
 /// The store of a document, which is followed where that is wanted.
-fn served_document<'p, F: OpenFiles, M: Sockets, E: Write>(
+fn served_document<'p, F: RegularFiles, M: Sockets, E: Write>(
     environment: &Environment<'_, F, M>,
     serving: &Serving,
     objects: Option<&'p str>,
     err: &mut E,
-) -> Result<Served<'p>, Status>
+) -> Result<Served<'p, F::File>, Status>
     ensures document { IfOk result (λ s. IsDocument (OnFile F.is_file F.File.remaining) (option_map (λ p. p.now) objects.entry) s.store) }
     ensures told { IfErr result IsStop }
 {
     match objects {
-        Some(path) if serving.follow => followed_document(environment, path, err),
+        Some(path) if serving.follow => {
+            let most = serving.follow_limit();
+            followed_document(environment, FollowedPath { path, most }, err)
+        }
         objects => Ok(Served {
             store: document_of(environment, objects, err)?,
             followed: None,
@@ -204,10 +253,10 @@ fn station_of<F: OpenFiles, M: Sockets, E: Write>(
 }
 
 /// Looks at what a server looks at. Returns whether it stops with standard input, which has ended.
-fn look<F: OpenFiles, M: Sockets + StandardInput, E: Write>(
+fn look<F: RegularFiles, M: Sockets + StandardInput, E: Write>(
     environment: &Environment<'_, F, M>,
     stop: Stop,
-    looker: &mut Looker<'_>,
+    looker: &mut Looker<'_, F::File>,
     station: &mut Station<M::Link, M::Timer>,
     err: &mut E,
 ) -> bool
@@ -225,10 +274,10 @@ fn look<F: OpenFiles, M: Sockets + StandardInput, E: Write>(
 }
 
 /// A node serves a stretch, and looks. None where it is over.
-fn take_stretch<F: OpenFiles, M: Sockets + StandardInput, E: Write>(
+fn take_stretch<F: RegularFiles, M: Sockets + StandardInput, E: Write>(
     environment: &Environment<'_, F, M>,
     stop: Stop,
-    looker: &mut Looker<'_>,
+    looker: &mut Looker<'_, F::File>,
     station: &mut Station<M::Link, M::Timer>,
     err: &mut E,
 ) -> Result<Option<Stretch>, Status>
@@ -243,10 +292,11 @@ fn take_stretch<F: OpenFiles, M: Sockets + StandardInput, E: Write>(
     if is_over(now, stop.at) {
         return Ok(None);
     }
+    let longest = looker.longest();
     let effects = serve_stretch(
         &mut station.bound_node,
         &mut station.clock,
-        &stretch_from(now, stop.at),
+        &stretch_from(now, longest, stop.at),
         &mut looker.log,
         err,
     )?;
@@ -255,10 +305,10 @@ fn take_stretch<F: OpenFiles, M: Sockets + StandardInput, E: Write>(
 }
 
 /// A node serves in stretches until it stops. Returns how many requests it performed, at most 2^64 - 1.
-fn serve_stretches<F: OpenFiles, M: Sockets + StandardInput, E: Write>(
+fn serve_stretches<F: RegularFiles, M: Sockets + StandardInput, E: Write>(
     environment: &Environment<'_, F, M>,
     stop: Stop,
-    looker: &mut Looker<'_>,
+    looker: &mut Looker<'_, F::File>,
     station: &mut Station<M::Link, M::Timer>,
     err: &mut E,
 ) -> Result<u64, Status>
@@ -280,10 +330,10 @@ fn serve_stretches<F: OpenFiles, M: Sockets + StandardInput, E: Write>(
 }
 
 /// A node serves with a store, and how many requests it performed is printed.
-fn serve_store<F: OpenFiles, M: Sockets + StandardInput, O: Write, E: Write>(
+fn serve_store<F: RegularFiles, M: Sockets + StandardInput + StandardError, O: Write, E: Write>(
     environment: &Environment<'_, F, M>,
     serving: &Serving,
-    served: Served<'_>,
+    served: Served<'_, F::File>,
     out: &mut O,
     err: &mut E,
 ) -> Result<(), Status>
@@ -299,17 +349,31 @@ fn serve_store<F: OpenFiles, M: Sockets + StandardInput, O: Write, E: Write>(
         log: serving.log_from(environment.alloc, start),
     };
     let stop = Stop::of(serving, start.moment);
-    let effects = serve_stretches(environment, stop, &mut looker, &mut station, err)?;
-    print_served(effects, out, err)?;
-    looker.log.end(err);
+    let timer = environment.machine.timer();
+    let mut err = Dropping::new(
+        environment.alloc,
+        environment.machine,
+        timer,
+        looker.format,
+        err,
+    );
+    let effects = serve_stretches(environment, stop, &mut looker, &mut station, &mut err)?;
+    print_served(effects, out, &mut err)?;
+    looker.log.end(&mut err);
+    err.end();
     Ok(())
 }
 
 /// Serves a node over the objects of a document, or the house if there is no document. At least once a second it looks at the document, if it follows it, and at
 /// standard input, if it ends with that.
 ///
-/// If the document cannot be read or is invalid, prints why on `err`.
-pub fn serve_looking<F: OpenFiles, M: Sockets + StandardInput, O: Write, E: Write>(
+/// If the document cannot be read or is invalid, or is to be followed and too large or no regular file, prints why on `err`.
+pub fn serve_looking<
+    F: RegularFiles,
+    M: Sockets + StandardInput + StandardError,
+    O: Write,
+    E: Write,
+>(
     environment: &Environment<'_, F, M>,
     serving: &Serving,
     objects: Option<&str>,

@@ -13,6 +13,7 @@ ghost use Rattle.bac_serving.specs.Stores.{IsAnsweredFrom, IsServedFrom, MeansSt
 use crate::online;
 use crate::reasons::print_document_fault;
 use crate::serving::Serving;
+use crate::standard_error::StandardError;
 use bac_commands::answer_over;
 use bac_environment::{
     Digits, Environment, OpenFiles, Sockets, octets_of, opened, print_bad_digit,
@@ -121,7 +122,7 @@ pub fn answer<F: OpenFiles, O: Write, E: Write>(
     }
 }
 
-fn serve_house<M: Sockets, O: Write, E: Write>(
+fn serve_house<M: Sockets + StandardError, O: Write, E: Write>(
     alloc: Global,
     machine: &M,
     serving: &Serving,
@@ -157,7 +158,7 @@ pub(crate) fn document_of<F: OpenFiles, M: Sockets, E: Write>(
 }
 
 /// Serves a node over the objects of a document, or the house if there is no document. If the document cannot be read or is invalid, prints why on `err`.
-pub fn serve<F: OpenFiles, M: Sockets, O: Write, E: Write>(
+pub fn serve<F: OpenFiles, M: Sockets + StandardError, O: Write, E: Write>(
     environment: &Environment<'_, F, M>,
     serving: &Serving,
     objects: Option<&str>,

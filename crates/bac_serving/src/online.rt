@@ -2,7 +2,9 @@
 ghost use Rattle.bac_serving.specs.Online.{IsServedBy};
 ghost use Rattle.bac_environment.specs.Sockets.{OnClock, OnPort};
 
+use crate::dropping::Dropping;
 use crate::serving::{Serving, Start, epoch_of, print_listening, print_not_bound, serve_from};
+use crate::standard_error::StandardError;
 use bac_commands::{bound_server, clock_unread};
 use bac_driver::Clock;
 use bac_environment::{Sockets, Station};
@@ -13,7 +15,7 @@ use std::alloc::Global;
 use std::io::Write;
 
 /// A node with a store serves.
-pub(crate) fn serve<M: Sockets, O: Write, E: Write>(
+pub(crate) fn serve<M: Sockets + StandardError, O: Write, E: Write>(
     alloc: Global,
     machine: &M,
     store: Store,
@@ -58,5 +60,9 @@ pub(crate) fn serve<M: Sockets, O: Write, E: Write>(
         bound_node,
         clock: timer,
     };
-    serve_from(serving, began, &mut station, out, err)
+    let format = serving.log_format(began);
+    let mut err = Dropping::new(alloc, machine, machine.timer(), format, err);
+    let status = serve_from(serving, began, &mut station, out, &mut err);
+    err.end();
+    status
 }

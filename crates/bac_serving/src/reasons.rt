@@ -2,15 +2,18 @@
 ghost use Rattle.std.specs.Prelude.{◌≡◌};
 ghost use Rattle.bac_text.specs.declared.status.Status.TheVariants as status;
 
+use crate::extent::has_too_many_keys;
 use bac_objects::{DocumentFault, Finding, document_findings};
 use bac_text::Status;
 use std::alloc::Global;
 use std::io::Write;
 
-/// All faults of a document that is refused, as far as they can be told one by one. None where there is only the refusal itself.
+/// All faults of a document that is refused, as far as they can be told one by one. None where there is only the refusal itself, or the document may have so many keys
+/// that to look at each takes too long.
 fn findings_of(alloc: Global, octets: &[u8], fault: &DocumentFault) -> Option<Vec<Finding>> {
     match fault {
         DocumentFault::NoMemory => None,
+        _ if has_too_many_keys(octets) => None,
         _ => document_findings(alloc, octets).ok(),
     }
 }

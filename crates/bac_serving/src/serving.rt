@@ -8,9 +8,10 @@ ghost use Rattle.bac_text.specs.declared.status.Status.TheVariants as status;
 ghost use Rattle.bac_commands.specs.Kept.{EndsKept, IsKeptByStatus, RoundsText, Unseen, unwatched};
 ghost use Rattle.bac_commands.specs.Statuses.{ByStatus};
 ghost use Rattle.bac_serving.specs.Keeping.{restarted_by};
-ghost use Rattle.bac_serving.specs.Serving.{patience_of, restart_of};
+ghost use Rattle.bac_serving.specs.Serving.{follow_limit_of, patience_of, restart_of};
 ghost use Rattle.bac_environment.specs.Limits.{turns_of};
 
+use crate::followed::MEBIBYTE;
 use bac_commands::{
     KeptServer, LevelLog, LogFormat, LogLevel, LogSettings, OctetStyle, ServeCommand, print_event,
     serve_kept_logged,
@@ -29,6 +30,9 @@ use std::io::Write;
 
 /// How many milliseconds after its restart a server serves again.
 const RESTED: u64 = 65_001;
+
+/// The most octets of a document that a server follows where nothing is said: 8 MiB.
+const FOLLOW_LIMIT: u64 = 8_388_608;
 
 /// How a node serves.
 #[derive(Clone, Copy)]
@@ -57,6 +61,8 @@ pub struct Serving {
     pub json: bool,
     /// Whether it follows its document.
     pub follow: bool,
+    /// The most MiB of a document that it follows; None for 8.
+    pub follow_limit: Option<u64>,
     /// Whether it ends when standard input does.
     pub until_eof: bool,
 }
@@ -126,6 +132,16 @@ impl Serving {
         ensures { bound_node.new ≡ record bound_node.old { rules = self.now.rules } }
     {
         bound_node.set_rules(self.rules);
+    }
+
+    /// The most octets of a document that it follows.
+    pub(crate) fn follow_limit(&self) -> u64
+        ensures { result ≡ follow_limit_of self.now.follow_limit }
+    {
+        match self.follow_limit {
+            Some(mebibytes) => mebibytes.saturating_mul(MEBIBYTE),
+            None => FOLLOW_LIMIT,
+        }
     }
 
     /// Its log, where it begins then.

@@ -244,6 +244,7 @@ pub fn serving_of(given: &ArgMatches<'_>) -> Option<Serving>
         level: level_of(given),
         json: flag_of(given, "json"),
         follow: flag_of(given, "follow"),
+        follow_limit: number_of(given, "follow-limit"),
         until_eof: flag_of(given, "until-eof"),
     })
 }

@@ -4,7 +4,7 @@ use Rattle.std.proofs.Common.{append_assoc, append-nil, length-append}
 use Rattle.std.specs.Io.KnownBytes.{Appends, Keeps}
 use Rattle.std.proofs.KnownBytes.{Appends-nil, Appends-trans, Appends-kept}
 use Rattle.std.specs.Option.{option_map}
-use Rattle.bac_text.specs.declared.tally.Tally.{Tally}
+use Rattle.bac_text.specs.declared.tally.LineTally.{LineTally}
 use Rattle.bac_text.specs.declared.fault.LineVerdict.{LineVerdict}
 use Rattle.bac_text.specs.declared.fault.LineVerdict.TheVariants.{Good, Note, Bad}
 use Rattle.bac_text.specs.declared.status.Status.{Status}
@@ -163,12 +163,12 @@ pub line_counted_at : (in_words notes : Bool) (octets new a b : Option (List ℕ
 line_counted_at in_words notes octets new a b line shown t u found same is next counted =
     line_counted in_words notes octets new a b line t u (subst (λ (x : Bool). IsNextLine octets new line x) is next) (subst (λ (l : List ℕ). IsCounted in_words notes l a b t u) same counted)
 
-pub one_more_at : (in_words notes : Bool) (octets left new a b c : Option (List ℕ)) (t : Count) (r : Option Tally) (u : Tally) → AreSoFar in_words notes octets left a b t
+pub one_more_at : (in_words notes : Bool) (octets left new a b c : Option (List ℕ)) (t : Count) (r : Option LineTally) (u : LineTally) → AreSoFar in_words notes octets left a b t
     → IsStep in_words notes left new b c t (option_map count_of r) → r ≡ Some u → AreSoFar in_words notes octets new a c (count_of u)
 one_more_at in_words notes octets left new a b c t r u s step is =
-    one_more in_words notes octets left new a b c t (count_of u) s (subst (λ (o : Option Tally). IsStep in_words notes left new b c t (option_map count_of o)) is step)
+    one_more in_words notes octets left new a b c t (count_of u) s (subst (λ (o : Option LineTally). IsStep in_words notes left new b c t (option_map count_of o)) is step)
 
-pub all_counted_at : (in_words notes : Bool) (octets left new a b c : Option (List ℕ)) (t : Count) (r : Option Tally) → AreSoFar in_words notes octets left a b t
+pub all_counted_at : (in_words notes : Bool) (octets left new a b c : Option (List ℕ)) (t : Count) (r : Option LineTally) → AreSoFar in_words notes octets left a b t
     → IsStep in_words notes left new b c t (option_map count_of r) → r ≡ None → AreCounted in_words notes octets a c t
 all_counted_at in_words notes octets left new a b c t r s step is =
-    all_counted in_words notes octets left new a b c t s (subst (λ (o : Option Tally). IsStep in_words notes left new b c t (option_map count_of o)) is step)
+    all_counted in_words notes octets left new a b c t s (subst (λ (o : Option LineTally). IsStep in_words notes left new b c t (option_map count_of o)) is step)

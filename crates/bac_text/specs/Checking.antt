@@ -1,7 +1,7 @@
 -- What the steps of checking a capture do, where the octets of the input are known.
 use Rattle.std.specs.Prelude.{◌≡◌, ℕ, Bool, ◌+◌, ◌++◌, List, [], ◌∷◌, length, ⊤, Option, Some, None}
 use Rattle.std.specs.Io.KnownBytes.{Appends, Keeps}
-use Rattle.bac_text.specs.declared.tally.Tally.{Tally}
+use Rattle.bac_text.specs.declared.tally.LineTally.{LineTally}
 use Rattle.bac_text.specs.declared.fault.LineVerdict.{LineVerdict}
 use Rattle.bac_text.specs.Checked.{verdict_text, verdicts_text}
 use Rattle.bac_text.specs.Lines.{lines_of, short_capture_at, IsJudged, AreJudged, good_among, bad_among}
@@ -13,7 +13,7 @@ pub record Count : Type 0 where
   pub bad : ℕ
   pub latest : ℕ
 
-abbrev pub count_of : Tally → Count
+abbrev pub count_of : LineTally → Count
 count_of t = record { lines = t.lines; good = t.good; bad = t.bad; latest = t.latest }
 
 -- a line was judged and counted, and its verdict printed

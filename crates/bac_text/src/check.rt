@@ -4,20 +4,15 @@ ghost use Rattle.std.specs.Option.{option_map};
 ghost use Rattle.std.specs.Io.KnownBytes.{Appends};
 ghost use Rattle.bac_text.specs.Checked.{verdict_text, tally_text, IsReportAs, IsReportOf};
 ghost use Rattle.bac_text.specs.Checking.{count_of, IsCounted, IsStep, AreCounted};
-ghost use Rattle.bac_text.specs.Capture.{capture_at};
-ghost use Rattle.bac_text.specs.Notes.{read_of};
-ghost use Rattle.bac_text.specs.Lines.{short_capture_at, IsJudged};
 
-use crate::capture::read_into;
 use crate::error::{CheckError, stopped};
-use crate::fault::{LineFault, LineVerdict};
-use crate::fault_words::{function_in, line_words};
-use crate::layers::check_datagram;
-use crate::lines::{LINE_LIMIT, next_line};
-use crate::notes::read_of;
+use crate::fault::LineVerdict;
+use crate::fault_words::line_words;
+use crate::judging::judge_line;
+use crate::lines::next_line;
 use crate::status::Status;
-use crate::tally::Tally;
-use std::alloc::{AllocError, Global};
+use crate::tally::LineTally;
+use std::alloc::Global;
 use std::io;
 use std::io::{BufRead, ErrorKind, Write};
 
@@ -29,50 +24,6 @@ struct CheckStyle {
     in_words: bool,
     /// Whether notes are taken.
     notes: bool,
-}
-
-/// What a line is whose octets are not too many, where the greatest moment so far is `latest`; and the greatest moment from here on.
-/// Its datagram stands in `datagram`, whose memory serves each line.
-fn verdict_on(
-    notes: bool,
-    line: &[u8],
-    latest: u64,
-    datagram: &mut Vec<u8>,
-) -> Result<(LineVerdict, u64), AllocError>
-    ensures { IfOk result (λ r. IsJudged (option_map capture_at (read_of notes line.now)) latest r.0 r.1) }
-{
-    let Some(read) = read_of(notes, line) else {
-        return Ok((LineVerdict::Note, latest));
-    };
-    let Some(moment) = read_into(read, datagram)? else {
-        return Ok((LineVerdict::Bad(LineFault::NoCaptureLine), latest));
-    };
-    if moment < latest {
-        return Ok((LineVerdict::Bad(LineFault::MomentGoesBack), latest));
-    }
-    match check_datagram(datagram) {
-        Ok(()) => Ok((LineVerdict::Good, moment)),
-        Err(fault) => {
-            let function = function_in(datagram);
-            let fault = LineFault::Datagram { fault, function };
-            Ok((LineVerdict::Bad(fault), moment))
-        }
-    }
-}
-
-/// What a line is, and the greatest moment from here on.
-fn verdict_in(
-    notes: bool,
-    line: &[u8],
-    latest: u64,
-    datagram: &mut Vec<u8>,
-) -> Result<(LineVerdict, u64), AllocError>
-    ensures { IfOk result (λ r. IsJudged (short_capture_at notes line.now) latest r.0 r.1) }
-{
-    if line.len() > LINE_LIMIT {
-        return Ok((LineVerdict::Bad(LineFault::NoCaptureLine), latest));
-    }
-    verdict_on(notes, line, latest, datagram)
 }
 
 /// Prints what is wrong with the line of that number, if something is.
@@ -99,13 +50,13 @@ fn check_line<W: Write>(
     style: CheckStyle,
     line: &[u8],
     datagram: &mut Vec<u8>,
-    tally: Tally,
+    tally: LineTally,
     out: &mut W,
-) -> Result<Tally, CheckError>
+) -> Result<LineTally, CheckError>
     ensures is { IfOk result (λ t. IsCounted style.in_words style.notes line.now (W.contents out.old) (W.contents out.new) (count_of tally) (count_of t)) }
     ensures fits { OnOk result (tally.lines < 2 ^ 64 - 1) }
 {
-    let Ok((verdict, latest)) = verdict_in(style.notes, line, tally.latest, datagram) else {
+    let Ok((verdict, latest)) = judge_line(style.notes, line, tally.latest, datagram) else {
         return Err(CheckError::Memory);
     };
     let Some(counted) = tally.with(verdict, latest) else {
@@ -123,9 +74,9 @@ fn check_next<R: BufRead, W: Write>(
     input: &mut R,
     line: &mut Vec<u8>,
     datagram: &mut Vec<u8>,
-    tally: Tally,
+    tally: LineTally,
     out: &mut W,
-) -> Result<Option<Tally>, CheckError>
+) -> Result<Option<LineTally>, CheckError>
     ensures step { IfOk result (λ r. IsStep style.in_words style.notes (R.remaining input.old) (R.remaining input.new) (W.contents out.old) (W.contents out.new)
         (count_of tally) (option_map count_of r)) }
     ensures more { IfOk result (λ r. IfSome r (λ t. (t.lines ≡ tally.lines + 1) × (tally.lines < 2 ^ 64 - 1))) }
@@ -144,15 +95,10 @@ fn check_lines<R: BufRead, W: Write>(
     style: CheckStyle,
     input: &mut R,
     out: &mut W,
-) -> Result<Tally, CheckError>
+) -> Result<LineTally, CheckError>
     ensures { IfOk result (λ t. AreCounted style.in_words style.notes (R.remaining input.old) (W.contents out.old) (W.contents out.new) (count_of t)) }
 {
-    let mut tally = Tally {
-        lines: 0,
-        good: 0,
-        bad: 0,
-        latest: 0,
-    };
+    let mut tally = LineTally::NONE;
     let mut line = Vec::new(style.alloc);
     let mut datagram = Vec::new(style.alloc);
     while let Some(next) = check_next(style, input, &mut line, &mut datagram, tally, out)? {
@@ -162,7 +108,7 @@ fn check_lines<R: BufRead, W: Write>(
 }
 
 /// Prints how many lines there are, and how many of them are good, bad and, where notes are taken, notes.
-fn print_tally<W: Write>(notes: bool, tally: Tally, out: &mut W) -> io::Result<()>
+fn print_tally<W: Write>(notes: bool, tally: LineTally, out: &mut W) -> io::Result<()>
     ensures { OnOk result (Appends (W.contents out.old) (W.contents out.new) (tally_text notes tally.lines tally.good tally.bad)) }
 {
     let lines = tally.lines;

@@ -63,7 +63,7 @@ impl fmt::Display for LayerFault {
 
 /// What is wrong with a line of a capture: the first of these that holds.
 #[derive(Clone, Copy, Debug, PartialEq, Eq)]
-pub(crate) enum LineFault {
+pub enum LineFault {
     /// It is of another form.
     NoCaptureLine,
     /// Its moment is less than that of an earlier line.
@@ -77,7 +77,7 @@ pub(crate) enum LineFault {
 
 /// What a line of a capture is.
 #[derive(Clone, Copy, Debug, PartialEq, Eq)]
-pub(crate) enum LineVerdict {
+pub enum LineVerdict {
     /// A capture line without a fault.
     Good,
     /// A note, passed over.

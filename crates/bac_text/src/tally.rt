@@ -6,20 +6,31 @@ ghost use Rattle.bac_text.specs.Statuses.{IsTallied};
 use crate::fault::LineVerdict;
 use crate::status::Status;
 
-/// The lines so far; those that are neither good nor bad are notes.
+/// The lines of a capture so far; those that are neither good nor bad are notes.
 #[derive(Clone, Copy)]
-pub(crate) struct Tally {
+pub struct LineTally {
+    /// All of them.
     pub lines: u64,
+    /// Capture lines without a fault.
     pub good: u64,
+    /// Lines with a fault.
     pub bad: u64,
     /// The greatest moment of the capture lines.
     pub latest: u64,
     pub ghost counted: { good + bad ≤ lines },
 }
 
-impl Tally {
-    /// The lines with one more, which is that; None exactly where their number does not fit.
-    pub(crate) fn with(self, verdict: LineVerdict, latest: u64) -> Option<Tally>
+impl LineTally {
+    /// No line so far.
+    pub const NONE: LineTally = LineTally {
+        lines: 0,
+        good: 0,
+        bad: 0,
+        latest: 0,
+    };
+
+    /// The lines with one more, of this verdict, after which `latest` is the greatest moment; None exactly if their number does not fit.
+    pub fn with(self, verdict: LineVerdict, latest: u64) -> Option<LineTally>
         ensures some { IsSome result ↔ (self.lines < 2 ^ 64 - 1) }
         ensures lines { IfSome result (λ t. t.lines ≡ self.lines + 1) }
         ensures good { IfSome result (λ t. t.good ≡ self.good + good_among (verdict ∷ [])) }
@@ -32,7 +43,7 @@ impl Tally {
             LineVerdict::Note => (self.good, self.bad),
             LineVerdict::Bad(_) => (self.good, self.bad + 1),
         };
-        Some(Tally {
+        Some(LineTally {
             lines,
             good,
             bad,
@@ -40,8 +51,8 @@ impl Tally {
         })
     }
 
-    /// Whether no line is bad.
-    pub(crate) fn status(self) -> Status
+    /// `Done` if no line is bad, else `Faulty`.
+    pub fn status(self) -> Status
         ensures { IsTallied self.bad result }
     {
         if self.bad == 0 {

@@ -1,6 +1,7 @@
 //! The script that completes words in bash.
 use crate::backup_words::backups;
 use crate::help_words::{about, of_clients, of_servers, offline};
+use crate::people_words::people;
 use crate::words::{Grammar, Word, WordForm};
 use std::io;
 use std::io::Write;
@@ -55,6 +56,7 @@ fn write_names<O: Write>(out: &mut O, grammars: &[Grammar]) -> io::Result<()> {
 
 /// Writes the names of all commands.
 fn write_all_names<O: Write>(out: &mut O) -> io::Result<()> {
+    write_names(out, people())?;
     write_names(out, offline())?;
     write_names(out, of_servers())?;
     write_names(out, of_clients())?;
@@ -143,6 +145,7 @@ pub(crate) fn write_completion<O: Write>(out: &mut O) -> io::Result<()> {
     out.write_all(HEAD.as_bytes())?;
     write_all_names(out)?;
     out.write_all(MIDDLE.as_bytes())?;
+    write_cases(out, people())?;
     write_cases(out, offline())?;
     write_cases(out, of_servers())?;
     write_cases(out, of_clients())?;

@@ -1,6 +1,7 @@
 //! Command lines, read by the table of commands.
 use crate::backup_words::backups;
 use crate::help_words::{about, of_clients, of_servers, offline};
+use crate::people_words::people;
 use crate::words::{Grammar, Need, Word, WordForm};
 use clap::builder::ValueParser;
 use clap::{Arg, ArgAction, ArgGroup, ArgMatches, Command};
@@ -96,13 +97,18 @@ fn with_commands<'a>(
     Ok(program)
 }
 
-/// The program with those of its commands that need no link.
-fn with_offline<'a>(alloc: Global) -> Result<Command<'a>, clap::Error> {
+/// The program with those of its commands that are for people.
+fn with_people<'a>(alloc: Global) -> Result<Command<'a>, clap::Error> {
     let bac = Command::new(alloc, "bac")
         .about("BACnet confirmed services")
         .subcommand_required(true)
         .disable_help_subcommand(true);
-    with_commands(alloc, bac, offline())
+    with_commands(alloc, bac, people())
+}
+
+/// The program with those and the commands that need no link.
+fn with_offline<'a>(alloc: Global) -> Result<Command<'a>, clap::Error> {
+    with_commands(alloc, with_people(alloc)?, offline())
 }
 
 /// The program with those and the commands of servers.

@@ -6,6 +6,7 @@ use crate::backup_words::backups;
 use crate::completion::write_completion;
 use crate::help_words::{about, command_named, more_example, of_clients, of_servers, offline};
 use crate::manual::write_manual;
+use crate::people_words::people;
 use crate::words::{Grammar, Need, Word, WordForm};
 use crate::wrapping::{SCREEN, write_lines, write_wrapped};
 use std::io;
@@ -89,8 +90,9 @@ fn write_names<O: Write>(out: &mut O, grammars: &[Grammar]) -> io::Result<()> {
 
 /// Writes all commands.
 fn write_all_commands<O: Write>(out: &mut O) -> io::Result<()> {
-    out.writeln("BACnet confirmed services: bac COMMAND ARGUMENTS..")?;
-    out.write_all(b"\n")?;
+    out.writeln("BACnet confirmed services: bac COMMAND ARGUMENTS..\n\nFor people:")?;
+    write_names(out, people())?;
+    out.writeln("\nOther commands:")?;
     write_names(out, offline())?;
     write_names(out, of_servers())?;
     write_names(out, of_clients())?;
@@ -101,9 +103,18 @@ fn write_all_commands<O: Write>(out: &mut O) -> io::Result<()> {
     out.writeln("Example: bac ask --help")
 }
 
+/// Writes the name of the program and its version, and behind it how it was built.
+fn write_version<O: Write>(built: Option<&str>, out: &mut O) -> io::Result<()> {
+    match built {
+        Some(built) => writeln!(out, "{VERSION} ({built})"),
+        None => out.writeln(VERSION),
+    }
+}
+
 impl Telling<'_> {
-    /// Writes what is told, without a flush. False, with nothing written, where it is help for a command and there is none of that name. An Err is the writer's.
-    pub fn write<O: Write>(self, out: &mut O) -> io::Result<bool>
+    /// Writes what is told, without a flush; `built` is what is known of how the program was built. False, with nothing written, where it is help for a command
+    /// and there is none of that name. An Err is the writer's.
+    pub fn write<O: Write>(self, built: Option<&str>, out: &mut O) -> io::Result<bool>
         ensures missing { IfOk result (λ told. told ≡ false → Keeps (O.contents out.old) (O.contents out.new)) }
     {
         match self {
@@ -115,7 +126,7 @@ impl Telling<'_> {
                 write_command(out, grammar)?;
             }
             Telling::Manual => write_manual(out)?,
-            Telling::Version => out.writeln(VERSION)?,
+            Telling::Version => write_version(built, out)?,
             Telling::Completion => write_completion(out)?,
         }
         Ok(true)

@@ -1,5 +1,6 @@
 //! The commands that tell of the program itself, and more examples for help.
 use crate::backup_words::backups;
+use crate::people_words::people;
 use crate::words::{ASKING, Grammar, Need, OFFLINE, SERVING, Word, WordForm};
 
 /// What `help` takes.
@@ -82,6 +83,9 @@ fn among(name: &str, grammars: &'static [Grammar]) -> Option<&'static Grammar> {
 
 /// The command of that name.
 pub(crate) fn command_named(name: &str) -> Option<&'static Grammar> {
+    if let Some(found) = among(name, people()) {
+        return Some(found);
+    }
     if let Some(found) = among(name, offline()) {
         return Some(found);
     }

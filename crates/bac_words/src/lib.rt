@@ -7,6 +7,7 @@ mod grammar;
 mod help;
 mod help_words;
 mod manual;
+mod people_words;
 mod words;
 mod wrapping;
 

@@ -2,6 +2,7 @@
 use crate::backup_words::backups;
 use crate::help::write_form;
 use crate::help_words::{about, more_example, of_clients, of_servers, offline};
+use crate::people_words::people;
 use crate::words::{Grammar, Word};
 use crate::wrapping::{FILLED, SHOWN, write_lines, write_wrapped};
 use std::io;
@@ -74,6 +75,7 @@ fn write_commands<O: Write>(out: &mut O, grammars: &[Grammar]) -> io::Result<()>
 /// Writes the page of the manual: all commands, their words and examples, in roff.
 pub(crate) fn write_manual<O: Write>(out: &mut O) -> io::Result<()> {
     out.write_all(HEAD.as_bytes())?;
+    write_commands(out, people())?;
     write_commands(out, offline())?;
     write_commands(out, of_servers())?;
     write_commands(out, of_clients())?;

@@ -516,7 +516,14 @@ const SERVE: &[Word] = &[
         form: WordForm::Flag,
         need: Need::Beside("objects"),
         against: &["keep", "turns"],
-        help: "Reads the document of --objects again when it changes, at most once a second, and gives the objects the values that changed in it; other values that clients wrote stay",
+        help: "Reads the document of --objects, a regular file, again when it changes, at most once a second, and gives the objects the values that changed in it; other values that clients wrote stay",
+    },
+    Word {
+        name: "follow-limit",
+        form: WordForm::Number("MIB", 1_024),
+        need: Need::Beside("follow"),
+        against: &[],
+        help: "Follows a document of at most MIB MiB, 1 to 1024; 8 by default. A larger one is not followed until it is smaller",
     },
     Word {
         name: "until-eof",
@@ -671,6 +678,13 @@ const ASK: &[Word] = &[
         need: Need::Never,
         against: &["text", "raw", "json"],
         help: "Prints each result as a CSV row, below a row with the names of the columns: time,peer,object,property,kind,value,status",
+    },
+    Word {
+        name: "raw-text",
+        form: WordForm::Flag,
+        need: Need::Beside("csv"),
+        against: &[],
+        help: "Prints texts as they came. By default a text that a spreadsheet would compute has an apostrophe before it, and what would act on a terminal is escaped",
     },
     Word {
         name: "lines",

@@ -9,7 +9,7 @@ pub returns : goal.returns
 returns g c =
     let set = c.set.ensures in
     served_so (OnPort g.M.Sockets.is_bound g.M.Link.Link.failures g.M.Link.Link.calls) (OnClock g.M.Sockets.is_made g.M.Timer.Clock.told) _ _ c.now-start.result
-    c.restart-restart.result c.in-Ok.bound.1 _ _ _ _ _ _ c.serve_from.result c.restart-restart.ensures refl refl
+    c.restart-restart.result c.in-Ok.bound.1 _ _ _ _ _ _ c.serve_from-status.result c.restart-restart.ensures refl refl
     (ap (λ (b : BoundNode). b.node) set ∙ c.in-Ok-bound_server.ensures.node)
     (record {
       link = c.in-Ok.bound.0;
@@ -22,4 +22,4 @@ returns g c =
       made = record { timer = c.in-Some.timer; made = c.in-Some.ensures; is = refl };
       is = c.now-start.ensures.tells;
     })
-    (ap (λ (b : BoundNode). b.rules) set) c.serve_from.ensures
+    (ap (λ (b : BoundNode). b.rules) set) c.serve_from-status.ensures

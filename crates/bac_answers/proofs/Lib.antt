@@ -1,4 +1,0 @@
-pub mod Logs
-pub mod Answers
-pub mod Moments
-pub mod Computed

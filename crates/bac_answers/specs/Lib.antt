@@ -1,3 +1,0 @@
-pub mod Answers
-pub mod Moments
-pub mod Examples

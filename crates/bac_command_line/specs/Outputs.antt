@@ -1,0 +1,13 @@
+-- What standard output has.
+use Rattle.std.specs.Prelude.{ℕ, List, Option, Some}
+use Rattle.std.specs.declared.io.traits.Write.{Ghosts}
+use Rattle.bac_command_line.specs.declared.output.Output.{Output}
+use Rattle.bac_command_line.specs.declared.output.Output.TheVariants.{Text, Octets}
+
+-- text as it was written, before it is shown
+abbrev pub contents_in : {W : Type 0} (known : W → Option (List ℕ)) (g : Ghosts W) → Output W g → Option (List ℕ)
+contents_in known g (Text shown) = Some shown.written.octets
+contents_in known g (Octets out) = known out
+
+abbrev pub output_contents : {W : Type 0} {g : Ghosts W} (known : W → Option (List ℕ)) → Output W g → Option (List ℕ)
+output_contents {W} {g} known = contents_in known g

@@ -1,0 +1,31 @@
+//! The answers that clients get, of servers of either setting: a law.
+//!
+//! The definitions are in `specs/Answers` and `specs/Moments`, and `examples` has logs that are computed. The functions here have no body: each carries a law as its contract.
+ghost use Rattle.std.specs.Prelude.{ℕ, List};
+ghost use Rattle.bac_protocol.specs.Pace.{IsTimely};
+ghost use Rattle.bac_world.specs.Claims.{AreReplayed};
+ghost use Rattle.bac_world.specs.Once.{Fact, IsOnce, Stores};
+ghost use Rattle.bac_world.specs.ReusingLogs.{IsOnceSo, Reuses};
+ghost use Rattle.bac_world.specs.ReusingWorlds.{WorldRunSo};
+ghost use Rattle.bac_world.specs.World.{Event, IsBounded, IsFresh, World, stores_of};
+ghost use Rattle.bac_plant.specs.Answers.{AnswersAreReplies};
+ghost use Rattle.bac_plant.specs.Moments.{AnswersAreOfMoments};
+
+/// After every run of a fresh world, whichever nodes let clients use an invoke ID again, with a clock for each node and strangers among them: each answer that
+/// ends an ask, of a read, a write or an append, is the reply to its request of its server's store, as that was at a moment between the ask and its end.
+///
+/// In the log (`runs`) that is where the request was performed, and the store is that of the server's last start, after the requests performed and the changes
+/// made at that node since, in the log's order. So are all stores of nodes, after each run (`stores`). In the run (`moments`) it is the store that the server's
+/// node has in a world to which the run has come. Any log that is right with the stores says so too: in the words for servers of either setting (`logs`), or in
+/// those of the headline (`headline`).
+#[tactic(auto, using(crate::proofs::Answers::in_logs, crate::proofs::Answers::in_logs_of_headline))]
+pub fn answers_are_replies()
+    ensures runs { (W overtake : ℕ) (u : Reuses) (w w' : World) → IsFresh w → IsTimely w.time.pace → IsBounded W overtake w → (events : List Event)
+        → WorldRunSo overtake u w events w' → AnswersAreReplies (stores_of w.nodes) w'.log }
+    ensures moments { (W overtake : ℕ) (u : Reuses) (w w' : World) → IsFresh w → IsTimely w.time.pace → IsBounded W overtake w → (events : List Event)
+        → WorldRunSo overtake u w events w' → AnswersAreOfMoments overtake u w events w' }
+    ensures stores { (W overtake : ℕ) (u : Reuses) (w w' : World) → IsFresh w → IsTimely w.time.pace → IsBounded W overtake w → (events : List Event)
+        → WorldRunSo overtake u w events w' → AreReplayed (stores_of w.nodes) w'.log (stores_of w'.nodes) }
+    ensures logs { (u : Reuses) (opening : Stores) (log : List Fact) (stores : Stores) → IsOnceSo u opening log stores → AnswersAreReplies opening log }
+    ensures headline { (opening : Stores) (log : List Fact) (stores : Stores) → IsOnce opening log stores → AnswersAreReplies opening log }
+{}

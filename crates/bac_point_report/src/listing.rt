@@ -1,0 +1,112 @@
+//! The objects of a device, by its object-list.
+ghost use Rattle.std.specs.Prelude.{◌≡◌, map, IfOk, IfSome};
+ghost use Rattle.bac_ask_report.specs.Records.{outcome_view};
+ghost use Rattle.bac_service.specs.Views.{property_reference_view};
+ghost use Rattle.bac_value.specs.Meaning.{IsValueOf};
+ghost use Rattle.bac_value.specs.Value.{object as datum};
+ghost use Rattle.bac_value.specs.Views.{element_view, object_identifier_view};
+ghost use Rattle.bac_point_report.specs.Listing.{AreObjects, AreObjectsOf, IsNumber, IsNumberOf, IsStep};
+
+use crate::outcome::values_of;
+use bac_ask_report::Outcome;
+use bac_service::{AnyRequest, PropertyReference};
+use bac_value::{Data, Element, NoMemory, ObjectIdentifier, Value, value_of};
+use std::alloc::Global;
+
+/// What follows from how the read of an object-list ended.
+#[derive(Drop)]
+pub enum ListStep {
+    /// These are the objects.
+    Objects(Vec<ObjectIdentifier>),
+    /// The list does not come as a whole: its number of elements, and then each element, can be read.
+    InParts,
+    /// It was not answered with objects.
+    Failed,
+}
+
+/// The object that an element is. None if it is none.
+fn object_of(alloc: Global, element: Element<&[u8]>) -> Result<Option<ObjectIdentifier>, NoMemory>
+    ensures { IfOk result (λ o. IfSome o (λ i. IsValueOf (datum (object_identifier_view i)) (element_view (λ s. s.now) element.entry))) }
+{
+    match value_of(alloc, element)? {
+        Some(Value::ObjectIdentifier(object)) => Ok(Some(object)),
+        _ => Ok(None),
+    }
+}
+
+/// The objects that values are. None if one is no object.
+fn objects_in(alloc: Global, values: Data<'_>) -> Result<Option<Vec<ObjectIdentifier>>, NoMemory>
+    ensures { IfOk result (λ o. IfSome o (λ objects. AreObjects (map object_identifier_view objects.items) values.entry.octets.now)) }
+{
+    let mut objects = Vec::new(alloc);
+    let mut rest = values.elements();
+    while let Some((element, more)) = rest.split_first() {
+        let Some(object) = object_of(alloc, element)? else {
+            return Ok(None);
+        };
+        objects.push(object)?;
+        rest = more;
+    }
+    Ok(Some(objects))
+}
+
+/// The objects with which a read of a property was answered. None if it was not answered with objects. An Err is out of memory.
+pub fn objects_of(
+    alloc: Global,
+    reference: PropertyReference,
+    outcome: Outcome<'_>,
+) -> Result<Option<Vec<ObjectIdentifier>>, NoMemory>
+    ensures { IfOk result (λ o. IfSome o (λ objects. AreObjectsOf (property_reference_view reference) (outcome_view outcome.entry) (map object_identifier_view objects.items))) }
+{
+    match values_of(AnyRequest::ReadProperty(reference), outcome) {
+        Some(values) => objects_in(alloc, values),
+        None => Ok(None),
+    }
+}
+
+/// The number that values are. None if they are not one number.
+fn number_in(alloc: Global, values: Data<'_>) -> Result<Option<u64>, NoMemory>
+    ensures { IfOk result (λ o. IfSome o (λ n. IsNumber n values.entry.octets.now)) }
+{
+    let Some((element, others)) = values.elements().split_first() else {
+        return Ok(None);
+    };
+    if !others.octets.is_empty() {
+        return Ok(None);
+    }
+    match value_of(alloc, element)? {
+        Some(Value::Unsigned(number)) => Ok(Some(number)),
+        _ => Ok(None),
+    }
+}
+
+/// The number with which a read of a property was answered. None if it was not answered with one number. An Err is out of memory.
+pub fn number_of(
+    alloc: Global,
+    reference: PropertyReference,
+    outcome: Outcome<'_>,
+) -> Result<Option<u64>, NoMemory>
+    ensures { IfOk result (λ o. IfSome o (λ n. IsNumberOf (property_reference_view reference) (outcome_view outcome.entry) n)) }
+{
+    match values_of(AnyRequest::ReadProperty(reference), outcome) {
+        Some(values) => number_in(alloc, values),
+        None => Ok(None),
+    }
+}
+
+/// What follows from how the read of an object-list ended: an Abort says that it does not come as a whole. An Err is out of memory.
+pub fn after_list(
+    alloc: Global,
+    reference: PropertyReference,
+    outcome: Outcome<'_>,
+) -> Result<ListStep, NoMemory>
+    ensures { IfOk result (λ step. IsStep (property_reference_view reference) (outcome_view outcome.entry) step) }
+{
+    if let Outcome::Aborted(_) = outcome {
+        return Ok(ListStep::InParts);
+    }
+    match objects_of(alloc, reference, outcome)? {
+        Some(objects) => Ok(ListStep::Objects(objects)),
+        None => Ok(ListStep::Failed),
+    }
+}

@@ -1,0 +1,9 @@
+pub mod Tables
+pub mod SetBits
+pub mod Parts
+pub mod Bodies
+pub mod Utf8Tests
+pub mod OwnFaults
+pub mod Rows
+pub mod ListTexts
+pub mod PlainTexts

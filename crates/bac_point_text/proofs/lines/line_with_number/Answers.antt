@@ -1,0 +1,9 @@
+use Rattle.std.proofs.Common.{rules, tests}
+use Rattle.std.proofs.lemmas.Iterator.Search.{find_from_yields_List}
+use Rattle.std.proofs.lemmas.Iterator.Splits.{YieldsList-from_lines}
+use Rattle.bac_point_text.specs.Lines.{has_number}
+use Rattle.bac_point_text.proofs.lines.line_with_number.Goals as goal
+
+pub returns : goal.returns
+returns c =
+    find_from_yields_List (has_number c.args.number) _ _ c.find.result c.find.ensures.ran (YieldsList-from_lines c.args.table.now c.lines.ensures.rest) (λ x b q k. search (rules, tests))

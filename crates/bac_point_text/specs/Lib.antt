@@ -1,0 +1,11 @@
+pub mod Kinds
+pub mod Lines
+pub mod Enumerations
+pub mod PropertyNames
+pub mod Views
+pub mod Alone
+pub mod ListAlone
+pub mod Faults
+pub mod Written
+pub mod Lists
+pub mod Laws

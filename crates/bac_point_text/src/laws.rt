@@ -1,0 +1,20 @@
+//! Laws of texts: empty functions whose contracts are the laws.
+ghost use Rattle.bac_point_text.specs.Laws.{AreInverse, AreWritten};
+
+use bac_value_text::{names_and_numbers_are_inverse, printed_values_are_read};
+
+/// In each enumeration a name has a number exactly if that number has the name.
+pub fn enumerations_are_inverse()
+    ensures { AreInverse }
+{
+    names_and_numbers_are_inverse();
+}
+
+/// What [`value_alone`](crate::value_alone) prints of a value reads as that value, given its kind: of every value but NaN and infinite numbers,
+/// characters of which some are escaped or are not UTF-8, bits by their names, and numbers without a name where others have one.
+pub fn plain_texts_are_read()
+    ensures { AreWritten }
+{
+    enumerations_are_inverse();
+    printed_values_are_read();
+}

@@ -1,0 +1,15 @@
+//! What `read`, `write` and `points` do: a node is asked for values, or to take one, in the words that people use.
+#![tactic(auto)]
+
+mod listing;
+mod performing;
+mod questions;
+mod reading;
+mod silence;
+mod task;
+mod timeout;
+mod writing;
+
+pub use performing::do_with_points;
+pub use task::{PointTask, PointWork, Writing, point_task_of};
+pub use timeout::{bad_timeout, print_bad_timeout};

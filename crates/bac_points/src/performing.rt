@@ -1,0 +1,87 @@
+//! Doing what `read`, `write` and `points` ask for.
+ghost use Rattle.std.specs.Prelude.{IfErr, IfOk};
+ghost use Rattle.bac_text.specs.Statuses.{IsFailure};
+ghost use Rattle.bac_asking.specs.Online.{IsClient};
+ghost use Rattle.bac_environment.specs.Sockets.{OnClock, OnPort};
+ghost use Rattle.bac_points.specs.Points.{ArePoints};
+
+use crate::listing::list;
+use crate::reading::read;
+use crate::silence::tell_silence;
+use crate::task::{PointTask, PointWork};
+use crate::writing::write;
+use bac_asking::{Asking, Client, ClientSockets, outcome_of};
+use bac_driver::AskEnd;
+use bac_environment::{Environment, OpenFiles};
+use bac_npdu::Peer;
+use bac_point_report::is_silent;
+use bac_text::Status;
+use std::alloc::Global;
+use std::io::Write;
+
+/// Who is asked, from where and how.
+#[derive(Drop)]
+pub(crate) struct Desk<'e, M> {
+    pub alloc: Global,
+    pub machine: &'e M,
+    pub asking: &'e Asking,
+    pub peer: Peer,
+}
+
+impl<'e, M: ClientSockets> Desk<'e, M> {
+    /// A client that has asked nothing. Where there is none, `err` and the status say so.
+    pub(crate) fn client<E: Write>(&self, err: &mut E) -> Result<Client<'e, M>, Status>
+        ensures node { IfOk result (λ c. IsClient (OnPort M.is_bound M.Link.failures M.Link.calls) self.now.asking.now.host c.station.bound_node) }
+        ensures clock { IfOk result (λ c. OnClock M.is_made M.Timer.told (M.Timer.told c.station.clock)) }
+        ensures failed { IfErr result IsFailure }
+    {
+        Client::new(self.alloc, self.machine, self.asking.host, err)
+    }
+
+    /// If an ask got no answer, `err` says so, and what to look at. Answers whether one did not.
+    pub(crate) fn tell_if_silent<E: Write>(&self, ends: &[AskEnd], err: &mut E) -> bool {
+        let Some(end) = ends.iter().find(|end| is_silent(outcome_of(end))) else {
+            return false;
+        };
+        let timeout = self.asking.timeout;
+        tell_silence(
+            self.alloc,
+            self.machine,
+            self.peer,
+            timeout,
+            outcome_of(end),
+            err,
+        );
+        true
+    }
+}
+
+/// Reads or writes properties of a node in the words that people use, or lists its objects. Returns `Faulty` if a property was not read or written, or the node
+/// did not answer: `err` says so.
+///
+/// If the words are for no property or value, prints `bad words` and which on `err`, and asks nothing.
+pub fn do_with_points<F: OpenFiles, M: ClientSockets, O: Write, E: Write>(
+    environment: &Environment<'_, F, M>,
+    task: &PointTask<'_, '_>,
+    out: &mut O,
+    err: &mut E,
+) -> Status
+    ensures { ArePoints (OnPort M.is_bound M.Link.failures M.Link.calls) (OnClock M.is_made M.Timer.told) task.now result }
+{
+    let desk = Desk {
+        alloc: environment.alloc,
+        machine: environment.machine,
+        asking: &task.asking,
+        peer: task.peer,
+    };
+    let done = match task.work {
+        PointWork::Read(words) => read(&desk, words, out, err),
+        PointWork::Write(writing) => write(&desk, writing, out, err),
+        PointWork::List(device) => list(&desk, device, out, err),
+    };
+    match done {
+        Ok(true) => Status::Done,
+        Ok(false) => Status::Faulty,
+        Err(status) => status,
+    }
+}

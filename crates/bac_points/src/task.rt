@@ -1,0 +1,150 @@
+//! What the arguments of `read`, `write` and `points` ask for.
+
+use crate::timeout::timeout_in;
+use bac_ask_report::CellText;
+use bac_asking::{Asking, ClientSockets, RecordForm};
+use bac_commands::{OutputFormat, Style};
+use bac_lists::{BACNET_PORT, EVERY_HOST, LOCAL_HOST, link_at, read_link, read_route};
+use bac_npdu::{LinkAddress, Peer, Route};
+use bac_value::ObjectIdentifier;
+use clap::ArgMatches;
+
+/// The instance that stands for a device of any instance (clause 15.5.2).
+const ANY_DEVICE: u32 = 4_194_303;
+
+/// The object type device (clause 21).
+const DEVICE: u16 = 8;
+
+/// How ends are printed as records: an Error is no success.
+const FORMAT: OutputFormat = OutputFormat {
+    style: Style::Words,
+    strict: true,
+};
+
+/// What is written, and how.
+#[derive(Clone, Copy)]
+pub struct Writing<'m, 'a> {
+    /// The object, the property if it is not the present-value, and the value.
+    pub words: &'m [&'a str],
+    /// The priority, 1 to 16. None if none is given.
+    pub priority: Option<u64>,
+    /// The name of the value's kind. None if it is that of the value that the property has.
+    pub kind: Option<&'a str>,
+}
+
+/// What is done with properties of a node.
+#[derive(Clone, Copy)]
+pub enum PointWork<'m, 'a> {
+    /// The values of the properties that words name are printed.
+    Read(&'m [&'a str]),
+    /// A property gets a value.
+    Write(Writing<'m, 'a>),
+    /// The objects of this device are printed.
+    List(ObjectIdentifier),
+}
+
+/// How a node is asked, which node, and what for.
+#[derive(Clone, Copy)]
+pub struct PointTask<'m, 'a> {
+    pub asking: Asking,
+    pub peer: Peer,
+    pub work: PointWork<'m, 'a>,
+}
+
+impl<'m, 'a> PointTask<'m, 'a> {
+    /// The same, but asked from the address of this machine that the peer sees, if the machine tells it.
+    pub fn from_source<M: ClientSockets>(self, machine: &M) -> PointTask<'m, 'a> {
+        PointTask {
+            asking: self.asking.towards(machine, self.peer),
+            peer: self.peer,
+            work: self.work,
+        }
+    }
+}
+
+/// The address that is asked: that behind `--to`, or the port of BACnet/IP on this machine. None if it is none.
+fn link_in(given: &ArgMatches<'_>) -> Option<LinkAddress> {
+    match given.get_str("to") {
+        Some(text) => read_link(text),
+        None => Some(link_at(LOCAL_HOST, BACNET_PORT)),
+    }
+}
+
+/// The way on from there, where one is given. None where it is none.
+fn route_in(given: &ArgMatches<'_>) -> Option<Option<Route>> {
+    match given.get_str("route") {
+        Some(text) => Some(Some(read_route(text)?)),
+        None => Some(None),
+    }
+}
+
+/// The node that is asked. None if an address is invalid.
+fn peer_in(given: &ArgMatches<'_>) -> Option<Peer> {
+    let link = link_in(given)?;
+    let route = route_in(given)?;
+    Some(Peer { link, route })
+}
+
+/// The form of the records that `read` prints; None where it prints none.
+fn records_in(given: &ArgMatches<'_>) -> Option<RecordForm> {
+    if given.get_flag("json") {
+        Some(RecordForm::Json)
+    } else if given.get_flag("csv") {
+        Some(RecordForm::Csv(CellText::Shielded))
+    } else {
+        None
+    }
+}
+
+/// How a node is asked. None if the time to wait is invalid.
+fn asking_in(given: &ArgMatches<'_>, records: Option<RecordForm>) -> Option<Asking> {
+    Some(Asking {
+        host: EVERY_HOST,
+        timeout: timeout_in(given)?,
+        output_format: FORMAT,
+        records,
+        shows_progress: false,
+        has_names: false,
+        rounds: None,
+        window: None,
+    })
+}
+
+/// The device that is given by its instance, or a device of any instance. None if there is no such instance.
+fn device_in(given: &ArgMatches<'_>) -> Option<ObjectIdentifier> {
+    let instance = match given.get_one::<u64>("device") {
+        Some(instance) => u32::try_from(instance).ok()?,
+        None => ANY_DEVICE,
+    };
+    ObjectIdentifier::new(DEVICE, instance)
+}
+
+/// What the arguments of that command ask for. None if there is no such command, its words are missing, or an address or the time to wait is invalid.
+pub fn point_task_of<'m, 'a>(
+    command: &str,
+    given: &'m ArgMatches<'a>,
+) -> Option<PointTask<'m, 'a>> {
+    let peer = peer_in(given)?;
+    match command {
+        "read" => Some(PointTask {
+            asking: asking_in(given, records_in(given))?,
+            peer,
+            work: PointWork::Read(given.get_strs("OBJECT")?),
+        }),
+        "write" => Some(PointTask {
+            asking: asking_in(given, None)?,
+            peer,
+            work: PointWork::Write(Writing {
+                words: given.get_strs("OBJECT")?,
+                priority: given.get_one("priority"),
+                kind: given.get_str("kind"),
+            }),
+        }),
+        "points" => Some(PointTask {
+            asking: asking_in(given, None)?,
+            peer,
+            work: PointWork::List(device_in(given)?),
+        }),
+        _ => None,
+    }
+}

@@ -1,0 +1,4 @@
+pub mod Plain
+pub mod Harmless
+pub mod Showing
+pub mod Steps

@@ -1,0 +1,5 @@
+pub mod Harmful
+pub mod Escapes
+pub mod Pieces
+pub mod Going
+pub mod Laws

@@ -1,6 +1,0 @@
-use Rattle.bac_writes.proofs.Runs.{writes_act_once}
-use Rattle.bac_writes.proofs.strangers_writes_act_once.Goals as goal
-
--- src/lib.rt:10:1
-pub returns : goal.returns
-returns c = writes_act_once
