@@ -33,7 +33,9 @@ fn are_exchanged(one: &mut UdpLink, other: &mut UdpLink) -> bool {
 fn are_dropped(one: &mut UdpLink, other: &mut UdpLink) -> bool {
     one.send(other.address(), &[0x81, 0x0A, 0x00, 0x04]).is_ok()
         && comes_nothing(other, 100)
-        && one.send(other.address(), &[0x81, 0x0A, 0x00, 0x04, 0x01]).is_ok()
+        && one
+            .send(other.address(), &[0x81, 0x0A, 0x00, 0x04, 0x01])
+            .is_ok()
         && comes_nothing(other, 100)
         && one.send(other.address(), &[0x81]).is_ok()
         && comes(other, 100, one.address(), &[0x81])
