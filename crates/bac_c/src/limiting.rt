@@ -27,6 +27,7 @@ fn limited(object: Object, least: DataBuf, greatest: DataBuf) -> (Object, bool)
         return (object, false);
     };
     property.allowed = Allowed::Between { least, greatest };
+    // it was taken out above, so there is room
     object.properties.push_reserved(property);
     (object, true)
 }
@@ -61,6 +62,7 @@ impl Device {
             return Err(Fault::BadObject);
         };
         let (object, done) = limited(object, least, greatest);
+        // it was taken out above, so there is room
         self.listed.push_reserved(object);
         if done { Ok(()) } else { Err(Fault::BadObject) }
     }

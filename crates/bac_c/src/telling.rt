@@ -77,6 +77,7 @@ fn part_out(
     }
     if index == count {
         *place = file_place(object, 0);
+        // the number of chunks is told last: at most 59, those of 60,000 octets
         return copy_out(&[count as u8], out);
     }
     0
@@ -110,7 +111,7 @@ pub fn cell_out(
     }
 }
 
-/// What a node makes of its store is kept by the cells that are told of it: a document and cells make the store before, and with these put into the cells
+/// What a node makes of its store is kept by the cells that are told of it. A document and cells make the store before. With these put into the cells
 /// they make the store after.
 pub fn told_cells_keep()
     ensures { (document s : Objects) (cells : Cells) (m : Made) → IsInOrder document → IsInOrder s → HasPlaces m → IsKeepable m (overlay cells document)

@@ -43,6 +43,7 @@ fn make_key(rt: &HostRuntime, path: &str) -> io::Result<()> {
     rt.fill_bytes(&mut octets)?;
     let name = name_beside(rt, path)?;
     write_new(rt, &name, &octets)?;
+    // a link takes no other file's place: of two programs that begin at once one makes the key
     let linked = fs::hard_link(rt, &name, path);
     fs::remove_file(rt, &name)?;
     match linked {
@@ -71,6 +72,7 @@ fn kept_key(rt: &HostRuntime) -> io::Result<PairKey> {
         return Ok(key);
     }
     fs::create_dir_all(rt, &folder)?;
+    // read again after it, as another program may have been first
     make_key(rt, &path)?;
     read_key(rt, &path)
 }

@@ -69,6 +69,7 @@ impl<'a> Setup<'a> {
         }
     }
 
+    /// Whether a line that begins with that word is there.
     pub(crate) fn has(&self, word: &str) -> bool {
         self.line(word).is_some()
     }

@@ -2,11 +2,14 @@
 //!
 //! After a line that says what happens come the lines that are printed, each indented by two spaces. Lines that begin with `--` are comments.
 //! `FIRST,NEXT..LAST: ` before a line stands for that line once for each of these numbers.
-//! In a line `<name>` stands for the text that a line `name: text` of the names has, `{41*00}` for 41 times the text `00`, `#` for the number in decimal,
-//! `{+6}` for the number plus 6, `@` for the number modulo 256 in hexadecimal, `|` for the end of a line, and `_` for nothing.
-//!
-//! `{41/}` stands for the first 41 octets of a long file whose octet i is i / 256, `{41/7}` for 41 octets of it from octet 7 on, and `{41/-12,44}` for 41 octets
-//! of it from octet -12 + 44 times the number on.
+//! In a line these stand for something else:
+//! - `<name>` for the text that a line `name: text` of the names has;
+//! - `{41*00}` for 41 times the text `00`;
+//! - `#` for the number in decimal, `{+6}` for the number plus 6, and `@` for the number modulo 256 in hexadecimal;
+//! - `|` for the end of a line, and `_` for nothing;
+//! - `{41/}` for the first 41 octets of a long file whose octet i is i / 256;
+//! - `{41/7}` for 41 octets of it from octet 7 on;
+//! - `{41/-12,44}` for 41 octets of it from octet -12 + 44 times the number on.
 use crate::RowFault;
 use std::alloc::Global;
 use std::fmt::Write;
@@ -27,6 +30,7 @@ impl Numbers {
     }
 }
 
+/// The numbers of a line without a range: once, with number 0.
 const ONCE: Numbers = Numbers {
     count: 1,
     first: 0,
@@ -113,7 +117,7 @@ fn named(alloc: Global, names: &str, line: &str) -> Result<String, RowFault> {
     Ok(out)
 }
 
-/// So many times the digits.
+/// Appends the digits, `count` times.
 fn put_digits(count: u64, digits: &str, out: &mut String) -> Result<(), RowFault> {
     for _ in 0..count {
         out.push_str(digits)?;
@@ -140,9 +144,10 @@ fn begin_of(place: &str, number_here: u64) -> Result<u64, RowFault> {
     }
 }
 
-/// So many octets of the long file, from that one on.
+/// Appends `count` octets of the long file from octet `begin` on, in hexadecimal.
 fn put_octets(count: u64, begin: u64, out: &mut String) -> Result<(), RowFault> {
     for i in 0..count {
+        // octet i of the long file is i / 256
         write!(out, "{:02X}", begin.wrapping_add(i) / 256 % 256)?;
     }
     Ok(())

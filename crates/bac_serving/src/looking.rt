@@ -317,6 +317,7 @@ fn serve_stretches<F: RegularFiles, M: Sockets + StandardInput, E: Write>(
     ensures failed { IfErr result IsFailure }
 {
     let mut effects = 0u64;
+    // no run has so many stretches
     for _count in 0..u64::MAX {
         let Some(stretch) = take_stretch(environment, stop, looker, station, err)? else {
             return Ok(effects);
@@ -350,6 +351,7 @@ fn serve_store<F: RegularFiles, M: Sockets + StandardInput + StandardError, O: W
     };
     let stop = Stop::of(serving, start.moment);
     let timer = environment.machine.timer();
+    // from here on standard error must not make the server wait
     let mut err = Dropping::new(
         environment.alloc,
         environment.machine,

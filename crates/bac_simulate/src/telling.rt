@@ -43,6 +43,7 @@ fn print_event<W: Write>(
         (Steps (told_in style) line passed (Happens (happening_view event.now)) world.old world.new)) }
 {
     let before = Seen::of(world);
+    // before the event: the reason is that of the world as it was
     let why = why_nothing(world, event);
     let teller = Teller {
         alloc,
@@ -93,7 +94,7 @@ fn print_lost<W: Write>(teller: Teller, copy: u64, out: &mut W) -> io::Result<()
     out.write_all(text.as_slice())
 }
 
-/// That a copy counts as lost, or that there is none. Answers whether there is one.
+/// Prints that a copy counts as lost, or that there is none. Answers whether there is one.
 fn print_lost_copy<W: Write>(
     alloc: Global,
     style: EventStyle,
@@ -156,7 +157,7 @@ fn print_pace<W: Write>(
     }
 }
 
-/// That a node's clock began so, with the script: nothing is printed of it, or that there is no such node. Answers whether there is one.
+/// Passes over a clock that began with the script: prints nothing of it, or that there is no such node. Answers whether there is one.
 fn print_start<W: Write>(
     alloc: Global,
     style: EventStyle,
