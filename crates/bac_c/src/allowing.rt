@@ -97,6 +97,7 @@ impl Device {
             return Err(Fault::BadObject);
         };
         let (object, done) = allowing(alloc, object, value);
+        // it was taken out above, so there is room
         self.listed.push_reserved(object);
         done
     }

@@ -14,8 +14,8 @@ use bac_store::Object;
 use bac_transaction::Rules;
 use std::alloc::Global;
 
-/// The objects and the kept cells that are listed for a node, the node once it is started, the rules by which it serves,
-/// and what came of the last call that did something.
+/// What is behind a handle: the objects and the kept cells that are listed for a node, and the node once it is started. Beside them are the rules by
+/// which it serves, and what came of the last call that did something.
 #[derive(Drop)]
 pub struct Device {
     pub listed: Vec<Object>,

@@ -46,6 +46,7 @@ impl Handle {
         ensures left { self.new.parked.device ≡ None }
         ensures was { MatchOption result (self.old.parked.device ≡ None) (λ b. self.old.parked.device ≡ Some b.value) }
     {
+        // an empty handle takes its place, as none may be dropped or moved out of
         let Handle { held, parked } = std::mem::replace(self, Handle::none());
         if !held {
             vacate(parked);

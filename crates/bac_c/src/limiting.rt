@@ -61,6 +61,7 @@ impl Device {
             return Err(Fault::BadObject);
         };
         let (object, done) = limited(object, least, greatest);
+        // it was taken out above, so there is room
         self.listed.push_reserved(object);
         if done { Ok(()) } else { Err(Fault::BadObject) }
     }

@@ -32,5 +32,6 @@ pub extern "C" fn bac_open(alloc: Global, handle: &mut Handle) -> u32
 pub extern "C" fn bac_release(alloc: Global, handle: &mut Handle)
     ensures { handle.new.parked.device ≡ None }
 {
+    // dropped at the end of the call, which frees it
     let _device = handle.take(alloc);
 }

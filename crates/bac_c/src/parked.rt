@@ -23,6 +23,7 @@ impl Model for Parked {
 pub(crate) fn vacate(parked: Parked)
     requires { parked.device ≡ None }
 {
+    // taken apart, as it cannot be dropped
     let Parked { at: _ } = parked;
 }
 
@@ -50,5 +51,6 @@ pub(crate) fn fetch(alloc: Global, parked: Parked) -> Box<Device>
     ensures { parked.device ≡ Some result.value }
 {
     let Parked { at } = parked;
+    // the address is that of a box that `park` gave away, and is used this once
     unsafe { Box::from_raw(alloc, at as *mut Device) }
 }

@@ -61,6 +61,7 @@ pub fn part_of(place: u64) -> Option<Part>
         let (object, property) = object_of(place);
         return Some(Part::Values { object, property });
     }
+    // an object and a number of 22 bits are 54 bits
     if place - FILES >= FILES {
         return None;
     }

@@ -18,7 +18,7 @@ pub enum Question<'a> {
         position: i64,
         octets: &'a [u8],
     },
-    /// So many octets of a file are read from a position on.
+    /// Octets of a file are read from a position on, at most `count` of them.
     Get {
         file: u32,
         position: i64,

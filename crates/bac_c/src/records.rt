@@ -34,7 +34,8 @@ pub struct Settings {
 pub struct End {
     /// The ticket's number.
     pub ticket: u64,
-    /// How: 0 values of a property, 1 done, 2 an Error, 3 a Reject, 4 an Abort, 5 timed out, 6 expired, 7 octets of a file, 8 where a file was written.
+    /// How: 0 values of a property, 1 done, 2 an Error, 3 a Reject, 4 an Abort. Also 5 timed out, 6 expired, 7 octets of a file, 8 where a file was
+    /// written.
     pub how: u32,
     /// The class of an Error, otherwise 0.
     pub class: u32,

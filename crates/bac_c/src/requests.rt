@@ -106,6 +106,7 @@ fn put_request(
     let Some(file) = identifier_of(FILE, file) else {
         return Err(Fault::BadRequest);
     };
+    // the length in a tag has 32 bits (clause 20.2.1.3.1)
     if octets.len() >= 0x1_0000_0000 {
         return Err(Fault::BadRequest);
     }

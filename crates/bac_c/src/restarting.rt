@@ -142,8 +142,8 @@ fn start_kept_by(
     status(done)
 }
 
-/// Starts the node again with the objects that are listed and, over their values, the cells that are listed, at a moment in milliseconds, after an earlier life
-/// that its peers may remember: it turns requests away for 65,000 ms and asks nothing for 75,000 ms.
+/// Starts the node again with the objects that are listed and, over their values, the cells that are listed. The start is at a moment in
+/// milliseconds, after an earlier life that its peers may remember. It turns requests away for 65,000 ms and asks nothing for 75,000 ms.
 #[unsafe(no_mangle)]
 pub extern "C" fn bac_start_kept(
     alloc: Global,
@@ -169,7 +169,7 @@ pub extern "C" fn bac_start_kept(
     start_kept_by(alloc, handle, Rule::Plain, settings, now, place)
 }
 
-/// The same with objects of any type.
+/// Starts the node again as [`bac_start_kept`] does, with objects of any type.
 #[unsafe(no_mangle)]
 pub extern "C" fn bac_start_described_kept(
     alloc: Global,

@@ -162,6 +162,7 @@ fn restore_cell(
     ensures fits { OnOk result (IsRising cells.now → EachFits document.now (held cells.now) (drop at cells.now)) }
     ensures fault { IfErr result (λ e. IsRising cells.now → IsWrong e document.now (held cells.now)) }
 {
+    // so that an identifier finds its object
     stores_are_in_order(document);
     let cell = &cells[at];
     match part_of(cell.place) {
@@ -179,6 +180,7 @@ fn restore_cell(
             restore_octets(alloc, store, cell.place, object, &octets)?;
             Ok(())
         }
+        // read with the number of the file's parts
         Some(Part::Chunk { .. }) => Ok(()),
     }
 }
@@ -186,8 +188,8 @@ fn restore_cell(
 /// The store that a document and cells make, whose places rise. Cells of no property and no file of the document, or of one that may not be written, have no
 /// effect.
 ///
-/// Returns `Wrong` with the place of a cell that does not fit: the document has a property for it that can't have these values, or a file without one of its
-/// parts, with a part of another length than its place allows, or with too many octets; `NoMemory` if memory was refused.
+/// Returns `Wrong` with the place of a cell that does not fit, and `NoMemory` if memory was refused. A property of the document may be one that can't
+/// have these values. Of a file a part may be missing or of another length than its place allows, or the octets may be too many.
 pub fn restored(alloc: Global, document: &Store, cells: &[Cell]) -> Result<Store, KeptFault>
     ensures made { IfOk result (λ s. IsRising cells.now → s ≡ overlay (held cells.now) document.now) }
     ensures fit { OnOk result (IsRising cells.now → AreFit document.now (held cells.now)) }

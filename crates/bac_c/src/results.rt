@@ -96,8 +96,8 @@ pub extern "C" fn bac_end(
     len
 }
 
-/// Why the last datagram was dropped: 1 no BVLL, 2 no NPDU, 3 routed elsewhere, 4 a network message, 5 no APDU, 6 from the node's own link; 0 where it was
-/// not.
+/// Why the last datagram was dropped; 0 where it was not. The others are 1 no BVLL, 2 no NPDU, 3 routed elsewhere, 4 a network message, 5 no APDU, 6
+/// from the node's own link.
 #[unsafe(no_mangle)]
 pub extern "C" fn bac_cause(alloc: Global, handle: &mut Handle) -> u32
     ensures cause { MatchOption handle.old.parked.device (result ≡ 0) (λ d. MatchOption d.outcome.dropped (result ≡ 0) (λ c. result ≡ cause_number c)) }

@@ -52,6 +52,7 @@ pub(crate) fn node_of(
 {
     match made(alloc, config, store, restart) {
         Ok(node) => Ok(node),
+        // `config_of` has refused such slots and windows
         Err(NewNodeFault::BadSlots | NewNodeFault::BadWindow) => unreachable!(),
         Err(NewNodeFault::NoMemory) => Err(Fault::NoMemory),
     }
@@ -170,8 +171,8 @@ pub extern "C" fn bac_start(alloc: Global, handle: &mut Handle, settings: &Setti
     start_by(alloc, handle, Rule::Plain, settings, None)
 }
 
-/// Starts the node with the objects that are listed, at a moment in milliseconds, after an earlier life that its peers may remember: it turns requests away
-/// for 65,000 ms and asks nothing for 75,000 ms.
+/// Starts the node with the objects that are listed, at a moment in milliseconds, after an earlier life that its peers may remember. It turns
+/// requests away for 65,000 ms and asks nothing for 75,000 ms.
 #[unsafe(no_mangle)]
 pub extern "C" fn bac_start_restarted(
     alloc: Global,
@@ -215,7 +216,8 @@ pub extern "C" fn bac_start_described(
     start_by(alloc, handle, Rule::Described, settings, None)
 }
 
-/// The same at a moment in milliseconds, after an earlier life that its peers may remember: it turns requests away for 65,000 ms and asks nothing for 75,000 ms.
+/// Starts the node as [`bac_start_described`] does, at a moment in milliseconds, after an earlier life that its peers may remember. It turns requests
+/// away for 65,000 ms and asks nothing for 75,000 ms.
 #[unsafe(no_mangle)]
 pub extern "C" fn bac_start_described_restarted(
     alloc: Global,

@@ -160,6 +160,7 @@ fn have_limits_that_fit(alloc: Global, property: &Property) -> Result<bool, NoMe
         Ok(_) => Ok(true),
         Err(StoreFault::NoMemory) => Err(NoMemory),
         Err(StoreFault::BadObject) => Ok(false),
+        // there is one object
         Err(StoreFault::Duplicate) => unreachable!(),
     }
 }

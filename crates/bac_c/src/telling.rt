@@ -110,7 +110,7 @@ pub fn cell_out(
     }
 }
 
-/// What a node makes of its store is kept by the cells that are told of it: a document and cells make the store before, and with these put into the cells
+/// What a node makes of its store is kept by the cells that are told of it. A document and cells make the store before. With these put into the cells
 /// they make the store after.
 pub fn told_cells_keep()
     ensures { (document s : Objects) (cells : Cells) (m : Made) → IsInOrder document → IsInOrder s → HasPlaces m → IsKeepable m (overlay cells document)

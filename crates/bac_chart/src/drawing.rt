@@ -21,6 +21,7 @@ pub enum ChartFormat {
     Mermaid,
 }
 
+/// The ends of a statement of Mermaid: an arrow, one that is lost, or a note over one node.
 fn ends_text(alloc: Global, line: &Line) -> Result<String, AllocError>
     ensures { IfOk result (λ t. string_bytes t ≡ ends_text (line_view line.now)) }
 {

@@ -99,8 +99,8 @@ fn contents_words(alloc: Global, npdu: Npdu<'_>) -> Result<Vec<u8>, AllocError>
     octets_words(alloc, npdu.contents)
 }
 
-/// What a datagram is, in short: what a request asks for, as `bac ask` takes it, without values; the kind of another APDU, or the number of a segment; an
-/// Error and reasons by their names. `octets` where it has no APDU.
+/// What a datagram is, in short. A request is what it asks for, as `bac ask` takes it, without values. Another APDU is its kind, or the number of a
+/// segment; an Error and reasons are named. `octets` where it has no APDU.
 pub fn datagram_words(alloc: Global, datagram: &[u8]) -> Result<Vec<u8>, AllocError>
     ensures { IfOk result (λ t. t.items ≡ datagram_words datagram.now) }
 {

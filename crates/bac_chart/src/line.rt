@@ -45,6 +45,7 @@ fn comes(number: u64, marks: &[Mark]) -> bool
     false
 }
 
+/// When a datagram was sent, if that is another moment than that of its coming.
 fn sent_words(alloc: Global, moment: u64, sent: u64) -> Result<String, AllocError>
     ensures { IfOk result (λ t. string_bytes t ≡ sent_words (nat_eq moment sent) sent) }
 {
@@ -86,6 +87,7 @@ fn lost_words(alloc: Global, arrow: &Arrow) -> Result<Vec<u8>, AllocError>
     Ok(words)
 }
 
+/// The line of a datagram that never comes, at the moment of its sending.
 fn lost_line(alloc: Global, arrow: &Arrow) -> Result<Line, AllocError>
     ensures { IfOk result (λ l. line_view l ≡ lost_line (arrow_view arrow.now)) }
 {

@@ -6,10 +6,10 @@ ghost use Rattle.bac_chart.specs.Views.{line_view};
 use crate::line::Line;
 use std::alloc::{AllocError, Global};
 
-/// As wide as a cell.
+/// An empty cell, 41 characters wide.
 const BLANK: &[u8; 41] = b"                                         ";
 
-/// As wide as a cell without the ends of an arrow.
+/// The shaft of an arrow: as wide as a cell without the three characters at its start and the one at its end.
 const DASHES: &[u8; 37] = b"-------------------------------------";
 
 /// How many characters of an arrow's words there is room for.
@@ -30,6 +30,7 @@ pub(crate) fn filled(is_last: bool, mut text: Vec<u8>) -> Result<Vec<u8>, AllocE
     Ok(text)
 }
 
+/// A node's cell in a line of what happens at one node, `here` or elsewhere.
 fn note_cell(alloc: Global, here: bool, words: &[u8]) -> Result<Vec<u8>, AllocError>
     ensures { IfOk result (λ t. t.items ≡ note_cell here words.now) }
 {
@@ -41,6 +42,7 @@ fn note_cell(alloc: Global, here: bool, words: &[u8]) -> Result<Vec<u8>, AllocEr
     Ok(text)
 }
 
+/// How the left cell of an arrow begins: where it starts, or with its head.
 fn cell_start(to_right: bool, is_lost: bool) -> &'static [u8]
     ensures { result.now ≡ cell_start to_right is_lost }
 {
@@ -53,6 +55,7 @@ fn cell_start(to_right: bool, is_lost: bool) -> &'static [u8]
     }
 }
 
+/// How a cell of an arrow ends: it goes on, or has its head, an x where the datagram is lost.
 fn cell_end(reaches: bool, is_lost: bool) -> &'static [u8]
     ensures { result.now ≡ cell_end reaches is_lost }
 {
@@ -75,6 +78,7 @@ fn first_cell(
     ensures { IfOk result (λ t. t.items ≡ first_cell to_right reaches is_lost words.now) }
 {
     let mut shaft = Vec::from_slice(alloc, words)?;
+    // the words, and dashes for the rest of the cell
     shaft.extend_from_slice(DASHES)?;
     shaft.truncate(ROOM);
     let mut text = Vec::from_slice(alloc, cell_start(to_right, is_lost))?;
@@ -92,6 +96,7 @@ fn middle_cell(alloc: Global, reaches: bool, is_lost: bool) -> Result<Vec<u8>, A
     Ok(text)
 }
 
+/// A node's cell in a line with an arrow: its left end, a cell that it crosses, or one beside it.
 fn arrow_cell(alloc: Global, node: u64, line: &Line) -> Result<Vec<u8>, AllocError>
     requires { node + 1 < 2 ^ 64 }
     ensures { IfOk result (λ t. t.items ≡ arrow_cell node (line_view line.now)) }
@@ -145,6 +150,7 @@ fn moment_text(alloc: Global, moment: u64) -> Result<Vec<u8>, AllocError>
 {
     let digits = format!(in alloc; "{moment}  ")?;
     let mut text = Vec::new(alloc);
+    // eight characters, and the two blanks behind them
     if digits.len() < 10 {
         text.extend_from_slice(&b"          "[digits.len()..])?;
     }

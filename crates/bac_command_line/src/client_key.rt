@@ -43,6 +43,7 @@ fn make_key(rt: &HostRuntime, path: &str) -> io::Result<()> {
     rt.fill_bytes(&mut octets)?;
     let name = name_beside(rt, path)?;
     write_new(rt, &name, &octets)?;
+    // a link takes no other file's place: of two programs that begin at once one makes the key
     let linked = fs::hard_link(rt, &name, path);
     fs::remove_file(rt, &name)?;
     match linked {

@@ -166,8 +166,8 @@ fn run_parsed<F: RegularFiles, M: Machine, O: Write, E: Write>(
 /// Words of no form: clap's text on `err`, and `CommandLine`. Out of memory: `no memory` on `err`. Where a brief command line fails and standard error is no
 /// terminal, `err` gets one line; otherwise what went wrong, and why.
 ///
-/// What would act on a terminal or hide is escaped, in what is printed and in complaints, but not in octets of a file or a capture, nor in what is wanted as it
-/// came, nor in the complaints of a command that draws its progress on a terminal.
+/// What would act on a terminal or hide is escaped, in what is printed and in complaints. It is not in octets of a file or a capture, or in what is
+/// wanted as it came. Nor is it in the complaints of a command that draws its progress on a terminal.
 pub fn run<F: RegularFiles, M: Machine, O: Write, E: Write>(
     alloc: Global,
     words: &[String],

@@ -14,8 +14,8 @@ pub(crate) const INPUT: i32 = 0;
 /// The descriptor of standard error.
 const ERRORS: i32 = 2;
 
-/// The system's numbers of faults that a socket itself has: no descriptor (EBADF), a bad address in memory (EFAULT), a call that it does not take (EINVAL), no socket
-/// (ENOTSOCK), a socket of another kind (EOPNOTSUPP), and one that is not connected (ENOTCONN).
+/// The system's numbers of faults that a socket itself has. The first are no descriptor (EBADF), a bad address in memory (EFAULT), and a call that it
+/// does not take (EINVAL). Then come no socket (ENOTSOCK), a socket of another kind (EOPNOTSUPP), and one that is not connected (ENOTCONN).
 const OF_THE_SOCKET: [i32; 6] = [9, 14, 22, 88, 95, 107];
 
 /// Whether the system says of a descriptor that a call does not wait now: a read or a write. A file, which it has no such word of, never lets a call wait.
@@ -29,6 +29,7 @@ pub(crate) fn is_ready(
     let registered = poll.registry().register(&mut source, Token(0), interest);
     if let Err(error) = registered {
         return match error.kind() {
+            // a file, which the system polls for nobody
             io::ErrorKind::PermissionDenied => Ok(true),
             _ => Err(error),
         };

@@ -59,8 +59,9 @@ impl Faults {
     }
 }
 
-/// A link over another one. Where that one cannot receive, nothing came, and it rests: as long as it has failed so far, a second at the most, and no longer than the
-/// call may wait. So an answer that can be given again comes at most a second late. Only a fault of the socket itself is told to the node.
+/// A link over another one. Where that one cannot receive, nothing came, and it rests. A rest is as long as it has failed so far, a second at the
+/// most, and no longer than the call may wait. So an answer that can be given again comes at most a second late. Only a fault of the socket itself is
+/// told to the node.
 #[derive(Drop)]
 pub struct Lasting<L, B> {
     link: L,

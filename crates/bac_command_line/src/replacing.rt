@@ -69,6 +69,7 @@ pub(crate) fn rename(rt: &HostRuntime, from: &str, to: &str) -> io::Result<()> {
     fs::rename(rt, from, to)?;
     let folder = fs::open(rt, folder_of(to))?;
     match folder.sync_all() {
+        // this file system cannot sync a folder
         Err(error) if error.kind() == ErrorKind::InvalidInput => Ok(()),
         synced => synced,
     }

@@ -74,7 +74,7 @@ impl System<'_, HostRuntime> {
         now.duration_since(UNIX_EPOCH).ok()
     }
 
-    /// The same in microseconds.
+    /// How long ago 1970 began in UTC, in microseconds; None where the time of day can't be read.
     fn moment(&self) -> Option<u64> {
         u64::try_from(self.since_epoch()?.as_micros()).ok()
     }
@@ -217,7 +217,7 @@ impl<'a> Sockets for System<'a, HostRuntime> {
 }
 
 impl ClientSockets for System<'_, HostRuntime> {
-    /// That of the time of day and the key of this host.
+    /// The pair of a client that begins now, by the time of day and the key of this host.
     fn pair(&self) -> Result<ClientPair, NoPair> {
         let key = self.key()?;
         match self.moment() {
@@ -244,7 +244,7 @@ impl ClientSockets for System<'_, HostRuntime> {
         false
     }
 
-    /// That of a socket that is connected to the link, which sends nothing.
+    /// The address of a socket that is connected to the link, and sends nothing.
     fn source_towards(&self, link: LinkAddress) -> Option<[u8; 4]> {
         let socket = self.connected(link).ok()?;
         match socket.local_addr().ok()? {
@@ -253,7 +253,7 @@ impl ClientSockets for System<'_, HostRuntime> {
         }
     }
 
-    /// That of a socket that is to be connected to the link, and sends nothing.
+    /// The fault of a socket that is to be connected to the link, and sends nothing.
     fn refusal_towards(&self, link: LinkAddress) -> Option<io::Error> {
         match self.connected(link) {
             Ok(_) => None,
@@ -285,7 +285,7 @@ impl Databases for System<'_, HostRuntime> {
         database.make_whole()
     }
 
-    /// That of opening it so.
+    /// The fault of opening it for reading and writing.
     fn refusal_of_database(&self, path: &str) -> Option<io::Error> {
         let opened = OpenOptions::new()
             .read(true)

@@ -40,12 +40,12 @@ pub(crate) enum Task<'m, 'a> {
         serving: Serving,
         objects: Option<&'a str>,
     },
-    /// The same, and between stretches of at most a second it looks at its document, or at standard input.
+    /// A node that serves so, and between stretches of at most a second looks at its document, or at standard input.
     ServeLooking {
         serving: Serving,
         objects: Option<&'a str>,
     },
-    /// The same, and the file at that path keeps its store.
+    /// A node that serves so, and whose store the file at that path keeps.
     ServeKept {
         serving: Serving,
         objects: Option<&'a str>,
@@ -57,7 +57,7 @@ pub(crate) enum Task<'m, 'a> {
         loss: Loss,
         form: ListForm,
     },
-    /// That the file at a path forgets something.
+    /// What the file at a path is to forget.
     Forget(Forgetting<'a>),
     /// The request that some words are.
     Ask {
@@ -71,7 +71,7 @@ pub(crate) enum Task<'m, 'a> {
         default: Option<Peer>,
         path: &'a str,
     },
-    /// That, with whole files of a peer.
+    /// Work with whole files of a peer.
     Files {
         task: FileTask,
         work: FileWork<'m, 'a>,
@@ -113,7 +113,7 @@ fn capture_of<'a>(given: &ArgMatches<'a>, tells_why: bool) -> Option<CaptureFile
 }
 
 impl<'m, 'a> Task<'m, 'a> {
-    /// The same; a client asks from the address of this machine that the node sees, where the machine tells it.
+    /// The task with a client that asks from the address of this machine that the node sees, where the machine tells it.
     pub(crate) fn from_source<M: Machine>(self, machine: &M) -> Task<'m, 'a> {
         match self {
             Task::Ask {

@@ -78,6 +78,7 @@ impl<E: Write> Write for Told<'_, E> {
             return self.err.write(octets);
         }
         if self.has_line {
+            // dropped, as if it were written
             return Ok(octets.len());
         }
         let line = first_line(octets);
@@ -87,6 +88,7 @@ impl<E: Write> Write for Told<'_, E> {
                 Ok(count)
             }
             Err(error) => {
+                // an interrupted write is tried again
                 self.has_line = error.kind() != ErrorKind::Interrupted;
                 Err(error)
             }

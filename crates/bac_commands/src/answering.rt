@@ -45,7 +45,7 @@ fn sends(alloc: Global, store: Store, octets: &[u8]) -> Result<Vec<Datagram>, No
     Ok(outcome.sends)
 }
 
-/// The same of the house store.
+/// What a node with the house store sends for a datagram.
 fn house_sends(alloc: Global, octets: &[u8]) -> Result<Vec<Datagram>, NoMemory>
     ensures { IfOk result (λ v. AreAnswers octets.now v.items) }
 {

@@ -56,7 +56,7 @@ fn dropped_line(alloc: Global, at: u64, link: LinkAddress, why: &str) -> Result<
     Ok(text.into_bytes())
 }
 
-/// So many datagrams or steps.
+/// The line of a count of datagrams or steps, between the texts around it.
 fn count_line(
     alloc: Global,
     at: u64,

@@ -60,11 +60,12 @@ pub(crate) fn node_of(
     match server_node(alloc, slots, None, link, store) {
         Ok(node) => Ok(node),
         Err(NewNodeFault::NoMemory) => Err(NoMemory),
+        // the slots are 1 to 65,536, and the window is right
         Err(NewNodeFault::BadSlots | NewNodeFault::BadWindow) => unreachable!(),
     }
 }
 
-/// The same with 64 slots.
+/// A node of that link with a store, windows of 32 segments, and 64 slots at each end.
 pub(crate) fn node_with(alloc: Global, link: LinkAddress, store: Store) -> Result<Node, NoMemory>
     ensures { IfOk result (λ n. n ≡ node_with link store) }
 {
@@ -85,6 +86,7 @@ pub(crate) fn asking_node(alloc: Global, link: LinkAddress, store: Store) -> Res
     match Node::with_large_tables(alloc, config, store) {
         Ok(node) => Ok(node),
         Err(NewNodeFault::NoMemory) => Err(NoMemory),
+        // both numbers of slots and the window are right
         Err(NewNodeFault::BadSlots | NewNodeFault::BadWindow) => unreachable!(),
     }
 }

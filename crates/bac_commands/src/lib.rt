@@ -1,7 +1,8 @@
 //! What the commands of `bac` do, over any readers, writers, links and clocks: `answer`, `serve`, `ask` and `pair`; and the lines that they print of what came
 //! of it.
 //!
-//! The log of a server: a line for each datagram that came, with what was done, and for what else its turns gave; in words, or as objects of JSON.
+//! The log of a server has a line for each datagram that came, with what was done, and for what else its turns gave. It is in words, or in objects of
+//! JSON.
 #![tactic(auto)]
 
 mod answering;

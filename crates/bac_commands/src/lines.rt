@@ -156,7 +156,7 @@ fn came_text(telling: Telling<'_>, from: LinkAddress, octets: &[u8]) -> io::Resu
     }
 }
 
-/// So many octets from the front, or all where there are no more.
+/// The first `len` octets, or all where there are no more.
 pub(crate) fn front(octets: &[u8], len: usize) -> &[u8]
     ensures { result.now ≡ take len octets.now }
 {

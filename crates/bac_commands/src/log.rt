@@ -37,7 +37,7 @@ impl Tally {
         counts_away(is_turned_away(serves_from, node, turn), self.away)
     }
 
-    /// So many were turned away, and once that is said, if it is.
+    /// The tally where `away` were turned away up to a moment: the same count, or none once it is said at that moment.
     pub(crate) fn told_at(&self, at: u64, away: u64) -> Tally
         ensures { result ≡ told_at at away self.now }
     {

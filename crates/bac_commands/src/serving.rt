@@ -33,8 +33,9 @@ pub struct Logged {
     pub whole: bool,
 }
 
-/// Serves as `serve` of bac_commands does, and logs each turn on `err`: a line for the datagram that came, with what was done, and one for each thing else
-/// that the turn gave. At most once in 1,000 ms it also says how many requests were turned away since the table was full, and when the next slot gets free.
+/// Serves as `serve` of bac_commands does, and logs each turn on `err`. The log has a line for the datagram that came, with what was done, and one
+/// for each thing else that the turn gave. At most once in 1,000 ms it also says how many requests were turned away since the table was full, and
+/// when the next slot gets free.
 ///
 /// Where a line cannot be written, or finds no memory, no further one is, and serving goes on.
 pub fn serve_logged<L: Link, C: Clock, O: Write, E: Write>(

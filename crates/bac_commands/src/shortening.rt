@@ -92,6 +92,7 @@ fn add_front<'t>(
 fn with_short_octets(alloc: Global, format: LogFormat, line: &[u8]) -> Result<Vec<u8>, AllocError> {
     let mut short = Vec::new(alloc);
     let mut rest = line;
+    // each turn takes an octet at least
     for _ in 0..line.len() {
         let after = add_front(alloc, format, rest, &mut short)?;
         let Some((octet, more)) = after.split_first() else {
@@ -110,6 +111,7 @@ fn shown_of(line: &[u8]) -> usize
     let most = MOST_OF_LINE.min(line.len());
     for count in (0..most).rev() {
         match line.get(count) {
+            // in the midst of a character
             Some(0x80..=0xBF) => {}
             _ => return count,
         }

@@ -85,7 +85,7 @@ fn full_line(
     event_text(alloc, format, at, LogEvent::TableFull { count: away, wait })
 }
 
-/// The same, if it is said.
+/// The line that says how many were turned away, and in how many milliseconds a slot gets free; empty where it is not said now.
 pub(crate) fn full_text(
     alloc: Global,
     format: LogFormat,

@@ -1,4 +1,4 @@
-//! The two steps of a turn: the node takes the datagram that has come, and ticks. `BoundNode::act` calls both; all here is private to the crate.
+//! The two steps of a turn: the node takes the datagram that has come, and ticks. `BoundNode::take` calls both; all here is private to the crate.
 ghost use Rattle.std.specs.Prelude.{◌≤◌, length, IfSome};
 ghost use Rattle.std.specs.Option.{option_map};
 ghost use Rattle.bac_node.specs.Memory.{IsWithin};
@@ -29,7 +29,9 @@ pub(crate) fn on_received(
     let from = datagram.0;
     match node.hear(rules, now, from, &buffer[..datagram.1]) {
         Ok(outcome) => Some(outcome),
+        // as if the network had lost it: the peer sends it again
         Err(NodeFault::NoMemory) => None,
+        // `receive` has refused a moment before the node's latest one
         Err(NodeFault::ClockBack) => unreachable!(),
     }
 }
@@ -41,6 +43,7 @@ pub(crate) fn on_due(node: &mut Node, now: u64) -> Option<Outcome>
 {
     match node.tick(now) {
         Ok(outcome) => Some(outcome),
+        // the next turn ticks again
         Err(NodeFault::NoMemory) => None,
         Err(NodeFault::ClockBack) => unreachable!(),
     }

@@ -1,4 +1,5 @@
-//! What a command line runs on: the files that it names, the links and clocks of a machine, and the words that it was given; and why one of them is bad.
+//! What a command line runs on: the files that it names, the links and clocks of a machine, and the words that it was given. Beside them is why one
+//! of these is bad.
 #![tactic(auto)]
 
 mod digits;

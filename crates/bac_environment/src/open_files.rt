@@ -25,7 +25,7 @@ pub trait OpenFiles {
         Err(io::Error::from(io::ErrorKind::Unsupported))
     }
 
-    /// The same as [`OpenFiles::write`], but the octets may also go into a pipe or a terminal.
+    /// Writes octets to a file as [`OpenFiles::write`] does; they may also go into a pipe or a terminal.
     fn write_out(&self, path: &str, octets: &[u8]) -> io::Result<()> {
         self.write(path, octets)
     }

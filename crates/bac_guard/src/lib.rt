@@ -1,4 +1,5 @@
-//! Which sources a node hears, and how much it sends to one address.
+//! Which sources a node hears, and how much it sends to one address. Programs make a [`Guard`] of their settings, and put the [`Guarded`] link that
+//! it gives over the link of a node.
 #![tactic(auto)]
 
 mod address;

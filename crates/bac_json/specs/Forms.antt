@@ -4,7 +4,7 @@ use Rattle.std.specs.Str.{is_utf8}
 use Rattle.hex.specs.Hex.{encode_upper}
 use Rattle.bac_value.specs.Value.{ObjectId}
 use Rattle.bac_value_text.specs.Texts as texts
-use Rattle.serde_json.specs.Data.{Data, Members, null, number, string, unsigned}
+use Rattle.serde_json.specs.Data.{Data, null, number, string, unsigned}
 use Rattle.serde_json.specs.Read.{read}
 
 -- octets that are UTF-8

@@ -1,5 +1,5 @@
 -- Values as JSON: each with its kind.
-use Rattle.std.specs.Prelude.{◌≡◌, ◌⊎◌, ◌==◌, ℕ, List, [], ◌∷◌, ◌++◌, codes, if◌then◌else◌, Option, Some, None}
+use Rattle.std.specs.Prelude.{◌≡◌, ◌⊎◌, ◌==◌, ℕ, List, [], ◌++◌, codes, if◌then◌else◌, Option, Some, None}
 use Rattle.bac_value.specs.declared.tag.Form.{Form}
 use Rattle.bac_value.specs.declared.tag.Form.TheVariants.{Length, Boolean, Opening, Closing}
 use Rattle.bac_value.specs.Element.{Part, part_spelling, SpellsElement}
@@ -8,7 +8,7 @@ use Rattle.bac_value.specs.Value as plain
 use Rattle.bac_value.specs.Value.{Datum}
 use Rattle.bac_value_text.specs.Numbers.{parts_at}
 use Rattle.bac_value_text.specs.Texts.{IsTextOf}
-use Rattle.serde_json.specs.Data.{Data, Items, Members, no_items, item, no_members, member, null, boolean, number, object, string, unsigned}
+use Rattle.serde_json.specs.Data.{Data, Items, no_items, item, no_members, member, null, boolean, number, object, string, unsigned}
 use Rattle.serde_json.specs.Find.{get, of_integer}
 use Rattle.bac_json.specs.Forms.{number_form, octets_form, text_form, utf8_of}
 

@@ -210,8 +210,8 @@ impl<W: Write> FileReport<W> for FileCheck {
     }
 }
 
-/// Checks a capture as `check_capture_over` of bac_capture does: prints an object for each bad frame of a file, or each bad line of another input, and at the end
-/// one with the counts.
+/// Checks a capture as `check_capture_over` of bac_capture does. Prints an object for each bad frame of a file, or each bad line of another input,
+/// and at the end one with the counts.
 ///
 /// The statuses and the messages on `err` are those of `check_capture_over`; of an input that fails within its first four octets no line is checked. Memory
 /// does not grow with the input.

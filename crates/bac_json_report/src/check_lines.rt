@@ -138,7 +138,7 @@ impl<W: Write> LineReport<W> for LineCheck {
     }
 }
 
-/// Checks each line of a capture as `check_lines_over` of bac_text does: prints an object for each bad line, and at the end one with the counts.
+/// Checks each line of a capture as `check_lines_over` of bac_text does. Prints an object for each bad line, and at the end one with the counts.
 ///
 /// Notes, the statuses and the messages on `err` are those of `check_lines_over`. Memory does not grow with the input.
 pub fn check_json_lines_over<R: BufRead, O: Write, E: Write>(

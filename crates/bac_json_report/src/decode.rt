@@ -130,8 +130,8 @@ impl<W: Write> LineReport<W> for Decoding {
     }
 }
 
-/// Prints the datagrams of an input, one on each line, as `decode_json_over` does each; of a line that is not hexadecimal, or has more than 132,000 octets, the
-/// fault `bad hex`.
+/// Prints the datagrams of an input, one on each line, as `decode_json_over` does each. A line that is not hexadecimal, or has more than 132,000
+/// octets, has the fault `bad hex`.
 ///
 /// Notes, the statuses and the messages on `err` are those of `decode_lines_over` of bac_text. Memory does not grow with the input.
 pub fn decode_json_lines_over<R: BufRead, O: Write, E: Write>(

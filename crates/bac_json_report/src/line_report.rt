@@ -66,6 +66,7 @@ fn visit_lines<R: BufRead, W: Write, V: LineReport<W>>(
             return Ok(());
         }
     }
+    // no report can count 2^64 lines
     Err(CheckError::Input(io::Error::from(ErrorKind::FileTooLarge)))
 }
 

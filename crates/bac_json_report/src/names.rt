@@ -66,8 +66,8 @@ fn function_name(datagram: &[u8]) -> Option<&'static str>
     }
 }
 
-/// The name of the service of the APDU in a datagram, or of its message of the network layer, as far as it can be read; of another BVLL that of its function. None
-/// where the standard has none.
+/// The name of the service of the APDU in a datagram, or of its message of the network layer, as far as it can be read. Of another BVLL it is that of
+/// its function. None where the standard has none.
 pub(crate) fn name_of(datagram: &[u8]) -> Option<&'static str>
     ensures { option_map (λ s. s.now) result ≡ name_at datagram.now }
 {

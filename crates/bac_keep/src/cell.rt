@@ -32,6 +32,7 @@ fn numbered(object: ObjectIdentifier, number: u32) -> u64
     ensures is { result ≡ value_place_in (object_identifier_view object) number }
     ensures short { result < 2 ^ 54 }
 {
+    // 10 bits of type, 22 of instance and 22 of the number
     (u64::from(object.kind) * INSTANCES + u64::from(object.instance)) * NUMBERS + u64::from(number)
 }
 

@@ -79,6 +79,7 @@ pub fn open(rt: &HostRuntime, path: &str, loss: Loss) -> Result<(KeptFile, bool)
     ensures empty { IfOk result (λ r. r.1 ≡ true → IsClean (view r.0) → HasEmptyTable (view r.0)) }
 {
     let options = options(rt)?;
+    // before the open, which may make both files
     let traces = Traces::at(rt, path);
     let files = match sqlite_std_file::open(rt, path, Unknown) {
         Ok(files) => files,

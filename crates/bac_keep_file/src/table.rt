@@ -14,8 +14,8 @@ use sqlite_schema::schema::Table;
 use sqlite_trees::store::Store;
 use std::alloc::Global;
 
-/// The statement that makes the table of a new file. The octets of a cell are those at its place; the other columns are for people:
-/// the object's type and instance, and the number of the property or of the part of the file.
+/// The statement that makes the table of a new file. The octets of a cell are those at its place. The other columns are for people: the object's type
+/// and instance, and the number of the property or of the part of the file.
 const TABLE: &str =
     "CREATE TABLE cell (place INTEGER PRIMARY KEY, octets BLOB NOT NULL, object_type INTEGER, instance INTEGER, number INTEGER) STRICT";
 
@@ -74,6 +74,7 @@ fn mark<S: Alter>(database: &mut S) -> Result<(), OpenFault>
     ensures { doubt (S.Store.view database.old).is_clean ≤ doubt (S.Store.view database.new).is_clean }
 {
     let done = match database.set_version(MARK) {
+        // the commit gives the log its header
         Ok(()) => database.commit(),
         Err(error) => Err(error),
     };

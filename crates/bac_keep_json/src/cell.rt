@@ -40,6 +40,7 @@ struct CellMembers {
     values: Json,
 }
 
+/// What is kept of an object, its members in alphabetical order.
 fn cell_object(
     alloc: Global,
     object: ObjectIdentifier,
@@ -64,6 +65,7 @@ struct KeptValues {
     values: Json,
 }
 
+/// Values as an array; octets that are no data as they are, in hexadecimal.
 fn kept_values(alloc: Global, octets: &[u8]) -> Result<KeptValues, NoMemory>
     ensures { IfOk result (λ k. AreKeptValues octets.now (view k.octets) (view k.values)) }
 {

@@ -130,6 +130,7 @@ struct EventMembers {
     datagram: DatagramMembers,
 }
 
+/// A line that says nothing yet.
 fn nulls() -> EventMembers
     ensures { members_view result ≡ nulls }
 {

@@ -45,13 +45,13 @@ pub enum LogEvent<'a> {
         link: LinkAddress,
         why: &'a str,
     },
-    /// So many datagrams were sent again since it was time.
+    /// How many datagrams were sent again since it was time.
     SentAgain(u64),
-    /// So many datagrams could not be sent.
+    /// How many datagrams could not be sent.
     NotSent(u64),
-    /// So many steps were not done for want of memory.
+    /// How many steps were not done for want of memory.
     NotDone(u64),
-    /// So many requests were turned away since the table was full, and in so many milliseconds a slot gets free.
+    /// How many requests were turned away since the table was full, and in how many milliseconds a slot gets free.
     TableFull {
         count: u64,
         wait: u64,
@@ -91,6 +91,7 @@ struct EventMembers {
     what: Json,
 }
 
+/// An event that says nothing yet.
 fn nulls() -> EventMembers
     ensures { members_view result ≡ nulls }
 {

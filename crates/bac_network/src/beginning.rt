@@ -90,7 +90,8 @@ impl Network {
         self.make_replacement(node, first_id, given, kept)
     }
 
-    /// The same with that store, and the copy of it enters the log, which has room for it.
+    /// Another program begins at the node's link with that store, or with the one that was there. The copy of the store enters the log, which has
+    /// room for it.
     fn make_replacement(
         &mut self,
         node: usize,

@@ -16,9 +16,9 @@ use bac_value::NoMemory;
 use std::alloc::Global;
 
 impl World {
-    /// A world as of `new`, in which each node has a clock of its own. Each clock begins at its start, in milliseconds, and at first goes on by real time;
-    /// by `set_pace` it may be fast or slow by at most `pace.drift` parts in a million. A copy that is older than `pace.life` milliseconds of real time is
-    /// lost. A node that restarts begins with a clock at 0. Moments of this world are counted in millionths of a millisecond.
+    /// A world as of `new`, in which each node has a clock of its own. Each clock begins at its start, in milliseconds, and at first goes on by real
+    /// time. By `set_pace` it may be fast or slow by at most `pace.drift` parts in a million. A copy that is older than `pace.life` milliseconds of
+    /// real time is lost. A node that restarts begins with a clock at 0. Moments of this world are counted in millionths of a millisecond.
     ///
     /// It is refused for the first of these that holds: `BadPace`, exactly where the times of the protocol don't suffice for clocks of that pace and copies
     /// that live so long; `BadStarts`, there is not one start for each node; `NotMade`, for which `new` would refuse it.
@@ -76,9 +76,9 @@ impl World {
         })
     }
 
-    /// From now on a node's clock goes on by so many parts while a million parts of real time pass: it is fast or slow by no more than the drift of the
-    /// world's clocks. No time passes. In a world of `new`, where all nodes have one clock, the drift is 0: a rate of 1,000,000 is taken and changes nothing.
-    /// Errors: `NoSuchNode`; `BadPace`, exactly where it would be faster or slower. After an error nothing has changed.
+    /// From now on a node's clock goes on by so many parts while a million parts of real time pass. It is then fast or slow by no more than the drift
+    /// of the world's clocks. No time passes. In a world of `new`, where all nodes have one clock, the drift is 0: a rate of 1,000,000 is taken and
+    /// changes nothing. Errors: `NoSuchNode`; `BadPace`, exactly where it would be faster or slower. After an error nothing has changed.
     pub fn set_pace(&mut self, node: usize, rate: u32) -> Result<(), PaceFault>
         ensures same { as_world self.new ≡ as_world self.old }
         ensures paced { OnOk result (self.new.time ≡ record (self.old.time) { own = paced node rate self.old.time.own }) }
@@ -93,6 +93,7 @@ impl World {
         }
         let drift = u64::from(self.network.journal.drift());
         let rate_of = u64::from(rate);
+        // no rate below 1,000,000 - drift, written without a difference
         if rate_of + drift < 1_000_000 || rate_of > 1_000_000 + drift {
             return Err(PaceFault::BadPace);
         }

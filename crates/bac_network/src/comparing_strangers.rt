@@ -9,6 +9,7 @@ use crate::same_ending;
 use bac_npdu::Peer;
 use bac_service::{same_reply, same_request};
 
+/// Whether both are one peer.
 fn is_same_peer(one: &Peer, other: &Peer) -> bool
     ensures { IsTrue result ↔ (peer_view one.now ≡ peer_view other.now) }
 {

@@ -11,8 +11,8 @@ use crate::logging::{log_endings, log_performed};
 use bac_journal::Journal;
 use bac_node::{Node, Outcome};
 
-/// What comes of a node's call, after which it is that one, enters: what it sends becomes copies, and what has ended and what was performed comes into the log, for all of which there is
-/// room. It takes no memory.
+/// What comes of a node's call enters; `after` is the node after it. What it sends becomes copies, and what has ended and what was performed comes
+/// into the log. There is room for all of it. It takes no memory.
 pub(crate) fn enter(
     after: &Node,
     journal: &mut Journal,

@@ -60,7 +60,7 @@ pub enum Event {
     },
     /// Time passes: each node's clock goes on, as fast as it is.
     Advance {
-        /// So many milliseconds of real time.
+        /// How many milliseconds of real time pass.
         by: u64,
     },
     /// A node changes its own store, by no request, as where a sensor moves.
@@ -83,9 +83,9 @@ pub enum Event {
         /// The node.
         node: usize,
     },
-    /// Another program begins at a node's link, once all is over that the one before sent: 135,001 ms after its last ask, and 75,001 ms after a restart, where
-    /// all nodes have one clock. Its client may ask at once, with tickets from 0 on; its server turns requests away for `KEEP`, as after a restart. Its clock
-    /// begins at 0, where it has its own.
+    /// Another program begins at a node's link, once all is over that the one before sent. Where all nodes have one clock, that is 135,001 ms after
+    /// its last ask, and 75,001 ms after a restart. Its client may ask at once, with tickets from 0 on; its server turns requests away for `KEEP`, as
+    /// after a restart. Its clock begins at 0, where it has its own.
     BeginAgain {
         /// The node.
         node: usize,

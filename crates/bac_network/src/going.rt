@@ -40,6 +40,7 @@ pub(crate) fn hear(
     match node.on(now, from, octets) {
         Ok(outcome) => Ok(outcome),
         Err(NodeFault::NoMemory) => Err(NoMemory),
+        // the moment is not before the node's latest one
         Err(NodeFault::ClockBack) => unreachable!(),
     }
 }
@@ -69,6 +70,7 @@ pub(crate) fn due(node: &Node, now: u64) -> Result<Outcome, NoMemory>
     match node.prepare_tick(now) {
         Ok(outcome) => Ok(outcome),
         Err(NodeFault::NoMemory) => Err(NoMemory),
+        // the moment is not before the node's latest one
         Err(NodeFault::ClockBack) => unreachable!(),
     }
 }
@@ -114,6 +116,7 @@ pub(crate) fn change_node(nodes: &mut [Node], i: usize, change: &Change) -> Resu
     match node.change(change) {
         Ok(()) => Ok(()),
         Err(ChangeFault::NoMemory) => Err(NoMemory),
+        // the change has no other fault
         Err(_) => unreachable!(),
     }
 }

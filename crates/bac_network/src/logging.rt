@@ -37,6 +37,7 @@ fn log_ending(log: &mut Vec<Fact>, journal: &Journal, node: usize, finish: Ended
     ensures room { vec_capacity log.new ≡ vec_capacity log.old }
 {
     let Ended { ticket, ending } = finish;
+    // each ask that was accepted is noted
     let Some(number) = journal.ask_of(node, ticket) else {
         unreachable!()
     };
@@ -70,6 +71,7 @@ fn performed_fact(journal: &Journal, client: usize, node: usize, act: Act) -> Fa
         server: node,
         invoke_id: key.invoke_id,
     };
+    // what a node performs for another one was asked, and so noted
     let Some(number) = journal.newest(&transaction) else {
         unreachable!()
     };
@@ -88,6 +90,7 @@ fn served_fact(after: &Node, node: usize, act: Act) -> Fact
 {
     let Act { key, effect } = act;
     let Effect { request, reply } = effect;
+    // no node of a world uses invoke IDs again, so each performance has its entry
     let Some(begin) = after.entry_begin(&key) else {
         unreachable!()
     };

@@ -136,6 +136,7 @@ fn limit(overtake: u64, window: u8) -> Option<u8>
     if overtake > room {
         return None;
     }
+    // at most 255, so no bit is lost
     Some(overtake as u8)
 }
 
@@ -147,6 +148,7 @@ fn node_made(alloc: Global, config: Config, store: Store) -> Result<Node, NoMemo
     match Node::with_large_tables(alloc, config, store) {
         Ok(node) => Ok(node),
         Err(NewNodeFault::NoMemory) => Err(NoMemory),
+        // `checked` has refused such slots and windows
         Err(NewNodeFault::BadSlots) => unreachable!(),
         Err(NewNodeFault::BadWindow) => unreachable!(),
     }

@@ -47,6 +47,7 @@ impl Network {
         ensures links { self.new.journal.links ≡ self.old.journal.links }
         ensures stays { instant self.new.journal ≡ instant self.old.journal }
     {
+        // a datagram that is dropped takes no memory
         let Ok(_outcome) = hear(&mut self.nodes, node, self.journal.told(node), from, octets) else {
             unreachable!()
         };

@@ -223,7 +223,9 @@ pub fn straight(
     ensures strangers { HasStrangersOfNoneNow world.new }
     ensures requests_alone { HasRequestsAloneNow world.old → IsOnceByRequestsAloneNow world.new }
 {
+    // the laws of every world, here and where the run ends
     world.is_once();
+    // by the laws of both nodes the ask can be answered
     is_well_made(world, client);
     is_well_made(world, server);
     let Some(limits) = limits_of_server(world, server) else {

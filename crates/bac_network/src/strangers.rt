@@ -58,7 +58,8 @@ impl Network {
         self.hear_with_room(window, node, from, octets)
     }
 
-    /// The same, where there is room: a node sends at most a window and one more datagram of it, and at most one ticket ends and one request is performed.
+    /// A node hears octets from a link of no node, where there is room for what comes of them. It sends at most a window and one more datagram; at
+    /// most one ticket ends, and one request is performed.
     fn hear_with_room(
         &mut self,
         window: u8,

@@ -26,13 +26,13 @@ use bac_store::Store;
 use std::alloc::Global;
 use std::marker::Model;
 
-/// Nodes in one simulated network, with one clock or clocks of their own, the copies of the datagrams that they sent, and a log of what was asked, performed
-/// and answered.
+/// Nodes in one simulated network, with one clock or clocks of their own. Beside them are the copies of the datagrams that they sent, and a log of
+/// what was asked, performed and answered.
 ///
-/// Whatever events happen, every accepted ask takes effect at most once, and exactly once where a service answer reached its client; the request performed and
-/// the answer are its own, whole; and each store is that of its node's last start, after what was performed and changed there since, in the log's order. A
-/// restart keeps the store, or the log has the new one. Strangers, peers at links of no node, may send any octets and be asked; the log has what they had
-/// performed.
+/// Whatever events happen, every accepted ask takes effect at most once, and exactly once where a service answer reached its client. The request
+/// performed and the answer are its own, whole. Each store is that of its node's last start, after what was performed and changed there since, in the
+/// log's order. A restart keeps the store, or the log has the new one. Strangers, peers at links of no node, may send any octets and be asked; the
+/// log has what they had performed.
 #[derive(Drop)]
 pub struct World {
     pub(crate) alloc: Global,
@@ -127,13 +127,14 @@ impl World {
         self.network.journal.notes()
     }
 
-    /// A law of every world; the call does nothing. A run of a fresh world with the opening stores led to this one (`history`), and its log is right with the
-    /// stores (`once`): every accepted ask was performed at most once, as it was asked, with the reply of its server's store as it then was (`performed`); it
-    /// ended at most once, and was answered with that reply alone (`ended`); each change that a node made in its own store had no fault for it as it then was
-    /// (`permitted`); and performed requests, changes and restarts alone changed the stores (`stores`). Where no node changed its own store or restarted,
-    /// performed requests alone did (`requests_alone`). Where there is nothing of strangers, all of this holds of nodes alone (`among_nodes`). What a node
-    /// performed for one stranger under one invoke ID, between two of its restarts, is of entries that began more than 65,000 ms apart, by the node's clock
-    /// (`apart`). Each peer that the log has as a stranger is at a link of no node (`strangers`).
+    /// A law of every world; the call does nothing. A run of a fresh world with the opening stores led to this one (`history`), and its log is right
+    /// with the stores (`once`). Every accepted ask was performed at most once, as it was asked, with the reply of its server's store as it then was
+    /// (`performed`). It ended at most once, and was answered with that reply alone (`ended`). Each change that a node made in its own store had no
+    /// fault for it as it then was (`permitted`). Performed requests, changes and restarts alone changed the stores (`stores`). Where no node changed
+    /// its own store or restarted, performed requests alone did (`requests_alone`). Where there is nothing of strangers, all of this holds of nodes
+    /// alone (`among_nodes`). What a node performed for one stranger under one invoke ID, between two of its restarts, is of several entries. They
+    /// began more than 65,000 ms apart, by the node's clock (`apart`). Each peer that the log has as a stranger is at a link of no node
+    /// (`strangers`).
     pub fn is_once(&self)
         ensures history { HasHistory self.now }
         ensures once { IsOnceNow self.now }
@@ -146,15 +147,20 @@ impl World {
         ensures apart { AreServedApartNow self.now }
         ensures strangers { HasStrangersOfNoneNow self.now }
     {
+        // all of it follows from the invariant of the fields
         let _network = &self.network;
     }
 
     /// Makes an event happen. Returns the fault of an ask that was refused, which changes nothing, and otherwise None.
     ///
-    /// Errors: `NoSuchNode` exactly where the world has no node that the event names, `NoSuchDatagram` exactly where it has no copy of that number, `ClockEnd`
-    /// exactly where the moment would pass 64 bits, `BadChange` exactly where a change of a node's own store has that fault, `NodeLink` exactly where the node of
-    /// a stranger's event is there and the stranger's link is a node's, `TooSoon` exactly where a node is there and may not begin now, and after these `NoMemory` where an allocation fails: never for noise, for a copy that is
-    /// not deliverable, or for the clock. After an error the world is as before.
+    /// The errors, after each of which the world is as before:
+    /// - `NoSuchNode` exactly where the world has no node that the event names;
+    /// - `NoSuchDatagram` exactly where it has no copy of that number;
+    /// - `ClockEnd` exactly where the moment would pass 64 bits;
+    /// - `BadChange` exactly where a change of a node's own store has that fault;
+    /// - `NodeLink` exactly where the node of a stranger's event is there and the stranger's link is a node's;
+    /// - `TooSoon` exactly where a node is there and may not begin now;
+    /// - after these `NoMemory` where an allocation fails: never for noise, for a copy that is not deliverable, or for the clock.
     pub fn step(&mut self, event: &Event) -> Result<Option<AskFault>, WorldFault>
         ensures went { OnOk result (WorldStep self.old.overtake (as_world self.old) (event_view self.old.time event.now) (as_world self.new)) }
         ensures told { IfOk result (λ told. Tells told (as_world self.old) (event_view self.old.time event.now) (as_world self.new)) }
@@ -183,11 +189,12 @@ impl World {
 
     /// Makes events happen in their order, up to the first that fails, whose place and fault it returns; the events before it have happened.
     ///
-    /// For every list of asks, deliveries, losses, repeats, reorderings, noise, ticks and clock steps (`requests_alone`), every accepted ask takes effect at
-    /// most once, and exactly once where a service answer reached its client; the request performed and the answer are its own, whole; and each server's store
-    /// is its opening store after the performed requests in their order. With changes and restarts of nodes too, the log is right with the stores (`once`).
-    /// Strangers may send any octets and be asked in all of these: what they had performed is in the log, in its place, and counts as performed. The
-    /// log has no peer at a node's link as a stranger (`strangers`). The time is what the events that happened made of it (`passed`).
+    /// For every list of asks, deliveries, losses, repeats, reorderings, noise, ticks and clock steps (`requests_alone`), every accepted ask takes
+    /// effect at most once. It takes effect exactly once where a service answer reached its client. The request performed and the answer are its own,
+    /// whole. Each server's store is its opening store after the performed requests in their order. With changes and restarts of nodes too, the log
+    /// is right with the stores (`once`). Strangers may send any octets and be asked in all of these: what they had performed is in the log, in its
+    /// place, and counts as performed. The log has no peer at a node's link as a stranger (`strangers`). The time is what the events that happened
+    /// made of it (`passed`).
     pub fn run(&mut self, events: &[Event]) -> Result<(), RunFault>
         ensures went { OnOk result (WorldRun self.old.overtake (as_world self.old) (events_view self.old.time events.now) (as_world self.new)) }
         ensures stopped { IfErr result (λ f. StopsAt f self.old (events_view self.old.time events.now) self.new) }
@@ -211,8 +218,8 @@ impl World {
         Ok(())
     }
 
-    /// Whether two worlds are the same: the limit of overtaking, the opening stores, the nodes with their stores and clocks, the moment, the log, the copies,
-    /// and the notes of asks. It takes no memory.
+    /// Whether two worlds are the same. That is so if they have the same limit of overtaking, opening stores, nodes with their stores and clocks,
+    /// moment, log, copies and notes of asks. It takes no memory.
     pub fn same(&self, other: &World) -> bool
         ensures { IsTrue result ↔ (self.now ≡ other.now) }
     {

@@ -1,6 +1,6 @@
 //! What a datagram means to a node: an APDU of a peer, or why it is dropped.
 //!
-//! `Node::on` calls [`read_from`], and `Node::dispatch` calls [`is_from_client`]. All here is private to the crate.
+//! `Node::hear` calls [`read_from`], and `Node::dispatch` calls [`is_from_client`]. All here is private to the crate.
 ghost use Rattle.std.specs.Prelude.{◌≡◌, ◌≢◌, IfOk, IfErr};
 ghost use Rattle.bac_apdu.specs.Spelling.{SpellsApdu};
 ghost use Rattle.bac_apdu.specs.Views.{apdu_view};
@@ -60,6 +60,7 @@ pub(crate) fn read_from<'a>(
     let Ok(apdu) = bac_apdu::read(apdu) else {
         return Err(Cause::Apdu);
     };
+    // tested last, in the order of `Cause`
     if from == link {
         return Err(Cause::OwnLink);
     }

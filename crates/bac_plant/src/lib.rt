@@ -49,13 +49,13 @@ pub use power::power_cuts_are_restarts;
 pub use replies::answers_are_replies;
 pub use strangers::strangers_writes_act_once;
 
-/// The turns that stations take, also those of a round, whose sends are held, their asks, changes and restarts are events of a world: a run of a plant is the
-/// run of its world through the events of its steps, in which the nodes let clients use invoke IDs again whose stations do; no step changes a setting, how reads
-/// are served, or how long requests are remembered (a restart may change how much memory they take). Each station that takes a turn remembers requests for
-/// 65,000 ms or longer: turns of one that forgets sooner are no steps.
-/// After a run of a fresh plant the log, which has all that turns returned as performed and ended, is right with the stores.
-/// Where no station lets invoke IDs be used again, no read is performed twice either; and whatever strangers send, what a station performs for one of them
-/// under one invoke ID, between two of its restarts, it performs in entries that began more than 65,000 ms apart.
+/// The turns that stations take are events of a world, and so are the turns of a round, whose sends are held, and their asks, changes and restarts. A
+/// run of a plant is the run of its world through the events of its steps. In that world the nodes let clients use invoke IDs again whose stations
+/// do. No step changes a setting, how reads are served, or how long requests are remembered (a restart may change how much memory they take). Each
+/// station that takes a turn remembers requests for 65,000 ms or longer: turns of one that forgets sooner are no steps. After a run of a fresh plant
+/// the log, which has all that turns returned as performed and ended, is right with the stores. Where no station lets invoke IDs be used again, no
+/// read is performed twice either. Requests of one stranger under one invoke ID, between two restarts of a station, are performed there in entries
+/// that began more than 65,000 ms apart. That holds whatever strangers send.
 #[tactic(auto, using(crate::proofs::Settings::run_settings, crate::proofs::Settings::run_stays, crate::proofs::Runs::run_events, crate::proofs::Runs::run_events_ever))]
 pub fn turns_are_events()
     ensures settings { (overtake : ℕ) (steps : List Step) (old new : Plant) → PlantRun overtake steps old new → (station : ℕ)
@@ -76,9 +76,10 @@ pub fn turns_are_events()
         → (steps : List Step) → PlantRun overtake steps old new → HasNoReuse old → AreServedApart (world_of new) }
 {}
 
-/// After each run of a fresh plant, whichever stations let invoke IDs be used again, whatever a call promises of a station, at the moment of its clock and by a
-/// datagram that the network may hand over, is a step of the plant: there are the asks, transactions and strangers of all that it returned. A turn, also one
-/// whose sends are held, is a step where its station remembers each request for 65,000 ms or longer. So no turn of such a station is left out of the law above.
+/// Whatever a call promises of a station, at the moment of its clock and by a datagram that the network may hand over, is a step of the plant. That
+/// holds after each run of a fresh plant, whichever stations let invoke IDs be used again. There are the asks, transactions and strangers of all that
+/// the call returned. A turn, also one whose sends are held, is a step where its station remembers each request for 65,000 ms or longer. So no turn
+/// of such a station is left out of the law above.
 #[tactic(auto, using(crate::proofs::Next::changes_go_on, crate::proofs::Next::restarts_go_on, crate::proofs::Next::starts_go_on, crate::proofs::Next::starts_again_go_on))]
 pub fn calls_go_on()
     ensures turns { (W overtake : ℕ) (p : Plant) → IsReached W overtake p → TurnsGoOn overtake p }
@@ -93,9 +94,9 @@ pub fn calls_go_on()
     ensures starts_again { (overtake : ℕ) (p : Plant) → StartsAgainGoOn overtake p }
 {}
 
-/// Calls that stations make one after another are a run, in any order of stations, with time passing, restarts and starts between them: if each call keeps its
-/// contract in the plant that the calls before it led to, and the network may hand over what came, they continue a run of a fresh plant. So whatever holds of all
-/// runs of a plant holds of whole programs.
+/// Calls that stations make one after another are a run, in any order of stations, with time passing, restarts and starts between them. They continue
+/// a run of a fresh plant on two conditions. Each call keeps its contract in the plant that the calls before it led to, and the network may hand over
+/// what came. So whatever holds of all runs of a plant holds of whole programs.
 pub fn calls_compose()
     ensures { (W overtake : ℕ) (first : Plant) → IsFresh (world_of first) → IsTimely first.time.pace → IsBounded W overtake (world_of first)
         → (so_far : List Step) (p : Plant) → PlantRun overtake so_far first p → (later : List Step) → AreCalled overtake later p
@@ -109,9 +110,9 @@ pub fn pauses_make_quiet()
         → AsksNone station steps → p.time.now + pause p.time.pace ≤ new.time.now → is_quiet (world_of new) station ≡ true }
 {}
 
-/// What `serve`, `ask` and `pair` promise is a chain of turns of each station, for `ask` after its ask; for `serve` and `ask` also where a fault stops them.
-/// The turns of a station that does nothing else in a run of a plant are such a chain too, whatever other stations do between them; and by the law above
-/// each turn of a chain is a step, where that station remembers each request for 65,000 ms or longer.
+/// What `serve`, `ask` and `pair` promise is a chain of turns of each station, for `ask` after its ask; for `serve` and `ask` also where a fault
+/// stops them. The turns of a station that does nothing else in a run of a plant are such a chain too, whatever other stations do between them. By
+/// the law above each turn of a chain is a step, where that station remembers each request for 65,000 ms or longer.
 #[tactic(auto, using(crate::proofs::Chained::first_chain, crate::proofs::Chained::second_chain, crate::proofs::Chained::steps_chain))]
 pub fn chains_are_steps()
     ensures served { (p : WaitLimit) (turns effects : ℕ) (old new : Timed) → Serves p turns effects old new
@@ -131,11 +132,11 @@ pub fn chains_are_steps()
         → Chain (turns_of station steps) before after }
 {}
 
-/// What `round_before` and `serve_kept` promise of a station is a chain of rounds: turns whose sends are held, one after the other, and then all that they
-/// hold is sent. By `calls_go_on` each of these is a step, where the station remembers each request for 65,000 ms or longer.
-/// Where serving stops for a fault, so are the rounds before; and a round that fails is such turns too, after which its link may have failed to receive, as a
-/// step does. The turns that a station holds in a run of a plant, also in a round that a power cut takes back, where it does nothing else, are such a chain
-/// too, whatever other stations do between them; and with the sends of all that they hold they are a round.
+/// What `round_before` and `serve_kept` promise of a station is a chain of rounds. A round is turns whose sends are held, one after the other, and
+/// then all that they hold is sent. By `calls_go_on` each of these is a step, where the station remembers each request for 65,000 ms or longer. Where
+/// serving stops for a fault, so are the rounds before. A round that fails is such turns too, after which its link may have failed to receive, as a
+/// step does. If a station does nothing else in a run of a plant, the turns that it holds are such a chain too, whatever other stations do between
+/// them. That includes a round that a power cut takes back. With the sends of all that they hold they are a round.
 #[tactic(auto, using(crate::proofs::Holding::held_chain))]
 pub fn rounds_are_events<W, O: Observer<W>, K: Keeper>()
     ensures round { (p : WaitLimit) (old : Observed O.State) (effects : ℕ) (new : Observed O.State) → kept_rounds.TakesRound O.Sees p old effects new
@@ -157,10 +158,11 @@ pub fn rounds_are_events<W, O: Observer<W>, K: Keeper>()
         → RoundInChain before (performed_in (kept_rounds.in_order (held_of station steps))) after }
 {}
 
-/// A plant whose stations' power is cut at any moment, also in the midst of a round, and which start again with the store that their keepers find, is a plant
-/// whose stations restart with the stores that they have: rounds that a cut takes back are nothing there, and in them a station stands as before. Its events
-/// are those of a world in which the power of nodes is cut. So after a run of a fresh one the log is right with the stores. Where no station lets invoke IDs be
-/// used again, changes its own store, or restarts with another one, the stores are what the performed requests make of the opening ones.
+/// A plant whose stations' power is cut at any moment, also in the midst of a round, is a plant whose stations restart with the stores that they
+/// have. After a cut a station starts again with the store that its keeper finds. Rounds that a cut takes back are nothing there, and in them a
+/// station stands as before. Its events are those of a world in which the power of nodes is cut. So after a run of a fresh one the log is right with
+/// the stores. Where no station lets invoke IDs be used again, changes its own store, or restarts with another one, each store is what performed
+/// requests make of its opening one.
 #[tactic(auto, using(crate::proofs::Cut::cut_steps, crate::proofs::CutEvents::cut_events, crate::proofs::CutEvents::cut_events_ever, crate::proofs::Holding::lost_stays))]
 pub fn cut_rounds_are_restarts()
     ensures steps { (overtake : ℕ) (steps : List CutStep) (old new : CutPlant) → CutPlantRun overtake steps old new
@@ -186,9 +188,9 @@ pub fn cut_rounds_are_restarts()
         → AreServedApart (world_of new.plant) }
 {}
 
-/// In a plant with power cuts each step of a station that loses no round can be the next one, and so can each turn of a round that is lost. Whatever store an
-/// honest keeper finds after a cut in a round, also in one that failed, the start with that store is the restart of a station that stands as before the round,
-/// or as after all turns that it held; whatever it finds between rounds, it is the restart of the station as it stands.
+/// In a plant with power cuts each step of a station that loses no round can be the next one. So can each turn of a round that is lost. An honest
+/// keeper finds a store after a cut in a round, also in one that failed. The start with that store is the restart of a station that stands as before
+/// the round, or as after all turns that it held. The start with what it finds between rounds is the restart of the station as it stands.
 pub fn cuts_go_on<K: Keeper>()
     ensures steps { (overtake : ℕ) (c : CutPlant) → StepsGoOn overtake c }
     ensures lost_turns { (overtake : ℕ) (c : CutPlant) → LostTurnsGoOn overtake c }

@@ -1,7 +1,7 @@
 //! What one event makes one transaction do: send datagrams, and perhaps end.
 //!
-//! The handlers of the states (`await_confirmation`, `segmented_request`, `segmented_conf`, `tick`) return it, and the requester turns it into a
-//! [`Reaction`](crate::Reaction). Nothing here is public, so all of it may change with those files.
+//! The handlers of the states (`await_confirmation`, `segmented_request`, `segmented_conf`, `transaction_tick`) return it, and the requester turns it
+//! into a [`Reaction`](crate::Reaction). Nothing here is public, so all of it may change with those files.
 ghost use Rattle.std.specs.Prelude.{◌≡◌, [], Some, None};
 ghost use Rattle.bac_protocol.specs.Client.Reaction.{Stays};
 ghost use Rattle.bac_requester.specs.Transitions.{MakesTransition};

@@ -1,5 +1,6 @@
-//! A reply, before anything changes: the store's plan, the reply in octets, and how it is sent (clauses 5.2 and 5.4.5.3). idle and segmented_request prepare
-//! a reply, and then perform it (performing). Another way to send a reply needs a case of `reply_way_of` in bac_protocol.
+//! A reply, before anything changes: the store's plan, the reply in octets, and how it is sent (clauses 5.2 and 5.4.5.3). `idle`, `beginning` and
+//! `segmented_request` prepare a reply, and then perform it (`performing`). Another way to send a reply needs a case of `reply_way_of` in
+//! bac_protocol.
 ghost use Rattle.std.specs.Prelude.{◌≡◌, ◌≤◌, ◌+◌, ◌-◌, ◌<◌, length, [], IfOk};
 ghost use Rattle.bac_apdu.specs.Views.{apdu_view, limits_view};
 ghost use Rattle.bac_service.specs.Views.{reply_view};
@@ -65,6 +66,7 @@ pub(crate) fn piece_apdu<'a>(
 {
     let segment = Segment {
         more: outgoing.count() - n > 1,
+        // sequence numbers count modulo 256
         number: (n % 256) as u8,
         window: context.settings.window,
     };
@@ -197,6 +199,7 @@ fn encode_reply(alloc: Global, reply: Reply<'_>) -> Result<SpelledReply, NoMemor
             Ok(SpelledReply::Complex(octets))
         }
         AnyReply::Error { class, code } => Ok(SpelledReply::Error { class, code }),
+        // a store refuses by an Error, never by a Reject
         AnyReply::Reject(_) => unreachable!(),
     }
 }

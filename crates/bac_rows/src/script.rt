@@ -27,6 +27,7 @@ impl Numbers {
     }
 }
 
+/// The numbers of a line without a range: once, with number 0.
 const ONCE: Numbers = Numbers {
     count: 1,
     first: 0,
@@ -113,7 +114,7 @@ fn named(alloc: Global, names: &str, line: &str) -> Result<String, RowFault> {
     Ok(out)
 }
 
-/// So many times the digits.
+/// Appends the digits, `count` times.
 fn put_digits(count: u64, digits: &str, out: &mut String) -> Result<(), RowFault> {
     for _ in 0..count {
         out.push_str(digits)?;
@@ -140,9 +141,10 @@ fn begin_of(place: &str, number_here: u64) -> Result<u64, RowFault> {
     }
 }
 
-/// So many octets of the long file, from that one on.
+/// Appends `count` octets of the long file from octet `begin` on, in hexadecimal.
 fn put_octets(count: u64, begin: u64, out: &mut String) -> Result<(), RowFault> {
     for i in 0..count {
+        // octet i of the long file is i / 256
         write!(out, "{:02X}", begin.wrapping_add(i) / 256 % 256)?;
     }
     Ok(())

@@ -66,6 +66,7 @@ pub(crate) fn print_fault_objects<E: Write>(
 ) {
     let mut rest = text;
     let mut line = Vec::new(alloc);
+    // each line takes an octet at least
     for _ in 0..text.len() {
         let Ok(true) = next_line(&mut rest, &mut line) else {
             return;

@@ -47,7 +47,7 @@ fn octets_in(cells: &[Cell], before: u64, count: u8) -> u64
     octets
 }
 
-/// So many octets, and those of a cell.
+/// A number of octets with those of a cell added.
 fn with_octets(octets: u64, cell: &Cell) -> u64
     ensures { result ≡ min (octets + length cell.now.octets.items) MOST }
 {

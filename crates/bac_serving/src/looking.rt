@@ -317,6 +317,7 @@ fn serve_stretches<F: RegularFiles, M: Sockets + StandardInput, E: Write>(
     ensures failed { IfErr result IsFailure }
 {
     let mut effects = 0u64;
+    // no run has so many stretches
     for _count in 0..u64::MAX {
         let Some(stretch) = take_stretch(environment, stop, looker, station, err)? else {
             return Ok(effects);

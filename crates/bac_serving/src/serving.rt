@@ -117,7 +117,7 @@ impl Serving {
         if self.restarted { Some(start) } else { None }
     }
 
-    /// The same, which restarts where its database is not new.
+    /// How a node serves over a database: as it says, and as one that restarts where the database is not new.
     pub(crate) fn restarted_by(&self, is_new: bool) -> Serving
         ensures { result ≡ restarted_by is_new self.now }
     {
@@ -195,8 +195,8 @@ pub(crate) fn print_not_bound<E: Write>(serving: &Serving, error: &io::Error, er
     Status::Output
 }
 
-/// Prints on `err` whether a node that begins then hears every address, where it listens, and how many objects and slots it has; and from when on it serves,
-/// where it restarted.
+/// Prints on `err` whether a node that begins then hears every address, where it listens, and how many objects and slots it has. Where it restarted,
+/// the last line says from when on it serves.
 pub(crate) fn print_listening<E: Write>(
     alloc: Global,
     serving: &Serving,
@@ -242,7 +242,8 @@ fn print_started<E: Write>(
     }
 }
 
-/// A node serves from then on, and its turns are logged on `err` where that is wanted; where a line of the log could not be written, `log fault` ends it.
+/// A node serves from then on, and its turns are logged on `err` where that is wanted. Where a line of the log could not be written, `log fault` ends
+/// it.
 pub(crate) fn serve_from<L: Link, C: Clock, O: Write, E: Write>(
     serving: &Serving,
     start: Start,
@@ -299,7 +300,7 @@ pub(crate) fn serve_from<L: Link, C: Clock, O: Write, E: Write>(
     logged.status
 }
 
-/// The same for a node whose store is kept, in rounds.
+/// A node whose store is kept serves from then on in rounds, and is logged as by `serve_from`.
 pub(crate) fn serve_kept_from<L: Link, C: Clock, K: Keeper, O: Write, E: Write>(
     alloc: Global,
     serving: &Serving,

@@ -82,7 +82,7 @@ fn rules_by(is_reusing: bool, seconds: Option<u64>, memory: usize) -> Rules
     }
 }
 
-/// The same by the words, of a server that takes so many turns. None where what is given is no number of octets.
+/// The rules of a server that takes so many turns, by its words. None where what is given is no number of octets.
 fn rules_of(given: &ArgMatches<'_>, turns: Option<u64>) -> Option<Rules>
     ensures { MatchOption result (memory_given (words_text given.now (codes "memory")) ≡ None) (IsRules given.now turns) }
 {
@@ -137,7 +137,7 @@ fn within(octets: u64) -> Option<usize>
     }
 }
 
-/// So many units, as a number of octets that a server may keep.
+/// A number of units, each of `unit` octets, as a number of octets that a server may keep. None where it may not keep so many.
 fn times(unit: u64, count: u64) -> Option<usize>
     ensures { result ≡ times unit count }
 {
@@ -196,8 +196,8 @@ fn level_of(given: &ArgMatches<'_>) -> Option<LogLevel>
     }
 }
 
-/// The address that a text is. None where it is none, or none that a node can have; 0.0.0.0, which is all of this machine's, is none either: the system would
-/// choose from which one an answer leaves, and it need not be the one that was asked.
+/// The address that a text is. None where it is none, or none that a node can have. 0.0.0.0, which is all of this machine's, is none either: the
+/// system would choose from which one an answer leaves. That need not be the one that was asked.
 fn host_named(text: &str) -> Option<[u8; 4]>
     ensures { MatchOption result (IsNoHost text.now) (IsHostText text.now) }
 {

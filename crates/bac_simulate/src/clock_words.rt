@@ -24,7 +24,8 @@ fn slow_in(digits: &[u8]) -> Option<u32>
     }
 }
 
-/// So many parts a clock goes on while a million of real time pass, by how many parts in a million it is fast, or slow after a minus: -1,000 to 1,000.
+/// The rate of a clock: how many parts it goes on while a million of real time pass. The word says by how many parts in a million it is fast, or slow
+/// after a minus: -1,000 to 1,000.
 pub(crate) fn rate_in(word: &[u8]) -> Option<u32>
     ensures { result ≡ rate_of word.now }
 {

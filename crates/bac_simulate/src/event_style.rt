@@ -5,6 +5,6 @@
 pub(crate) enum EventStyle {
     /// In words: each event at its moment, and below it what came of it, or why nothing did.
     Words,
-    /// As objects of JSON, one a line: what came of each event.
+    /// In objects of JSON, one a line: what came of each event.
     Objects,
 }

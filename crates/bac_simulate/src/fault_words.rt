@@ -33,7 +33,7 @@ pub(crate) fn fault_words(fault: u8) -> &'static str
     }
 }
 
-/// That a fault, by its number and in words, ended a script at that line, counted from 1.
+/// The line that says which fault ended a script at that line, counted from 1: its number, and why in words.
 pub(crate) fn fault_words_line(alloc: Global, line: u64, fault: u8) -> Result<Vec<u8>, AllocError>
     ensures { IfOk result (λ t. t.items ≡ fault_words_line line fault) }
 {

@@ -70,7 +70,7 @@ pub struct ClockStart {
 pub struct ClockPace {
     /// The number of the node.
     pub node: u64,
-    /// So many parts it goes on while a million parts of real time pass: 999,000 to 1,001,000.
+    /// How many parts it goes on while a million parts of real time pass: 999,000 to 1,001,000.
     pub rate: u32,
 }
 
@@ -111,7 +111,7 @@ pub enum Statement {
     Noise(Noise),
     /// The node of that number looks at its timers.
     Tick(u64),
-    /// So many milliseconds pass.
+    /// Time passes, this many milliseconds.
     Advance(u64),
     /// A node changes a property of its own store.
     SetProperty(SetProperty),

@@ -52,6 +52,7 @@ fn setting_from(nodes: &[u8], window: &[u8], overtake: &[u8]) -> Option<Setting>
 }
 
 #[tactic(auto, unfolding(crate::specs::Lines::usual_setting))]
+/// The setting of a line that gives the number of nodes alone.
 fn usual(nodes: &[u8]) -> Option<Setting>
     ensures { option_map setting_view result ≡ usual_setting nodes.now }
 {
@@ -63,6 +64,7 @@ fn usual(nodes: &[u8]) -> Option<Setting>
     })
 }
 
+/// Whether three words are those of a line that gives all numbers.
 fn is_full(a: &[u8], b: &[u8], c: &[u8]) -> bool
     ensures { result ≡ bytes_eq a.now (codes "nodes") && (bytes_eq b.now (codes "window") && bytes_eq c.now (codes "overtake")) }
 {
@@ -383,10 +385,15 @@ fn statement_in(alloc: Global, words: &[&[u8]]) -> Result<Statement, FormFault>
     }
 }
 
-/// A line after the first one, without its end: `ask CLIENT SERVER` or `ask CLIENT LINK` and the words of a request, `deliver COPY`, `lose COPY`,
-/// `noise NODE HEX`, `stranger NODE LINK HEX`, `tick NODE`, `advance MILLISECONDS`, `clock NODE MILLISECONDS`, `pace NODE PARTS`, `set NODE T:I P HEX`,
-/// `file NODE T:I HEX`, `restart NODE`, `begin NODE` or `begin again NODE`, separated by single spaces. A LINK is as `192.168.1.20:47808`, and PARTS -1,000 to
-/// 1,000 in a million. `NoForm` for any other line.
+/// A line after the first one, without its end. Its words are separated by single spaces:
+/// - `ask CLIENT SERVER` or `ask CLIENT LINK`, and the words of a request;
+/// - `deliver COPY` or `lose COPY`;
+/// - `noise NODE HEX` or `stranger NODE LINK HEX`;
+/// - `tick NODE`, `advance MILLISECONDS`, `clock NODE MILLISECONDS` or `pace NODE PARTS`;
+/// - `set NODE T:I P HEX` or `file NODE T:I HEX`;
+/// - `restart NODE`, `begin NODE` or `begin again NODE`.
+///
+/// A LINK is as `192.168.1.20:47808`, and PARTS are -1,000 to 1,000 in a million. `NoForm` for any other line.
 pub fn read_statement(alloc: Global, line: &[u8]) -> Result<Statement, FormFault>
     ensures { Reads statement_view result (statement_at line.now) }
 {

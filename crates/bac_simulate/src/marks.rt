@@ -76,7 +76,7 @@ pub(crate) fn arrow_of(
     })
 }
 
-/// That something happens at a node.
+/// The mark of something that happens at a node.
 fn note(moment: u64, node: usize, words: Vec<u8>) -> Mark
     ensures { mark_view result ≡ plain.Note moment node words.items }
 {
@@ -302,7 +302,7 @@ pub(crate) fn refused_mark(
     Ok(note(now, place_of(event), words.into_bytes()))
 }
 
-/// That a node's clock goes so fast from then on.
+/// The mark that says that a node's clock goes at this rate from then on.
 pub(crate) fn paced_mark(alloc: Global, now: u64, node: u64, rate: u32) -> Result<Mark, AllocError>
     ensures { IfOk result (λ m. mark_view m ≡ paced_mark now node rate) }
 {

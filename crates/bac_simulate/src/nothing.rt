@@ -82,7 +82,7 @@ pub(crate) fn why_nothing(world: &World, event: &Event) -> Why
     }
 }
 
-/// The same in words.
+/// Why nothing came of an event, in words.
 pub(crate) fn why_words(why: Why) -> &'static str
     ensures { result.now ≡ why_words why }
 {

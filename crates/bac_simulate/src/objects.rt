@@ -170,7 +170,7 @@ fn pace_of(rate: u32) -> i64
     i64::from(rate) - 1_000_000
 }
 
-/// That a node's clock goes so fast from then on.
+/// The object that says that a node's clock goes at this rate from then on.
 pub(crate) fn paced_object(alloc: Global, moment: u64, node: u64, rate: u32) -> io::Result<Vec<u8>>
     ensures { IfOk result (λ t. IsObject moment (object.Paced node (pace_of rate)) t.items) }
 {

@@ -69,7 +69,7 @@ fn event_and_print<W: Write>(
     }
 }
 
-/// That a copy counts as lost, or that there is none; nothing changes. Answers whether there is one.
+/// Prints that a copy counts as lost, or that there is none; nothing changes. Answers whether there is one.
 fn count_lost<W: Write>(world: &World, line: u64, copy: u64, out: &mut W) -> io::Result<bool>
     ensures { IfOk result (λ passed. AppendsText (W.contents out.old) (W.contents out.new)
         (IsStep line passed (Lost copy) world.now world.now)) }
@@ -83,7 +83,8 @@ fn count_lost<W: Write>(world: &World, line: u64, copy: u64, out: &mut W) -> io:
     }
 }
 
-/// That a node's clock began so, with the script: nothing is printed of it, or that there is no such node; nothing changes. Answers whether there is one.
+/// Passes over a clock that began with the script: prints nothing of it, or that there is no such node; nothing changes. Answers whether there is
+/// one.
 fn pass_start<W: Write>(
     world: &World,
     line: u64,
@@ -343,10 +344,11 @@ pub(crate) fn unread<E: Write>(error: &io::Error, err: &mut E) -> Status
 /// Runs a script of events in a network of nodes, each with a house store of its own, and prints what comes of each event. All lines are read before the
 /// first event. Where notes are taken, lines may end in a carriage return and a line feed, and blank lines and those that begin with `#` are passed over.
 ///
-/// An event that names no node or no copy, a link of a node as a stranger's, or that the clock or the memory has no room for, and a clock of no node, print
-/// `line L: fault F` and end the run with `Faulty`. A refused
-/// ask, and a change that a node's store refuses, print `refused F`, and the run goes on. A line of no form: `line L: not a script line` on `err`, and with
-/// `reasons` on the next line what is wrong with it, where memory suffices; an input that cannot be read: `cannot read`; out of memory outside an event: `no memory`. `Output` where `out` cannot be written.
+/// An event may name no node or no copy, or a link of a node as a stranger's, or the clock or the memory may have no room for it. Then it prints
+/// `line L: fault F` and ends the run with `Faulty`, as a clock of no node does. A refused ask, and a change that a node's store refuses, print
+/// `refused F`, and the run goes on. A line of no form: `line L: not a script line` on `err`, and with `reasons` on the next line what is wrong with
+/// it, where memory suffices; an input that cannot be read: `cannot read`; out of memory outside an event: `no memory`. `Output` where `out` cannot
+/// be written.
 pub fn simulate_lines_over<R: Read, O: Write, E: Write>(
     alloc: Global,
     notes: bool,
@@ -363,7 +365,7 @@ pub fn simulate_lines_over<R: Read, O: Write, E: Write>(
     }
 }
 
-/// The same without notes and reasons: each line is one of the script.
+/// Runs a script as [`simulate_lines_over`] does, without notes and reasons: each line is one of the script.
 pub fn simulate_over<R: Read, O: Write, E: Write>(
     alloc: Global,
     input: &mut R,

@@ -93,7 +93,7 @@ fn print_lost<W: Write>(teller: Teller, copy: u64, out: &mut W) -> io::Result<()
     out.write_all(text.as_slice())
 }
 
-/// That a copy counts as lost, or that there is none. Answers whether there is one.
+/// Prints that a copy counts as lost, or that there is none. Answers whether there is one.
 fn print_lost_copy<W: Write>(
     alloc: Global,
     style: EventStyle,
@@ -156,7 +156,7 @@ fn print_pace<W: Write>(
     }
 }
 
-/// That a node's clock began so, with the script: nothing is printed of it, or that there is no such node. Answers whether there is one.
+/// Passes over a clock that began with the script: prints nothing of it, or that there is no such node. Answers whether there is one.
 fn print_start<W: Write>(
     alloc: Global,
     style: EventStyle,

@@ -65,7 +65,7 @@ impl Teller {
         }
     }
 
-    /// That nothing came of an event, and why.
+    /// Tells that nothing came of an event, and why.
     fn nothing_text(self, why: Why) -> io::Result<Vec<u8>>
         ensures { IfOk result (λ t. IsNothingText self.style self.moment why t.items) }
     {
@@ -76,7 +76,7 @@ impl Teller {
         }
     }
 
-    /// That an ask or a change was refused, by the number of the fault, and why.
+    /// Tells that an ask or a change was refused, by the number of the fault, and why.
     pub(crate) fn refusal_text(self, fault: u8, why: &str) -> io::Result<Vec<u8>>
         ensures { IfOk result (λ t. IsRefusalText self.style self.moment fault why.now t.items) }
     {
@@ -88,7 +88,7 @@ impl Teller {
         }
     }
 
-    /// That a copy counts as lost.
+    /// Tells that a copy counts as lost.
     pub(crate) fn lost_text(self, copy: u64) -> io::Result<Vec<u8>>
         ensures { IfOk result (λ t. IsLostText self.style self.moment copy t.items) }
     {
@@ -100,7 +100,7 @@ impl Teller {
         }
     }
 
-    /// That a node's clock goes so fast from then on.
+    /// Tells that a node's clock goes at this rate from then on.
     pub(crate) fn paced_text(self, node: u64, rate: u32) -> io::Result<Vec<u8>>
         ensures { IfOk result (λ t. IsPacedText self.style self.moment node rate t.items) }
     {

@@ -39,8 +39,7 @@ pub enum View {
     Capture,
 }
 
-/// Prints what a run is drawn as, by what came of its lines and the world in which it ended; what is printed in words, or as objects, is no
-/// drawing.
+/// Prints what a run is drawn as, by what came of its lines and the world in which it ended. What is printed in words, or as objects, is no drawing.
 fn print_view<W: Write>(
     alloc: Global,
     view: View,
@@ -153,9 +152,9 @@ fn show<O: Write, E: Write>(
     }
 }
 
-/// Runs a script of events in a network of nodes, as [`simulate_lines_over`](crate::simulate_lines_over) does, and prints what its run is shown as in place of
-/// what comes of each event. It answers what that does; what ends the run stands on `err`, behind the events before it in what is shown, and where it is printed in
-/// words, or as objects, on `out`.
+/// Runs a script of events in a network of nodes, as [`simulate_lines_over`](crate::simulate_lines_over) does, and prints what its run is shown as in
+/// place of what comes of each event. It answers what that does. What ends the run stands on `err`, behind the events before it in what is shown.
+/// Where the run is printed in words, or as objects, it stands on `out`.
 pub fn show_over<R: Read, O: Write, E: Write>(
     alloc: Global,
     view: View,

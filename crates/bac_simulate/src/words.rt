@@ -245,7 +245,7 @@ pub(crate) fn sent_line(alloc: Global, number: usize, copy: &Copy) -> io::Result
     Ok(news_line(alloc, words.as_slice())?)
 }
 
-/// That an ask or a change was refused, by the number of the fault, and why in words.
+/// The line that says that an ask or a change was refused, by the number of the fault, and why in words.
 pub(crate) fn refused_line(alloc: Global, fault: u8, why: &str) -> Result<Vec<u8>, AllocError>
     ensures { IfOk result (λ t. t.items ≡ refused_news fault why.now) }
 {
@@ -253,7 +253,7 @@ pub(crate) fn refused_line(alloc: Global, fault: u8, why: &str) -> Result<Vec<u8
     news_line(alloc, words.as_bytes())
 }
 
-/// That a copy counts as lost.
+/// The lines that say that a copy counts as lost.
 pub(crate) fn lose_text(alloc: Global, now: u64, copy: u64) -> Result<Vec<u8>, AllocError>
     ensures { IfOk result (λ t. t.items ≡ lose_text now copy) }
 {
@@ -261,7 +261,7 @@ pub(crate) fn lose_text(alloc: Global, now: u64, copy: u64) -> Result<Vec<u8>, A
     Ok(text.into_bytes())
 }
 
-/// That a node's clock goes so fast from then on.
+/// The lines that say that a node's clock goes at this rate from then on.
 pub(crate) fn pace_line(
     alloc: Global,
     now: u64,

@@ -41,7 +41,7 @@ fn link_of(node: u8) -> LinkAddress
     [127, 0, 0, 1, 0xBA, 0xC0 + node]
 }
 
-/// So many nodes of those limits, each with a house store of its own.
+/// What the nodes of a setting are made of: each has those limits, and a house store of its own.
 fn nodes_of(
     alloc: Global,
     setting: &Setting,
@@ -73,6 +73,7 @@ pub(crate) fn world_of(alloc: Global, setting: &Setting) -> Result<World, NoMemo
     match World::new(alloc, nodes, u64::from(setting.overtake)) {
         Ok(world) => Ok(world),
         Err(NewWorldFault::NoMemory) => Err(NoMemory),
+        // each node has a port of its own, and `read_setting` bounds all numbers
         Err(NewWorldFault::SameLink) => unreachable!(),
         Err(NewWorldFault::BadSlots) => unreachable!(),
         Err(NewWorldFault::BadWindow) => unreachable!(),
@@ -80,7 +81,7 @@ pub(crate) fn world_of(alloc: Global, setting: &Setting) -> Result<World, NoMemo
     }
 }
 
-/// Clocks are by at most 1,000 parts in a million fast or slow, as far as a system that sets its clock may let it run; copies then live 4,873 ms.
+/// Clocks are by at most 1,000 parts in a million fast or slow, as far as a system that sets its clock may let it run. Copies then live 4,873 ms.
 const PACE: Pace = Pace {
     drift: 1_000,
     life: 4_873,

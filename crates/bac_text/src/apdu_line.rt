@@ -152,8 +152,8 @@ fn members_text(alloc: Global, in_words: bool, apdu: Apdu<'_>) -> Result<String,
     }
 }
 
-/// Prints an APDU: its kind and its members, as docs/FORMATS.md ("decode") lists them; the class and the code of an Error and the
-/// reasons of a Reject and an Abort by number or in words.
+/// Prints an APDU: its kind and its members, as docs/FORMATS.md ("decode") lists them. The class and the code of an Error and the reasons of a Reject
+/// and an Abort are by number or in words.
 #[tactic(auto, unfolding(crate::specs::Texts::apdu_text))]
 pub(crate) fn print_apdu<W: Write>(
     alloc: Global,

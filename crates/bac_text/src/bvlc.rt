@@ -80,6 +80,7 @@ impl BvlcFunction {
 fn is_framed(datagram: &[u8]) -> bool
     ensures { result ≡ is_framed datagram.now }
 {
+    // octets 2 and 3 are the length (clause J.2)
     datagram.len() >= 4 && usize::from(BigEndian::read_u16(&datagram[2..])) == datagram.len()
 }
 

@@ -17,6 +17,7 @@ fn carried_at(function: BvlcFunction) -> Option<usize>
     ensures { result ≡ carried_at function }
 {
     match function {
+        // behind the four octets of each BVLL, and the six of the sender (clause J.2)
         BvlcFunction::ForwardedNpdu => Some(10),
         BvlcFunction::DistributeBroadcastToNetwork | BvlcFunction::OriginalBroadcastNpdu => Some(4),
         _ => None,

@@ -139,11 +139,11 @@ fn check_all<R: BufRead, W: Write>(
 
 /// Checks each line of a capture: prints each bad line's number and fault, in words or not, and at the end how many lines are good and bad.
 ///
-/// A line `moment from to hex` is good where its moment is not less than that of an earlier such line, and its datagram has no
-/// fault. Where notes are taken, lines may end in a carriage return and a line feed, and a blank line, or one that begins with `#`, is neither good nor
-/// bad: they are counted as notes behind the others. Ends with `Faulty` where a line is bad. An input that cannot be read, or of 2^64 lines: `cannot
-/// read` on `err`. Out of memory: `no memory` on `err`. `Output` where `out` cannot be written, then too where the input fails. Memory does not grow
-/// with the input.
+/// A line `moment from to hex` is good where its moment is not less than that of an earlier such line, and its datagram has no fault. Where notes are
+/// taken, lines may end in a carriage return and a line feed. A blank line, or one that begins with `#`, is then neither good nor bad: such lines are
+/// counted as notes behind the others. Ends with `Faulty` where a line is bad. An input that cannot be read, or of 2^64 lines: `cannot read` on
+/// `err`. Out of memory: `no memory` on `err`. `Output` where `out` cannot be written, then too where the input fails. Memory does not grow with the
+/// input.
 pub fn check_lines_over<R: BufRead, O: Write, E: Write>(
     alloc: Global,
     in_words: bool,
@@ -165,7 +165,7 @@ pub fn check_lines_over<R: BufRead, O: Write, E: Write>(
     }
 }
 
-/// The same without notes: each line is one of the capture, and faults are printed by number.
+/// Checks a capture as [`check_lines_over`] does, without notes: each line is one of the capture, and faults are printed by number.
 pub fn check_over<R: BufRead, O: Write, E: Write>(
     alloc: Global,
     input: &mut R,

@@ -159,8 +159,8 @@ fn print_layers<W: Write>(
     print_npdu_lines(alloc, in_words, npdu, out)
 }
 
-/// Prints the layers of a datagram from the outside in, one a line, up to the first that has a fault, and that fault; in words the name of another function too, and
-/// what it carries. Answers whether it has none.
+/// Prints the layers of a datagram from the outside in, one a line, up to the first that has a fault, and that fault. In words the name of another
+/// function comes too, and what it carries. Answers whether it has none.
 pub fn show_datagram<W: Write>(
     alloc: Global,
     in_words: bool,
@@ -200,9 +200,9 @@ fn decode_datagram<W: Write>(
     Ok(shown_status(fine))
 }
 
-/// Prints the layers of a datagram given in hexadecimal, one a line, up to the first that has a fault: in words objects, properties, values, an
-/// Error, and the reasons of a Reject, an Abort and a fault. In words a line more names a service that no other line says, a message of the network layer, or the
-/// function of another BVLL over IPv4; the layers of an NPDU that such a BVLL carries follow it.
+/// Prints the layers of a datagram given in hexadecimal, one a line, up to the first that has a fault. In words are objects, properties, values, an
+/// Error, and the reasons of a Reject, an Abort and a fault. A line more then names a service that no other line says, a message of the network
+/// layer, or the function of another BVLL over IPv4. The layers of an NPDU that such a BVLL carries follow it.
 ///
 /// The digits may stand in groups of whole octets with spaces, tabs or colons between them, and `0x` before a group. A layer with a fault prints
 /// `fault bvll 5`, with the layer and the fault's number, and ends with `Faulty`. Text that is not hexadecimal: `bad hex` on `err`. Out of memory: `no
@@ -231,7 +231,7 @@ pub fn decode_text_over<O: Write, E: Write>(
     }
 }
 
-/// The same by numbers and in hexadecimal.
+/// Prints the layers of a datagram as [`decode_text_over`] does, by numbers and in hexadecimal.
 pub fn decode_over<O: Write, E: Write>(
     alloc: Global,
     text: &str,

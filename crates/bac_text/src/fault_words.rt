@@ -96,7 +96,7 @@ fn function_reason(alloc: Global, function: Option<u8>) -> Result<String, AllocE
     format!(in alloc; "function {digits}: not Original-Unicast-NPDU")
 }
 
-/// Of a BVLL with another function that function too.
+/// The fault of a BVLL; of one with another function that function too.
 fn bvll_words(alloc: Global, function: Option<u8>, fault: FrameFault) -> Result<String, AllocError>
     ensures { IfOk result (λ t. string_bytes t ≡ bvll_words function fault) }
 {
@@ -120,8 +120,8 @@ fn request_words(alloc: Global, reason: u8) -> Result<String, AllocError>
     format!(in alloc; "fault reject {reason}")
 }
 
-/// The fault of a datagram in words, as `fault bvll 6 (function 0B: not Original-Unicast-NPDU)`, where its BVLL has this function, if it is there; the reason of a
-/// Reject by its name in the standard.
+/// The fault of a datagram in words, as `fault bvll 6 (function 0B: not Original-Unicast-NPDU)`, where its BVLL has this function, if it is there.
+/// The reason of a Reject is by its name in the standard.
 pub fn fault_in_words(
     alloc: Global,
     function: Option<u8>,

@@ -36,8 +36,8 @@ fn digits_of(group: &[u8]) -> &[u8]
     }
 }
 
-/// The octets that a text is: hexadecimal digits of either case, in groups of whole octets with spaces, tabs or colons between them, and `0x` before a
-/// group or not. None where it is none such, and an Err only where memory ran out.
+/// The octets that a text is. It has hexadecimal digits of either case, in groups of whole octets with spaces, tabs or colons between them. `0x` may
+/// stand before a group. None where it is none such, and an Err only where memory ran out.
 pub fn octets_in(alloc: Global, text: &[u8]) -> Result<Option<Vec<u8>>, AllocError>
     ensures { IfOk result (λ o. option_map (λ v. v.items) o ≡ octets_in text.now) }
 {

@@ -10,6 +10,7 @@ use bac_npdu::{one_bvll_spelling, one_npdu_spelling};
 pub fn fine_or_at_fault()
     ensures { (datagram : List ℕ) (fault : LayerFault) → IsFine datagram → IsAtFault datagram fault → ⊥ }
 {
+    // each layer has one reading, so that no datagram has a fault and none
     one_bvll_spelling();
     one_npdu_spelling();
     one_apdu_spelling();

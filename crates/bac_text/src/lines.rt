@@ -37,6 +37,7 @@ fn keep(line: &mut Vec<u8>, octets: &[u8]) -> io::Result<()>
     requires { length line.old.items ≤ LINE_LIMIT + 1 }
     ensures { OnOk result (line.new.items ≡ take (LINE_LIMIT + 1) (line.old.items ++ octets.now)) }
 {
+    // one octet above the limit tells that the line is too long
     let room = LINE_LIMIT + 1 - line.len();
     let len = octets.len().min(room);
     line.extend_from_slice(&octets[..len])?;
@@ -98,6 +99,7 @@ fn take_part<R: BufRead>(input: &mut R, line: &mut Vec<u8>) -> io::Result<bool>
         return Ok(true);
     }
     input.consume(len);
+    // nothing at hand: the input has ended
     Ok(len == 0)
 }
 

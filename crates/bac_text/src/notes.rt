@@ -31,7 +31,7 @@ fn is_note(line: &[u8]) -> bool
     }
 }
 
-/// What is to be read of a line, without its end. Where notes are taken, the line may end in a carriage return, which is no part of it, and None
+/// What is to be read of a line, without its end. Where notes are taken, the line may end in a carriage return, which is no part of it. None then
 /// says that it is a note: a blank line, or one that begins with `#`. Where they are not, all of the line is to be read.
 pub fn read_of(notes: bool, line: &[u8]) -> Option<&[u8]>
     ensures { option_map (λ l. l.now) result ≡ read_of notes line.now }

@@ -23,7 +23,7 @@ pub fn print_ending<W: Write>(alloc: Global, ending: &Ending, out: &mut W) -> io
     }
 }
 
-/// The same as a line.
+/// Prints how a ticket ended as [`print_ending`] does, with the end of a line.
 pub fn print_ending_line<W: Write>(alloc: Global, ending: &Ending, out: &mut W) -> io::Result<()>
     ensures { OnOk result (Appends (W.contents out.old) (W.contents out.new) (ending_line (ending_view ending.now))) }
 {

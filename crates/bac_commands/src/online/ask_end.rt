@@ -91,9 +91,9 @@ fn print_words<W: Write>(
     Ok(is_success(strict, request, end))
 }
 
-/// Prints in that format how the ask of a request ended, and flushes what was written. Answers whether the ask succeeded: it was answered, and where that is
-/// strict, by no Error and by no reply that names another object, property or index than was asked; of octets, whether there are any. Where there are none,
-/// `err` says how it ended.
+/// Prints in that format how the ask of a request ended, and flushes what was written. Answers whether the ask succeeded. It did if it was answered,
+/// and where that is strict, by no Error and by no reply that names another object, property or index. Of octets it did if there are any; where there
+/// are none, `err` says how it ended.
 pub fn print_ask_end<O: Write, E: Write>(
     alloc: Global,
     output_format: OutputFormat,

@@ -32,7 +32,8 @@ pub struct AskCommand<'a> {
     pub shows_progress: bool,
 }
 
-/// Whether an ask was refused since its node has no invoke ID left for the peer, or no slot: a node that has asked nothing never refuses one for that.
+/// Whether an ask was refused since its node has no invoke ID left for the peer, or no slot. A node that has asked nothing never refuses one for
+/// that.
 pub fn is_spent(fault: AskFault) -> bool
     ensures { result ≡ is_spent fault }
 {
@@ -89,9 +90,9 @@ fn ask_and_print<L: Link, C: Clock, O: Write, E: Write>(
     Ok(succeeded)
 }
 
-/// A node asks, and takes at most 100,000 turns on its link until the ask has ended; how it did is printed as [`print_ask_end`](crate::print_ask_end) does.
-/// Ends with `Faulty` where the ask did not succeed. Where progress is shown, one line of `err`, a terminal, has how many octets its turns have sent and
-/// received, from the first quarter of a second on, until it has ended.
+/// A node asks, and takes at most 100,000 turns on its link until the ask has ended; how it did is printed as [`print_ask_end`](crate::print_ask_end)
+/// does. Ends with `Faulty` where the ask did not succeed. Where progress is shown, one line of `err`, a terminal, has how many octets its turns have
+/// sent and received. It is there from the first quarter of a second on, until the ask has ended.
 ///
 /// `link fault` on `err` where the link can't receive, `clock fault` where the clock goes back, both with status `Output`; `no memory` where memory is
 /// refused.

@@ -37,8 +37,8 @@ pub fn bound_server<L: Link>(
     Ok(BoundNode::new(alloc, node, link, Rules::strict().within(MEMORY))?)
 }
 
-/// A node of that address with a house store of its own and 64 slots at each end, on that link, whose invoke IDs begin at that one; an Err where memory is
-/// refused.
+/// A node of that address with a house store of its own and 64 slots at each end, on that link. Its invoke IDs begin at `first_id`. An Err says that
+/// memory was refused.
 pub fn bound_house<L: Link>(
     alloc: Global,
     link: L,
@@ -56,7 +56,7 @@ pub fn bound_house<L: Link>(
     BoundNode::new(alloc, node, link, Rules::strict().within(MEMORY))
 }
 
-/// The same of a node that asks for lists: it has 65,536 slots for asks of its own, and 256 for those of others.
+/// A node as of [`bound_house`] that asks for lists: it has 65,536 slots for asks of its own, and 256 for those of others.
 pub fn bound_client<L: Link>(
     alloc: Global,
     link: L,

@@ -89,7 +89,7 @@ impl CommandError {
         }
     }
 
-    /// The same; of a link that can't receive, with its address.
+    /// Complains of it as `report` does; of a link that can't receive, with its address.
     pub fn report_at<E: Write>(self, own: LinkAddress, err: &mut E) -> Status
         ensures told { IsPrintedBy self result }
         ensures failed { IsFailure result }

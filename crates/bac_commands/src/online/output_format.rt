@@ -5,8 +5,8 @@
 pub enum Style {
     /// By a line of numbers and octets, as in a script.
     Numbers,
-    /// By a line of words: values by their kinds, an Error and reasons by their names in the standard, and what is of another property than was asked for by
-    /// its name.
+    /// By a line of words: values by their kinds, an Error and reasons by their names in the standard. What is of another property than was asked for
+    /// stands behind its name.
     Words,
     /// By the octets of a file alone, where it was answered with them; where it was not, by numbers on standard error.
     Octets,

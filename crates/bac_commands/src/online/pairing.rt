@@ -36,6 +36,7 @@ fn append_request(alloc: Global) -> Result<OwnedRequest, NoMemory>
             instance: 1,
         },
         access: WriteAccess::Stream(WriteStream {
+            // behind the end of the file
             start: -1,
             content: OctetString { octets },
         }),
@@ -74,6 +75,7 @@ fn ask_beside<L: Link, C: Clock, O: Write>(
     Ok(is_answered(&end))
 }
 
+/// Whether both hold.
 fn are_both(first: bool, second: bool) -> bool
     ensures { result ≡ first && second }
 {
@@ -108,8 +110,8 @@ fn failed_of<L: Link>(first: &BoundNode<L>, second: &BoundNode<L>) -> LinkAddres
     }
 }
 
-/// Two nodes, each on its own link, take turns: the first asks the second to append AABBCC to file 1, and then to read the present-value of analog-input 5,
-/// each for at most 10,000 turns; how both asks ended is printed. Ends with `Faulty` where one was not answered.
+/// Two nodes, each on its own link, take turns. The first asks the second to append AABBCC to file 1, and then to read the present-value of
+/// analog-input 5, each for at most 10,000 turns. How both asks ended is printed. Ends with `Faulty` where one was not answered.
 ///
 /// `link fault` on `err` where a link can't receive, `clock fault` where the clock goes back, both with status `Output`; `no memory` where memory is refused.
 pub fn pair<L: Link, C: Clock, O: Write, E: Write>(

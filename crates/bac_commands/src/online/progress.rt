@@ -6,7 +6,7 @@ use bac_node::Node;
 use bac_transaction::Datagram;
 use std::io::Write;
 
-/// So many milliseconds pass at least before progress is shown, and from one time to the next.
+/// How many milliseconds pass at least before progress is shown, and from one time to the next.
 const BETWEEN: u64 = 250;
 
 /// Shows on one line of a terminal how many octets of datagrams the turns of an ask have sent and received; nothing of an ask that ends soon.
@@ -87,6 +87,7 @@ impl<W: Write> Observer<W> for Progress {
             self.is_begun = true;
             let sent = self.sent;
             let received = self.received;
+            // a terminal that cannot be written shows nothing
             let _ = write!(out, "\r{sent} octets sent, {received} received\x1b[K");
         }
     }

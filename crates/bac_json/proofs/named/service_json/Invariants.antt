@@ -1,0 +1,9 @@
+use Rattle.std.proofs.Common.{length}
+use Rattle.bac_json.proofs.Added.{AreAdded}
+use Rattle.bac_json.proofs.named.service_json.Given as goal
+
+abbrev pub invariant-loop-rest : goal.invariant-loop-rest
+invariant-loop-rest l = AreAdded l.members.all l.rest l.initial.object l.object
+
+abbrev pub decreases-loop-rest : goal.decreases-loop-rest
+decreases-loop-rest l = length l.rest
