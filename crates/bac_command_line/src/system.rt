@@ -52,16 +52,18 @@ const CLOCK_START: u64 = 0;
 pub struct System<'a, R> {
     runtime: &'a R,
     shows_progress: bool,
+    is_screen: bool,
     /// The key of this host, once it was read.
     key: Cell<Option<PairKey>>,
 }
 
 impl<'a, R> System<'a, R> {
-    /// The system of a runtime, whose standard error shows the progress of asks, where it is a terminal.
-    pub fn new(runtime: &'a R, shows_progress: bool) -> System<'a, R> {
+    /// The system of a runtime, whose standard error shows the progress of asks where it is a terminal, and whose standard output is one or is not.
+    pub fn new(runtime: &'a R, shows_progress: bool, is_screen: bool) -> System<'a, R> {
         System {
             runtime,
             shows_progress,
+            is_screen,
             key: Cell::new(None),
         }
     }
@@ -314,6 +316,10 @@ impl StandardError for System<'_, HostRuntime> {
 impl Machine for System<'_, HostRuntime> {
     fn shows_progress(&self) -> bool {
         self.shows_progress
+    }
+
+    fn is_screen(&self) -> bool {
+        self.is_screen
     }
 
     fn built(&self) -> Option<String> {

@@ -111,6 +111,8 @@ pub(crate) struct Scene<'a> {
     /// The address that it sends from.
     pub source: Option<[u8; 4]>,
     pub is_terminal: bool,
+    /// Whether standard output is a terminal.
+    pub is_screen: bool,
 }
 
 /// `MOMENT +STEP` or `MOMENT -STEP`.
@@ -209,5 +211,6 @@ pub(crate) fn scene_of(setup: Setup<'_>) -> Option<Scene<'_>> {
         full: full_in(setup)?,
         source: source_in(setup)?,
         is_terminal: setup.has("terminal"),
+        is_screen: setup.has("screen"),
     })
 }
