@@ -75,7 +75,7 @@ fn perform<F: RegularFiles, M: Machine, O: Write, E: Write>(
         Task::Files { task, work } => do_with_files(environment, &task, work, out, err),
         Task::Points(task) => do_with_points(environment, &task, out, err),
         Task::Pair => pair(alloc, environment.machine, out, err),
-        Task::Tell(telling) => tell(environment.machine, telling, out, err),
+        Task::Tell(telling) => tell(alloc, environment.machine, telling, out, err),
     }
 }
 

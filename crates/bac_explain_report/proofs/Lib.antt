@@ -1,3 +1,5 @@
 pub mod Blocking
+pub mod Counted
+pub mod Hearings
 pub mod Report
 pub mod Reporting

@@ -7,9 +7,13 @@ mod grammar;
 mod help;
 mod help_words;
 mod manual;
+mod nearest;
 mod people_words;
+mod shells;
 mod words;
 mod wrapping;
 
 pub use grammar::matches;
 pub use help::Telling;
+pub use nearest::nearest_command;
+pub use shells::Shell;

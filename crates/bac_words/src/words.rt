@@ -7,6 +7,8 @@ pub(crate) enum WordForm {
     Bare,
     /// By itself, one or more of them.
     Several,
+    /// By itself: one of these words.
+    OneOf(&'static [&'static str]),
     /// By its name alone.
     Flag,
     /// By its name, with a text after it; this is what help calls that text.
@@ -85,7 +87,7 @@ const DECODE: &[Word] = &[
         form: WordForm::Bare,
         need: Need::Always,
         against: &[],
-        help: "The datagram in hexadecimal; spaces, tabs or colons may separate groups, and `0x` may begin one. `-` reads datagrams from standard input, one per line",
+        help: "The datagram in hexadecimal; spaces, tabs or colons may separate groups, and `0x` may begin one. `-` reads datagrams from standard input: one per line, or in another form that it recognizes",
     },
     Word {
         name: "text",
@@ -173,15 +175,17 @@ const EXPLAIN_EXAMPLES: &str = "\
 Example: bac explain capture.pcapng
 Example: bac explain --chart capture.pcapng
 Example: bac explain --chart --pairs --values capture.pcapng
-Example: bac explain --peer 192.168.1.20 --slower 1000 capture.pcapng
+Example: bac explain --peer 192.168.1.20 --slower 300ms capture.pcapng
 Example: bac explain --repeated capture.pcapng
 Example: bac explain --unanswered --fail capture.pcapng
+Example: tcpdump -i eth0 -U -w - udp port 47808 | bac explain -
 Example: bac explain --json capture.pcapng | jq 'select(.unanswered)'
 Example: bac explain --html capture.pcapng > capture.html";
 
 /// The words of `explain` that go with no chart.
 const TRANSACTIONS: &[&str] = &[
     "unanswered",
+    "errors",
     "repeated",
     "findings",
     "slower",
@@ -190,6 +194,7 @@ const TRANSACTIONS: &[&str] = &[
     "json",
     "html",
     "frames",
+    "strict-ids",
 ];
 
 /// What `explain` takes.
@@ -230,6 +235,13 @@ const EXPLAIN: &[Word] = &[
         help: "Prints only transactions without an answer",
     },
     Word {
+        name: "errors",
+        form: WordForm::Flag,
+        need: Need::Never,
+        against: &["chart", "mermaid"],
+        help: "Prints only transactions that ended with an Error, a Reject or an Abort",
+    },
+    Word {
         name: "repeated",
         form: WordForm::Flag,
         need: Need::Never,
@@ -245,10 +257,10 @@ const EXPLAIN: &[Word] = &[
     },
     Word {
         name: "slower",
-        form: WordForm::Number("MS", 1_000_000_000),
+        form: WordForm::Text("TIME"),
         need: Need::Never,
         against: &["chart", "mermaid"],
-        help: "Prints only transactions whose answer took more than MS milliseconds, 1 to 1000000000, or that have no answer",
+        help: "Prints only transactions whose answer took more than TIME, or that have no answer: 300ms, 2s, 1m, or a number of milliseconds, 1 to 1000000000",
     },
     Word {
         name: "peer",
@@ -297,7 +309,14 @@ const EXPLAIN: &[Word] = &[
         form: WordForm::Flag,
         need: Need::Never,
         against: &["chart", "mermaid", "json", "html"],
-        help: "Prints a line for each transaction with the time of its request, and the numbers of its frames as Wireshark counts them",
+        help: "Prints a line for each transaction with the numbers of its frames, as Wireshark counts them",
+    },
+    Word {
+        name: "strict-ids",
+        form: WordForm::Flag,
+        need: Need::Never,
+        against: &["chart", "mermaid"],
+        help: "Counts it as a finding too if a client uses an invoke ID again within 65 seconds, although the first transaction was over",
     },
 ];
 
