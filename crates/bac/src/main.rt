@@ -1,7 +1,7 @@
 //! `bac`: BACnet confirmed services on the command line.
 #![tactic(auto)]
 
-use bac_command_line::{System, run};
+use bac_command_line::{System, exit_code, run};
 use bac_text::{Status, no_memory};
 use std::io;
 use std::io::{BufWriter, IsTerminal};
@@ -26,5 +26,5 @@ fn main(rt: HostRuntime) -> ExitCode {
             Status::CommandLine
         }
     };
-    ExitCode::from(status.code())
+    exit_code(status)
 }

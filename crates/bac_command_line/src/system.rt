@@ -13,6 +13,7 @@ use crate::host_side::{HostSide, INPUT, has_room, is_ready};
 use crate::lasting::Lasting;
 use crate::machine::Machine;
 use crate::replacing::{make_private, put_out, remove_empty, rename, replace};
+use crate::since_boot::{SINCE_BOOT, SinceBoot};
 use bac_asking::{ClientSockets, NoPair};
 use bac_driver::{MonotonicClock, UdpLink};
 use bac_environment::{OpenFiles, Sockets};
@@ -183,9 +184,9 @@ impl RegularFiles for System<'_, HostRuntime> {
 }
 
 impl<'a> Sockets for System<'a, HostRuntime> {
-    type Link = Guarded<Lasting<UdpLink, HostSide<'a>>, MonotonicClock<'a, HostRuntime>>;
+    type Link = Guarded<Lasting<UdpLink, HostSide<'a>>, MonotonicClock<'static, SinceBoot>>;
 
-    type Timer = MonotonicClock<'a, HostRuntime>;
+    type Timer = MonotonicClock<'static, SinceBoot>;
 
     ghost is_bound = { λ host port l address. (bound_host (link_below l).link ≡ host) × (bound_port (link_below l).link ≡ port) × (udp_address (link_below l).link ≡ address) };
 
@@ -196,7 +197,7 @@ impl<'a> Sockets for System<'a, HostRuntime> {
         ensures guarded { IfOk result (λ b. IsGuardedBy 0 guard.now b.0) }
     {
         let key = random_key(self.runtime)?;
-        let clock = MonotonicClock::new(self.runtime)?;
+        let clock = MonotonicClock::new(SINCE_BOOT)?;
         let beside = HostSide::new(self.runtime)?;
         let link = UdpLink::bind_at(self.runtime, host, port)?;
         let address = link.address();
@@ -207,8 +208,8 @@ impl<'a> Sockets for System<'a, HostRuntime> {
         }
     }
 
-    fn timer(&self) -> Option<MonotonicClock<'a, HostRuntime>> {
-        MonotonicClock::new(self.runtime).ok()
+    fn timer(&self) -> Option<MonotonicClock<'static, SinceBoot>> {
+        MonotonicClock::new(SINCE_BOOT).ok()
     }
 
     fn time_of_day(&self) -> Option<u64> {
