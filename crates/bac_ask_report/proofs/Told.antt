@@ -7,7 +7,7 @@ use Rattle.bac_json.specs.Values.{AreElementForms}
 use Rattle.bac_ask_report.specs.Answers.{Answer, answer_of}
 use Rattle.bac_text.specs.Peers.{peer_text}
 use Rattle.bac_ask_report.specs.Objects.{AnswerMembers, AreMembers, AskedMembers, IsObject, ask_object, asked_members, end_members, index_or_null, property_or_null}
-use Rattle.bac_ask_report.specs.Questions.{object_asked, property_asked, verb}
+use Rattle.bac_ask_report.specs.Questions.{object_asked, property_asked, verb_asked}
 use Rattle.bac_ask_report.specs.Records.{AskRecord}
 use Rattle.bac_ask_report.specs.declared.cell_text.CellText.{CellText}
 use Rattle.bac_ask_report.specs.Rows.{AreCells, AreSoleCells, AreValueCells, Cells, IsRow, fields_of, sole_value}
@@ -50,7 +50,7 @@ asked_of index line named peer property request =
 -- what was asked of whom, member by member
 pub asked_told : (r : AskRecord) (index line named peer property request : Data) → index ≡ index_or_null (property_asked r.request)
     → line ≡ optional_number r.line → named ≡ object_form (object_asked r.request) → peer ≡ string (peer_text r.peer)
-    → property ≡ property_or_null (property_asked r.request) → request ≡ string (verb r.request)
+    → property ≡ property_or_null (property_asked r.request) → request ≡ string (verb_asked r.request)
     → asked_of index line named peer property request ≡ asked_members r
 asked_told r index line named peer property request a b c d e f =
     λ i. asked_of (a i) (b i) (c i) (d i) (e i) (f i)

@@ -8,7 +8,7 @@ use Rattle.serde_json.specs.Data.{Data, Items, Members, array, boolean, no_membe
 use Rattle.serde_json.specs.Find.{of_integer}
 use Rattle.bac_ask_report.specs.Answers.{Answer, answer_of, status_word}
 use Rattle.bac_ask_report.specs.Answers.Answer.{Values, Other, File, Written, Done, Fault, Reason, Nothing}
-use Rattle.bac_ask_report.specs.Questions.{object_asked, property_asked, verb}
+use Rattle.bac_ask_report.specs.Questions.{object_asked, property_asked, verb_asked}
 use Rattle.bac_ask_report.specs.Records.{AskRecord, LineName, Unnamed, Without, Named}
 use Rattle.bac_moment.specs.Times.{IsTextOf}
 
@@ -67,7 +67,7 @@ asked_members r = record {
   named = object_form (object_asked r.request);
   peer = string (peer_text r.peer);
   property = property_or_null (property_asked r.request);
-  request = string (verb r.request);
+  request = string (verb_asked r.request);
 }
 
 pub record EndMembers : Type 0 where

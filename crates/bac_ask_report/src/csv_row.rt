@@ -15,7 +15,7 @@ ghost use Rattle.serde_json.specs.View.{items_view, view};
 
 use crate::answer::{Answer, answer_of};
 use crate::cell_text::CellText;
-use crate::question::{object_asked, property_asked, property_column};
+use crate::question::property_column;
 use crate::record::{AskRecord, LineName};
 use bac_json::data_json;
 use bac_moment::{TimeText, time_text};
@@ -244,8 +244,8 @@ fn fields_of(
     ensures { IfOk result (λ r. records.fields_of r ≡ fields_of texts (record_view ask.now) time.now (cells_view cells.now)) }
 {
     let peer = peer_text(alloc, ask.peer)?;
-    let object = object_text(alloc, object_asked(ask.request))?;
-    let property = property_column(alloc, property_asked(ask.request))?;
+    let object = object_text(alloc, ask.request.object())?;
+    let property = property_column(alloc, ask.request.property())?;
     let value = value_field(alloc, texts, cells)?;
     let answer = answer_of(ask.request, ask.outcome);
     let mut row = ByteRecord::new(alloc);

@@ -15,7 +15,6 @@ ghost use Rattle.serde_json.specs.View.{view};
 
 use crate::answer::{answer_of, status_word};
 use crate::members::{AnswerMembers, members_of};
-use crate::question::{object_asked, property_asked, verb};
 use crate::record::{AskRecord, LineName};
 use bac_json::{Members, object_json, optional_json, property_json, text_json};
 use bac_json_report::{number_or_null, print_json, time_or_null};
@@ -74,11 +73,11 @@ pub(crate) struct AskedMembers {
 fn asked_members(alloc: Global, ask: &AskRecord<'_, '_, '_>) -> Result<AskedMembers, AllocError>
     ensures { IfOk result (λ m. asked_members_view m ≡ asked_members (record_view ask.now)) }
 {
-    let reference = property_asked(ask.request);
-    let named = object_json(alloc, object_asked(ask.request))?;
+    let reference = ask.request.property();
+    let named = object_json(alloc, ask.request.object())?;
     let peer = peer_json(alloc, ask.peer)?;
     let property = property_or_null(alloc, reference)?;
-    let request = Json::try_from_str(alloc, verb(ask.request))?;
+    let request = Json::try_from_str(alloc, ask.request.verb())?;
     Ok(AskedMembers {
         index: index_or_null(reference),
         line: number_or_null(ask.line),

@@ -1,7 +1,8 @@
 -- How an ask ended, as a C program is told.
-use Rattle.std.specs.Prelude.{ℕ, ℤ, pos, Bool, true, false, List, []}
+use Rattle.std.specs.Prelude.{ℕ, ℤ, pos, Bool, true, false, List, [], Option, Some, None}
+use Rattle.bac_service.specs.Choices.{is_read_service}
+use Rattle.bac_service.specs.Values.{reaches_end, service_answered, start_answered}
 use Rattle.bac_service.specs.Values.{Complex}
-use Rattle.bac_service.specs.Values.Complex.{FileRead, StreamWritten, RecordsWritten, PropertyRead}
 use Rattle.bac_service.specs.Replies as reply
 use Rattle.bac_transaction.specs.Meanings.{Ending, EndedView}
 use Rattle.bac_c.specs.declared.records.End.{End}
@@ -13,11 +14,14 @@ abbrev end_mark : Bool → ℕ
 end_mark true = 1
 end_mark false = 0
 
+-- values came, or octets of a file from a position on, or a file was written
+abbrev pub end_by : (ticket : ℕ) → (is_read is_end : Bool) → Option ℤ → End
+end_by t is_read is_end None = told t 0 0 0 (pos 0)
+end_by t true is_end (Some start) = told t 7 0 (end_mark is_end) start
+end_by t false is_end (Some start) = told t 8 0 0 start
+
 abbrev pub complex_end : (ticket : ℕ) → Complex → End
-complex_end t (PropertyRead reference values) = told t 0 0 0 (pos 0)
-complex_end t (FileRead end_of_file start octets) = told t 7 0 (end_mark end_of_file) start
-complex_end t (StreamWritten start) = told t 8 0 0 start
-complex_end t (RecordsWritten start) = told t 8 0 0 start
+complex_end t c = end_by t (is_read_service (service_answered c)) (reaches_end c) (start_answered c)
 
 abbrev pub reply_end : (ticket : ℕ) → reply.Reply → End
 reply_end t (reply.Reply.Complex c) = complex_end t c

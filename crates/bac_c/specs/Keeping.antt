@@ -1,7 +1,8 @@
 -- Cells that a C program keeps of its node, and a node that is started with them.
 use Rattle.std.specs.Prelude.{◌≡◌, ℕ, if◌then◌else◌, List, Option, Some, None, MatchOption}
+use Rattle.bac_service.specs.Choices.{is_read_service}
+use Rattle.bac_service.specs.Values.{object_asked, property_asked, service_asked}
 use Rattle.bac_service.specs.Values.{Request}
-use Rattle.bac_service.specs.Values.Request.{ReadFile, WriteFile, ReadProperty, WriteProperty}
 use Rattle.bac_store.specs.Stores.{Object, Store}
 use Rattle.bac_responder.specs.declared.served.Act.{Act}
 use Rattle.bac_world.specs.Node.{Node}
@@ -17,7 +18,7 @@ use Rattle.bac_c.specs.Kept.{cells_in}
 use Rattle.bac_c.specs.Performing.{is_done}
 use Rattle.bac_c.specs.Ranges.{is_reference}
 use Rattle.bac_c.specs.Starting.{IsConfigOf, IsSetBy, listed_in}
-use Rattle.bac_c.specs.Telling.{CONTENTS, Told, count_told, told}
+use Rattle.bac_c.specs.Telling.{Told, count_told, number_told, told}
 use Rattle.bac_c.specs.declared.device.Device.{Device}
 use Rattle.bac_c.specs.declared.records.Reference.{Reference}
 use Rattle.bac_c.specs.declared.records.Settings.{Settings}
@@ -30,10 +31,9 @@ whole t i n = record { object_type = t; instance = i; property = n; index = 4294
 
 -- what a request writes
 abbrev pub target_of : Request → Option Reference
-target_of (ReadFile f access) = None
-target_of (WriteFile f access) = Some (whole f.kind f.instance CONTENTS)
-target_of (ReadProperty r) = None
-target_of (WriteProperty r values priority) = Some (whole r.object.kind r.object.instance r.property)
+target_of r =
+    if is_read_service (service_asked r) then None
+    else Some (whole (object_asked r).kind (object_asked r).instance (number_told (property_asked r)))
 
 -- what it wrote; nothing where it was answered with an Error
 abbrev pub written_by : world.Performed → Option Reference

@@ -1,10 +1,8 @@
 -- The request that was performed, as a C program is told.
 use Rattle.std.specs.Prelude.{◌≡◌, MatchOption, ℕ, ℤ, pos, Bool, true, false, List, [], ◌∷◌, Option, Some, None}
 use Rattle.bac_responder.specs.declared.served.Act.{Act}
-use Rattle.bac_service.specs.Values.{Request, Reference, ReadAccess, WriteAccess, held}
-use Rattle.bac_service.specs.Values.Request.{ReadFile, WriteFile, ReadProperty, WriteProperty}
-use Rattle.bac_service.specs.Values.ReadAccess.{ReadStream, ReadRecords}
-use Rattle.bac_service.specs.Values.WriteAccess.{WriteStream, WriteRecords}
+use Rattle.bac_service.specs.Values.{object_asked, priority_asked, property_asked, start_asked}
+use Rattle.bac_service.specs.Values.{Request, Reference, choice_of, held}
 use Rattle.bac_service.specs.Replies as reply
 use Rattle.bac_value.specs.Value.{ObjectId}
 use Rattle.bac_world.specs.Services as world
@@ -44,19 +42,17 @@ abbrev pub of_file : (service : ℕ) → (link : List ℕ) → (done : Bool) →
 of_file service link done f position =
     record { link = link; service = service; done = done; object_type = f.kind; priority = 0; instance = f.instance; property = 0; index = 0; position = position }
 
-abbrev read_start : ReadAccess → ℤ
-read_start (ReadStream start count) = start
-read_start (ReadRecords start count) = start
+-- where a file is read or written; 0 of a property
+abbrev pub start_told : Option ℤ → ℤ
+start_told None = pos 0
+start_told (Some start) = start
 
-abbrev write_start : WriteAccess → ℤ
-write_start (WriteStream start octets) = start
-write_start (WriteRecords start count run) = start
+abbrev pub told_by : (link : List ℕ) → (done : Bool) → Request → Option Reference → Performed
+told_by link done r None = of_file (choice_of r) link done (object_asked r) (start_told (start_asked r))
+told_by link done r (Some reference) = of_property (choice_of r) link done reference (priority_told (priority_asked r))
 
 abbrev pub request_told : (link : List ℕ) → (done : Bool) → Request → Performed
-request_told link done (ReadFile f access) = of_file 6 link done f (read_start access)
-request_told link done (WriteFile f access) = of_file 7 link done f (write_start access)
-request_told link done (ReadProperty r) = of_property 12 link done r 0
-request_told link done (WriteProperty r values priority) = of_property 15 link done r (priority_told priority)
+request_told link done r = told_by link done r (property_asked r)
 
 abbrev pub performed_told : world.Performed → Performed
 performed_told p = request_told p.key.peer.link (is_done p.reply) p.request

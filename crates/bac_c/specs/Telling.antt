@@ -1,7 +1,9 @@
 -- The cells that a C program is told: what a store has now of a property, or of a file.
 use Rattle.std.specs.Prelude.{◌<◌, ℕ, zero, suc, Bool, ◌&&◌, ◌==◌, nat_lt, List, [], ◌∷◌, Option, Some, None, if◌then◌else◌}
 use Rattle.bac_value.specs.Value.{ObjectId}
-use Rattle.bac_service.specs.Values.Request.{ReadFile, WriteFile, ReadProperty, WriteProperty}
+use Rattle.bac_service.specs.Choices.{is_read_service}
+use Rattle.bac_service.specs.Values.{object_asked, property_asked, service_asked}
+use Rattle.bac_service.specs.Values.{Reference}
 use Rattle.bac_store.specs.AtNode.{Change}
 use Rattle.bac_store.specs.Stores.{File, Property, Store}
 use Rattle.bac_store.specs.Writes.{file_at, listed_at}
@@ -26,6 +28,10 @@ octets_in (Some t) = t.octets
 -- this number in place of a property means the octets of a file
 abbrev pub CONTENTS : ℕ
 CONTENTS = 4294967295
+
+abbrev pub number_told : Option Reference → ℕ
+number_told None = CONTENTS
+number_told (Some r) = r.property
 
 -- ---- of a property: one cell, where the network may write it
 
@@ -81,18 +87,17 @@ put_all s id n cells = put_first (told s id n) (count_told s id n) cells
 
 -- those of what a node has made of its store, which it has now; a read changes nothing
 abbrev pub put_made : Store → Made → Cells → Cells
-put_made s (Performed (ReadFile id access)) cells = cells
-put_made s (Performed (WriteFile id access)) cells = put_all s id CONTENTS cells
-put_made s (Performed (ReadProperty r)) cells = cells
-put_made s (Performed (WriteProperty r values priority)) cells = put_all s r.object r.property cells
+put_made s (Performed r) cells =
+    if is_read_service (service_asked r) then cells else put_all s (object_asked r) (number_told (property_asked r)) cells
 put_made s (Changed (Change.Value id n octets)) cells = put_all s id n cells
 put_made s (Changed (Change.File id octets)) cells = put_all s id CONTENTS cells
 
 -- clauses 20.2.14 and 23.1: an identifier has 32 bits, and the number of a property 22
+abbrev pub IsPlace : ObjectId → Option Reference → Type 0
+IsPlace id None = Fits id
+IsPlace id (Some r) = Fits id × (r.property < NUMBERS)
+
 abbrev pub HasPlaces : Made → Type 0
-HasPlaces (Performed (ReadFile id access)) = Unit {0}
-HasPlaces (Performed (WriteFile id access)) = Fits id
-HasPlaces (Performed (ReadProperty r)) = Unit {0}
-HasPlaces (Performed (WriteProperty r values priority)) = Fits r.object × (r.property < NUMBERS)
+HasPlaces (Performed r) = if is_read_service (service_asked r) then Unit {0} else IsPlace (object_asked r) (property_asked r)
 HasPlaces (Changed (Change.Value id n octets)) = Fits id × (n < NUMBERS)
 HasPlaces (Changed (Change.File id octets)) = Fits id

@@ -2,10 +2,10 @@
 ghost use Rattle.std.specs.Prelude.{◌≡◌, is_some, MatchOption};
 ghost use Rattle.std.specs.Option.{option_map};
 ghost use Rattle.bac_node.specs.Views.{performed_view};
-ghost use Rattle.bac_service.specs.Views.{owned_request_view};
+ghost use Rattle.bac_service.specs.Views.{property_reference_view, request_view};
 ghost use Rattle.bac_c.specs.Keeping.{cell_in, count_in, target_of as plain_target, whole as plain_whole, written_by as plain_written, written_in};
 ghost use Rattle.bac_c.specs.Results.{IsCopied, IsTold};
-ghost use Rattle.bac_c.specs.Telling.{octets_in, place_in};
+ghost use Rattle.bac_c.specs.Telling.{number_told, octets_in, place_in};
 
 use crate::handle::Handle;
 use crate::performing::is_done;
@@ -13,7 +13,7 @@ use crate::ranges::identifier_of;
 use crate::records::Reference;
 use crate::telling::{CONTENTS, cell_out, cells_of};
 use bac_responder::Act;
-use bac_service::{AnyRequest, OwnedRequest};
+use bac_service::{PropertyReference, Request};
 use bac_value::ObjectIdentifier;
 use std::alloc::Global;
 
@@ -29,17 +29,24 @@ fn whole(object: ObjectIdentifier, property: u32) -> Reference
     }
 }
 
-/// What a request writes; None of one that reads.
-fn target_of(request: &OwnedRequest) -> Option<Reference>
-    ensures { result ≡ plain_target (owned_request_view request.now) }
+/// The number of a property; of a file that of its octets.
+fn number_of(property: Option<PropertyReference>) -> u32
+    ensures { result ≡ number_told (option_map property_reference_view property) }
 {
-    match request {
-        AnyRequest::WriteFile(write) => Some(whole(write.file, CONTENTS)),
-        AnyRequest::WriteProperty(write) => {
-            Some(whole(write.reference.object, write.reference.property))
-        }
-        AnyRequest::ReadFile(_) | AnyRequest::ReadProperty(_) => None,
+    match property {
+        Some(reference) => reference.property,
+        None => CONTENTS,
     }
+}
+
+/// What a request writes; None of one that reads.
+fn target_of(request: Request<'_>) -> Option<Reference>
+    ensures { result ≡ plain_target (request_view request.entry) }
+{
+    if request.service().is_read() {
+        return None;
+    }
+    Some(whole(request.object(), number_of(request.property())))
 }
 
 /// What was written by a request that was performed.
@@ -47,7 +54,7 @@ fn written_by(act: &Act) -> Option<Reference>
     ensures { result ≡ plain_written (performed_view act.now) }
 {
     if is_done(&act.effect.reply) {
-        target_of(&act.effect.request)
+        target_of(act.effect.request.as_request())
     } else {
         None
     }

@@ -1,20 +1,16 @@
 //! The request that was performed, so that a C program acts on it.
 ghost use Rattle.std.specs.Prelude.{◌≡◌};
 ghost use Rattle.bac_node.specs.Views.{performed_view};
-ghost use Rattle.bac_service.specs.Values.{held};
-ghost use Rattle.bac_service.specs.Views.{priority_view, owned_reply_view, owned_request_view, property_reference_view};
+ghost use Rattle.bac_service.specs.Views.{priority_view, owned_reply_view, property_reference_view, request_view};
 ghost use Rattle.bac_value.specs.Views.{object_identifier_view};
-ghost use Rattle.bac_c.specs.Performing.{is_done, nothing_performed, octets_written, of_file as plain_file, of_property as plain_property, performed_told, priority_told, request_told, TellsAct};
+ghost use Rattle.bac_c.specs.Performing.{is_done, nothing_performed, octets_written, of_file as plain_file, of_property as plain_property, performed_told, priority_told, request_told, start_told, TellsAct};
 ghost use Rattle.bac_c.specs.Results.{IsCopied};
 
 use crate::copying::copy_out;
 use crate::handle::Handle;
 use crate::records::Performed;
 use bac_responder::Act;
-use bac_service::{
-    AnyReply, AnyRequest, OwnedReply, OwnedRequest, Priority, PropertyReference, ReadAccess,
-    WriteAccess,
-};
+use bac_service::{AnyReply, OwnedReply, Priority, PropertyReference, Request};
 use bac_value::ObjectIdentifier;
 use std::alloc::Global;
 
@@ -101,37 +97,29 @@ pub(crate) fn is_done(reply: &OwnedReply) -> bool
     }
 }
 
-fn told(link: [u8; 6], done: bool, request: &OwnedRequest) -> Performed
-    ensures { result ≡ request_told link done (owned_request_view request.now) }
+/// Where a file is read or written; 0 of a property.
+fn position_of(start: Option<i64>) -> i64
+    ensures { result ≡ start_told start }
 {
-    match request {
-        AnyRequest::ReadFile(read) => match read.access {
-            ReadAccess::Stream { start, .. } => of_file(6, link, done, &read.file, start),
-            ReadAccess::Records { start, .. } => of_file(6, link, done, &read.file, start),
-        },
-        AnyRequest::WriteFile(write) => match &write.access {
-            WriteAccess::Stream(stream) => of_file(7, link, done, &write.file, stream.start),
-            WriteAccess::Records(records) => of_file(7, link, done, &write.file, records.start),
-        },
-        AnyRequest::ReadProperty(reference) => of_property(12, link, done, reference, 0),
-        AnyRequest::WriteProperty(write) => {
-            of_property(15, link, done, &write.reference, level(&write.priority))
-        }
+    match start {
+        Some(start) => start,
+        None => 0,
     }
 }
 
-/// The octets that a request wrote; none of one that reads.
-fn written(request: &OwnedRequest) -> &[u8]
-    ensures { result.now ≡ held (owned_request_view request.now) }
+fn told(link: [u8; 6], done: bool, request: Request<'_>) -> Performed
+    ensures { result ≡ request_told link done (request_view request.entry) }
 {
-    match request {
-        AnyRequest::WriteFile(write) => match &write.access {
-            WriteAccess::Stream(stream) => &stream.content.octets,
-            WriteAccess::Records(records) => &records.records.run,
-        },
-        AnyRequest::WriteProperty(write) => &write.values.octets,
-        AnyRequest::ReadFile(_) => &[],
-        AnyRequest::ReadProperty(_) => &[],
+    let service = request.choice();
+    match request.property() {
+        Some(reference) => of_property(service, link, done, &reference, level(&request.priority())),
+        None => of_file(
+            service,
+            link,
+            done,
+            &request.object(),
+            position_of(request.start()),
+        ),
     }
 }
 
@@ -140,7 +128,7 @@ fn performed_of(act: &Act) -> Performed
     ensures { result ≡ performed_told (performed_view act.now) }
 {
     let done = is_done(&act.effect.reply);
-    told(act.key.peer.link, done, &act.effect.request)
+    told(act.key.peer.link, done, act.effect.request.as_request())
 }
 
 /// Puts out the request that was performed, if one was, and copies the octets that it wrote out: how many they are. Where they are more than there is room,
@@ -164,7 +152,7 @@ pub extern "C" fn bac_performed(
     let len = match &device.outcome.effect {
         Some(act) => {
             *performed = performed_of(act);
-            copy_out(written(&act.effect.request), out)
+            copy_out(act.effect.request.as_request().octets(), out)
         }
         None => {
             *performed = nothing();

@@ -1,13 +1,14 @@
 -- What turns change, counted one by one, and that the others change nothing.
-use Rattle.std.proofs.Common.{◌≡◌, ℕ, ◌+◌, ◌≤◌, Bool, true, false, ◌&&◌, ◌||◌, if◌then◌else◌, List, [], ◌∷◌, ◌++◌, map, length, Option, Some, None}
+use Rattle.std.proofs.Common.{◌≡◌, ℕ, ◌+◌, ◌≤◌, Bool, true, false, ◌&&◌, ◌||◌, not, if◌then◌else◌, List, [], ◌∷◌, ◌++◌, map, length, Option, Some, None}
 use Rattle.std.proofs.Common.{refl, ap, sym, ◌∙◌, arith}
 use Rattle.std.proofs.lemmas.List.{map-append}
 use Rattle.std.specs.Prelude.{IfSome}
-use Rattle.bac_service.specs.Values.{Request}
-use Rattle.bac_service.specs.Values.Request.{ReadFile, WriteFile, ReadProperty, WriteProperty}
-use Rattle.bac_store.specs.Changes.{after, done, is_done}
+use Rattle.bac_service.specs.Choices.{is_read_choice}
+use Rattle.bac_service.specs.Values.{Request, choice_of}
+use Rattle.bac_store.specs.Changes.{after, is_done}
 use Rattle.bac_store.specs.Replies.{reply_to}
 use Rattle.bac_store.specs.Stores.{Store}
+use Rattle.bac_store.proofs.WriteLaws.{error_changes_nothing, reads_change_nothing}
 use Rattle.bac_world.specs.Services.{Performed, store_after}
 use Rattle.bac_driver.specs.Rounds.{HasNoted, IsReplied, change_store, changes_store, is_change_of, is_write}
 use Rattle.bac_driver.specs.Serving.{count_of, performed_in}
@@ -47,26 +48,11 @@ changed_more (x ∷ xs) turn =
 -- ---- turns that change nothing
 
 unchanged_by : (s : Store) (r : Request) → (is_write r && is_done (reply_to s r)) ≡ false → after s r ≡ s
-unchanged_by s (ReadFile id access) none = go (is_done (reply_to s (ReadFile id access)))
+unchanged_by s r none = go (is_read_choice (choice_of r)) refl none
   where
-    go : (b : Bool) → (if b then s else s) ≡ s
-    go true = refl
-    go false = refl
-unchanged_by s (ReadProperty r) none = go (is_done (reply_to s (ReadProperty r)))
-  where
-    go : (b : Bool) → (if b then s else s) ≡ s
-    go true = refl
-    go false = refl
-unchanged_by s (WriteFile id access) none = go (is_done (reply_to s (WriteFile id access))) none
-  where
-    go : (b : Bool) → b ≡ false → (if b then done (WriteFile id access) s else s) ≡ s
-    go true is = absurd (cc)
-    go false is = refl
-unchanged_by s (WriteProperty r values priority) none = go (is_done (reply_to s (WriteProperty r values priority))) none
-  where
-    go : (b : Bool) → b ≡ false → (if b then done (WriteProperty r values priority) s else s) ≡ s
-    go true is = absurd (cc)
-    go false is = refl
+    go : (b : Bool) → is_read_choice (choice_of r) ≡ b → (not b && is_done (reply_to s r)) ≡ false → after s r ≡ s
+    go true read none = reads_change_nothing s r read
+    go false read none = error_changes_nothing s r none
 
 unchanged : (s : Store) (p : Option Performed) → IfSome p (IsReplied s) → is_change_of p ≡ false → store_after s p ≡ s
 unchanged s None replied none = refl

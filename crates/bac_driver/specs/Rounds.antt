@@ -1,8 +1,8 @@
 -- A round of a node whose store is kept: turns whose sends are held, then what they changed is kept, and then all that they send leaves.
-use Rattle.std.specs.Prelude.{◌≡◌, ◌⊎◌, ◌<◌, ◌≤◌, ◌+◌, ◌^◌, ◌-◌, ◌&&◌, ◌||◌, min, max, ℕ, Bool, true, false}
+use Rattle.std.specs.Prelude.{◌≡◌, ◌⊎◌, ◌<◌, ◌≤◌, ◌+◌, ◌^◌, ◌-◌, ◌&&◌, ◌||◌, not, min, max, ℕ, Bool, true, false}
 use Rattle.std.specs.Prelude.{List, [], ◌∷◌, ◌++◌, length, Option, Some, None}
-use Rattle.bac_service.specs.Values.{Request}
-use Rattle.bac_service.specs.Values.Request.{ReadFile, WriteFile, ReadProperty, WriteProperty}
+use Rattle.bac_service.specs.Choices.{is_read_choice}
+use Rattle.bac_service.specs.Values.{Request, choice_of}
 use Rattle.bac_store.specs.Changes.{is_done}
 use Rattle.bac_store.specs.Replies.{reply_to}
 use Rattle.bac_store.specs.Stores.{Store}
@@ -33,10 +33,7 @@ ROUND = 32
 -- ---- what a turn changes, and what it sends
 
 abbrev pub is_write : Request → Bool
-is_write (ReadFile id access) = false
-is_write (WriteFile id access) = true
-is_write (ReadProperty r) = false
-is_write (WriteProperty r values priority) = true
+is_write r = not (is_read_choice (choice_of r))
 
 -- a write whose reply is not an Error
 abbrev pub is_change : Performed → Bool

@@ -74,6 +74,7 @@ impl<L: Link> BoundNode<L> {
             let Some(turn) = self.turn_before(clock, &limit.wait_limit)? else {
                 return Ok(None);
             };
+            // the ending is taken out of the turn next, so the observer sees it before
             observer.on_turn(self.node(), self.buffer(), &turn, out);
             if let Some(ending) = ending_in(turn, ticket) {
                 return Ok(Some(ending));
@@ -105,6 +106,7 @@ impl<L: Link> BoundNode<L> {
     {
         let ticket = match self.begin_by(clock, question) {
             Ok(ticket) => ticket,
+            // as in a turn; any other refusal is what the ask came to
             Err(AskFault::ClockBack) => return Err(TurnFault::ClockBack),
             Err(fault) => return Ok(AskEnd::Refused(fault)),
         };
@@ -114,7 +116,7 @@ impl<L: Link> BoundNode<L> {
         }
     }
 
-    /// The same without an observer.
+    /// Asks and waits as [`ask_observed`](BoundNode::ask_observed) does, without an observer. The faults are the same.
     pub fn ask<C: Clock>(
         &mut self,
         clock: &mut C,

@@ -38,9 +38,10 @@ const BUFFER: usize = 2_048;
 
 /// A node on its link, with a buffer of 2,048 octets for what comes.
 ///
-/// To serve, call [`serve`](BoundNode::serve); to ask and wait for the answer, call [`ask`](BoundNode::ask). Both take turns. A program that does more at once
-/// calls [`begin`](BoundNode::begin) for each ask, and then [`turn_by`](BoundNode::turn_by) or [`turn_before`](BoundNode::turn_before) again and again: each
-/// turn waits until a datagram comes or something is due, so no call to [`Node::next_due`](bac_node::Node::next_due) is needed.
+/// To serve, call [`serve`](BoundNode::serve); to ask and wait for the answer, call [`ask`](BoundNode::ask). Both take turns. A program that does
+/// more at once calls [`begin`](BoundNode::begin) for each ask. Then it calls [`turn_by`](BoundNode::turn_by) or
+/// [`turn_before`](BoundNode::turn_before) again and again. Each turn waits until a datagram comes or something is due, so no call to
+/// [`Node::next_due`](bac_node::Node::next_due) is needed.
 #[derive(Drop)]
 pub struct BoundNode<L: Link> {
     node: Node,
@@ -143,6 +144,7 @@ impl<L: Link> BoundNode<L> {
         ensures { IsWait wait_limit.now now self.now.node result }
     {
         let most = wait_until(wait_limit.wait, now, wait_limit.until);
+        // no wait goes past the moment at which the node has something to do
         wait_until(most, now, self.node.next_due())
     }
 
@@ -177,6 +179,7 @@ impl<L: Link> BoundNode<L> {
         ensures taken { IsTaken now self.old (turn_view result) self.new }
         ensures received { result.received ≡ received }
     {
+        // before the tick, so that an answer counts that came as its timer ran out
         let heard = on_received(&mut self.node, &self.rules, now, received, &self.buffer);
         let ticked = on_due(&mut self.node, now);
         Turn {
@@ -233,8 +236,8 @@ impl<L: Link> BoundNode<L> {
         Ok(self.act(now, received))
     }
 
-    /// Takes one turn that begins at a moment, as `turn`; but the call to receive waits as long as `wait_limit` says, and after it the node acts at the moment
-    /// of the clock, or at the first one where the clock went back meanwhile.
+    /// Takes one turn that begins at a moment, as `turn`, but the call to receive waits as long as `wait_limit` says. After it the node acts at the
+    /// moment of the clock, or at the first one if the clock went back meanwhile.
     pub(crate) fn turn_from<C: Clock>(
         &mut self,
         began: u64,

@@ -11,7 +11,7 @@ ghost use Rattle.bac_driver.specs.Views.{turn_view};
 use crate::turn::Turn;
 use bac_keep::{KeepFault, Keeper, note_request};
 use bac_responder::Act;
-use bac_service::{AnyReply, AnyRequest, OwnedReply};
+use bac_service::{AnyReply, OwnedReply, is_read_choice};
 use bac_store::{Store, writes_change_one_thing};
 
 /// Whether a reply is not an Error.
@@ -28,10 +28,7 @@ fn is_done(reply: &OwnedReply) -> bool
 fn is_change(act: &Act) -> bool
     ensures { result ≡ is_change (performed_view act.now) }
 {
-    match &act.effect.request {
-        AnyRequest::WriteFile(_) | AnyRequest::WriteProperty(_) => is_done(&act.effect.reply),
-        AnyRequest::ReadFile(_) | AnyRequest::ReadProperty(_) => false,
-    }
+    !is_read_choice(act.effect.request.as_request().choice()) && is_done(&act.effect.reply)
 }
 
 impl Turn {
@@ -62,6 +59,7 @@ pub(crate) fn note_turn<K: Keeper>(
     ensures crash { FindsNoMore K.IsHonest K.may_find keeper.old keeper.new }
     ensures base { K.base keeper.new ≡ K.base keeper.old }
 {
+    // a read, and a request whose reply is an Error, change nothing, so the keeper needs to hear of no other
     writes_change_one_thing();
     let Some(act) = turn.effect() else {
         return Ok(());

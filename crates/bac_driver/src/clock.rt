@@ -47,6 +47,7 @@ impl<'a, R: std::time::Clock> Clock for MonotonicClock<'a, R> {
     {
         if let Ok(now) = Instant::now(self.runtime) {
             let passed = now.duration_since(self.start).as_millis();
+            // never back, whatever the machine's clock does
             self.latest = self.latest.max(u64::try_from(passed).unwrap_or(u64::MAX));
         }
         self.latest

@@ -38,6 +38,7 @@ fn ending_of(step: Option<Outcome>, ticket: u64) -> Option<Ending>
 pub(crate) fn ending_in(turn: Turn, ticket: u64) -> Option<Ending>
     ensures { option_map ending_view result ≡ ending_in ticket (turn_view turn) }
 {
+    // an ending is reported once, so it is in one of the two steps at most
     match ending_of(turn.heard, ticket) {
         Some(ending) => Some(ending),
         None => ending_of(turn.ticked, ticket),

@@ -31,7 +31,7 @@ impl<L: Link> BoundNode<L> {
         Ok(self.take(now, received))
     }
 
-    /// The same, and the keeper notes what it changed.
+    /// Takes a turn as `hold_turn` does, and then the keeper notes what it changed. After `Keep` the turn is taken, and what it sends is lost.
     pub(crate) fn hold_from<C: Clock, K: Keeper>(
         &mut self,
         began: u64,

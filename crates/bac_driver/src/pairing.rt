@@ -13,8 +13,8 @@ use crate::wait_limit::WaitLimit;
 use crate::{Clock, Link};
 use bac_requester::{AskFault, Ending};
 
-/// How long the second node may wait after a turn of the first: until something is due at that one, and not at all where a datagram came to it, since more may
-/// have come.
+/// How long the second node may wait after a turn of the first: until something is due at the first one. If a datagram has come to the first, it does
+/// not wait at all, since more may have come.
 fn wait_limit_beside<L: Link>(first: &BoundNode<L>, turn: &Turn) -> WaitLimit
     ensures { IsBeside first.now.node (turn_view turn.now) result }
 {
@@ -43,6 +43,7 @@ fn take_round<L: Link, C: Clock>(
     match second.turn_by(clock, &wait_limit_beside(first, &turn)) {
         Ok(_) => {}
         Err(fault) => {
+            // the first node keeps what its turn did, but only the fault is told
             drop(turn);
             return Err(fault);
         }
@@ -72,9 +73,11 @@ fn wait<L: Link, C: Clock>(
     Ok(None)
 }
 
-/// As `BoundNode::ask` of the first, with a second node that takes one turn on its own link after each turn of the first. The first does not wait, and the
-/// second until something is due at either node, or a datagram comes; where one has just come to the first, it does not wait either. `Link` and `ClockBack` are
-/// those of either node.
+/// The first node asks, and both take turns until the transaction has ended, or so many turns of each were taken. After each turn of the first, the
+/// second takes one on its own link.
+///
+/// The first does not wait. The second waits until something is due at either node, or a datagram comes. If one has just come to the first, the
+/// second does not wait either. `Link` and `ClockBack` are those of either node; an ask that the first one refuses is in the result.
 pub fn pair<L: Link, C: Clock>(
     first: &mut BoundNode<L>,
     second: &mut BoundNode<L>,

@@ -16,6 +16,7 @@ pub struct Round<K> {
     pub(crate) turns: Vec<Turn>,
     pub(crate) performed: u64,
     pub(crate) is_changed: bool,
+    // so that a turn is remembered without an allocation
     ghost room: { MOST ≤ vec_capacity turns },
     ghost counted: { performed ≡ performed_in (map turn_view turns.items) },
     ghost changed: { is_changed ≡ change_store (map turn_view turns.items) },

@@ -83,6 +83,7 @@ impl<K: Keeper> Round<K> {
         let is_changed = either(self.is_changed, turn.changes_store());
         self.performed += more;
         self.is_changed = is_changed;
+        // `new` took the room, and no round has more turns
         self.turns.push_reserved(turn);
     }
 
@@ -183,6 +184,7 @@ impl<L: Link> BoundNode<L> {
             if !round.may_go_on() {
                 return Ok(());
             }
+            // each later turn begins where the one before it ended
             let began = self.node().latest();
             let turn = self.hold_from(began, clock, &WaitLimit::AT_ONCE, &mut round.keeper)?;
             observer.on_turn(self.node(), self.buffer(), &turn, out);
@@ -191,9 +193,10 @@ impl<L: Link> BoundNode<L> {
         Ok(())
     }
 
-    /// Takes one round that begins before `wait_limit.until`, if there is one. Its first turn is as [`turn_by`](BoundNode::turn_by); then it takes up to
-    /// 31 turns more without waiting, while datagrams are there. The keeper notes what each turn changed, and keeps it once if any did; only then all that
-    /// the turns send goes to the link, in order, and a send that fails is lost. The observer sees each turn before anything of the round is sent.
+    /// Takes one round that begins before `wait_limit.until`, if there is one. Its first turn is as [`turn_by`](BoundNode::turn_by); then it takes up
+    /// to 31 turns more without waiting, while datagrams are there. The keeper notes what each turn changed, and keeps it once if any did. Only then
+    /// all that the turns send goes to the link, in order; a send that fails is lost. The observer sees each turn before anything of the round is
+    /// sent.
     ///
     /// Returns how many requests were performed, 0 to 32; None where the time is over, and then nothing has changed. A round that changes nothing asks the
     /// keeper for nothing.
@@ -230,6 +233,7 @@ impl<L: Link> BoundNode<L> {
             return Ok(None);
         }
         self.hold_more(clock, round, observer, out)?;
+        // before anything is sent: what a client is told must outlast a power cut
         round.keep()?;
         self.send(&round.turns);
         Ok(Some(round.performed))
@@ -238,8 +242,8 @@ impl<L: Link> BoundNode<L> {
     /// Serves as [`serve_observed`](BoundNode::serve_observed), but in rounds, as [`round_before`](BoundNode::round_before) takes them: what a client is told
     /// is kept. `limit.turns` is the number of rounds. Returns how many requests the node performed, at most 2^64 - 1.
     ///
-    /// The faults are those of the round that stopped. The rounds before are kept, and all that they send has left; nothing of the last one was sent, and the
-    /// node is as after the turns that it held.
+    /// The faults are those of the round that stopped. The rounds before are kept, and all that they send has left. Nothing of the last one was sent,
+    /// and the node is as after the turns that it held.
     pub fn serve_kept<C: Clock, K: Keeper, W, O: Observer<W>>(
         &mut self,
         clock: &mut C,

@@ -43,7 +43,8 @@ impl<L: Link> BoundNode<L> {
         self.turn_from(began, clock, wait_limit)
     }
 
-    /// The same where it begins before `wait_limit.until`, if there is one, and the observer sees it. Returns how many requests were performed: 0 or 1.
+    /// Takes one turn as [`turn_by`](BoundNode::turn_by) does, if it begins before `wait_limit.until`, and shows it to the observer. Returns how many
+    /// requests the node performed, 0 or 1; None if the time is over, and then nothing has changed.
     fn serve_once<C: Clock, W, O: Observer<W>>(
         &mut self,
         clock: &mut C,
@@ -99,7 +100,7 @@ impl<L: Link> BoundNode<L> {
         Ok(effects)
     }
 
-    /// The same without an observer.
+    /// Serves as [`serve_observed`](BoundNode::serve_observed) does, without an observer. The faults are the same.
     pub fn serve<C: Clock>(&mut self, clock: &mut C, limit: &RunLimit) -> Result<u64, TurnFault>
         ensures served { IfOk result (λ effects. Serves limit.now.wait_limit limit.now.turns effects (timed self.old (C.told clock.old))
             (timed self.new (C.told clock.new))) }

@@ -29,7 +29,9 @@ pub(crate) fn on_received(
     let from = datagram.0;
     match node.hear(rules, now, from, &buffer[..datagram.1]) {
         Ok(outcome) => Some(outcome),
+        // as if the network had lost it: the peer sends it again
         Err(NodeFault::NoMemory) => None,
+        // `receive` has refused a moment before the node's latest one
         Err(NodeFault::ClockBack) => unreachable!(),
     }
 }
@@ -41,6 +43,7 @@ pub(crate) fn on_due(node: &mut Node, now: u64) -> Option<Outcome>
 {
     match node.tick(now) {
         Ok(outcome) => Some(outcome),
+        // the next turn ticks again
         Err(NodeFault::NoMemory) => None,
         Err(NodeFault::ClockBack) => unreachable!(),
     }

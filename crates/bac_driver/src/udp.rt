@@ -20,8 +20,8 @@ const MOST_WAIT: u64 = 86_400_000;
 /// The address of this machine that no other one reaches.
 const LOCAL_HOST: [u8; 4] = [127, 0, 0, 1];
 
-/// A UDP socket. A call of `recv` with a wait of 0 milliseconds returns at once right after one that took a datagram, so that what is there is taken
-/// without a pause; otherwise it waits 1, so that no loop spins. None waits longer than a day. A datagram that fills the buffer is dropped, since it may be the
+/// A UDP socket. A call of `recv` with a wait of 0 milliseconds returns at once if the call before it took a datagram: more may be there. Otherwise
+/// it waits 1 millisecond, so that no loop spins. None waits longer than a day. A datagram that fills the buffer is dropped, since it may be the
 /// beginning of a longer one.
 #[derive(Drop)]
 pub struct UdpLink {
@@ -128,11 +128,13 @@ impl UdpLink {
     fn set_wait(&mut self, wait: u64) -> io::Result<()>
         ensures { self.new.failures ≡ self.old.failures }
     {
+        // more may be there: look, and do not wait
         if wait == 0 && self.took {
             return self.set_nonblocking(true);
         }
         self.set_nonblocking(false)?;
         let wait = wait.max(LEAST_WAIT).min(MOST_WAIT);
+        // the socket keeps its timeout, so most waits need no call for it
         if wait != self.wait {
             self.socket
                 .set_read_timeout(Some(Duration::from_millis(wait)))?;
@@ -141,6 +143,7 @@ impl UdpLink {
         Ok(())
     }
 
+    /// Counts a failed call, and returns its fault.
     fn failed(&mut self) -> LinkFault
         ensures { self.new.failures ≡ one_more self.old.failures }
     {
@@ -175,6 +178,7 @@ impl Link for UdpLink {
         }
         match self.socket.send_to(octets, address_of(to)) {
             Ok(len) if len == octets.len() => Ok(()),
+            // an error, or only a part of the datagram was sent
             _ => Err(self.failed()),
         }
     }
@@ -196,6 +200,7 @@ impl Link for UdpLink {
                     let is_whole = len < buffer.len();
                     Ok(is_whole.then_some((from, len)))
                 }
+                // only an IPv4 address is a link (clause J.1.2)
                 None => Ok(None),
             },
             Err(error) if is_empty_wait(&error) => Ok(None),

@@ -1,30 +1,20 @@
 -- Appends to files (clause 14.2), and the replies to them. Two different replies have two positions, so the request was performed twice.
-use Rattle.std.specs.Prelude.{ℕ, zero, suc, ℤ, pos, negsuc, Bool, true, false, ◌==◌, ◌&&◌, if◌then◌else◌, is_ok, List, Some, None, Result, Ok, Err}
+use Rattle.std.specs.Prelude.{ℕ, ℤ, Bool, true, false, ◌==◌, ◌&&◌, if◌then◌else◌, is_ok, List, Option, Some, None, Result, Ok, Err}
 use Rattle.bac_apdu.specs.Apdu.{Apdu, ConfirmedRequest, UnconfirmedRequest, SimpleAck, ComplexAck, SegmentAck, Error, Reject, Abort}
 use Rattle.bac_apdu.specs.Reading.{apdu_at}
 use Rattle.bac_apdu.specs.declared.fault.ApduFault.{ApduFault}
 use Rattle.bac_service.specs.declared.service.TheConstants.{ATOMIC_WRITE_FILE}
 use Rattle.bac_service.specs.Services.{request_at, complex_at}
-use Rattle.bac_service.specs.Values.{Request, ReadFile, WriteFile, ReadProperty, WriteProperty, WriteAccess, WriteStream, WriteRecords}
+use Rattle.bac_service.specs.Values.{is_end, start_asked}
+use Rattle.bac_service.specs.Values.{Request}
 
--- -1 is the end of the file
-abbrev pub is_end : ℤ → Bool
-is_end (pos n) = false
-is_end (negsuc zero) = true
-is_end (negsuc (suc n)) = false
-
-abbrev pub is_append_access : WriteAccess → Bool
-is_append_access (WriteStream start octets) = is_end start
-is_append_access (WriteRecords start count run) = is_end start
-
-abbrev pub is_append_request : Request → Bool
-is_append_request (ReadFile file access) = false
-is_append_request (WriteFile file access) = is_append_access access
-is_append_request (ReadProperty reference) = false
-is_append_request (WriteProperty reference values priority) = false
+-- its start is -1, the end of the file
+abbrev pub starts_at_end : Option ℤ → Bool
+starts_at_end None = false
+starts_at_end (Some start) = is_end start
 
 abbrev pub are_append_data : Result Request ℕ → Bool
-are_append_data (Ok request) = is_append_request request
+are_append_data (Ok request) = starts_at_end (start_asked request)
 are_append_data (Err reason) = false
 
 -- a whole request of AtomicWriteFile that appends

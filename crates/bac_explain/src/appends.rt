@@ -1,22 +1,18 @@
 //! Appends to files, and the replies to them.
 ghost use Rattle.std.specs.Prelude.{◌≡◌, ◌&&◌, not};
 ghost use Rattle.bac_apdu.specs.Views.{apdu_view};
-ghost use Rattle.bac_service.specs.Requests.{request_view};
-ghost use Rattle.bac_explain.specs.Appends.{is_append, is_append_in, is_append_request, is_written, is_written_in, is_performed_twice};
+ghost use Rattle.bac_explain.specs.Appends.{is_append, is_append_in, is_performed_twice, is_written, is_written_in, starts_at_end};
 
 use bac_apdu::{Apdu, read};
-use bac_service::{ATOMIC_WRITE_FILE, AnyRequest, Request, WriteAccess, read_reply, read_request};
+use bac_service::{ATOMIC_WRITE_FILE, read_reply, read_request};
 
-/// Whether a request appends to a file: its start position is -1.
-fn is_append_request(request: Request<'_>) -> bool
-    ensures { result ≡ is_append_request (request_view request.entry) }
+/// Whether a start position or record is the end of the file.
+fn starts_at_end(start: Option<i64>) -> bool
+    ensures { result ≡ starts_at_end start }
 {
-    match request {
-        AnyRequest::WriteFile(write) => match write.access {
-            WriteAccess::Stream(stream) => stream.start == -1,
-            WriteAccess::Records(records) => records.start == -1,
-        },
-        _ => false,
+    match start {
+        Some(start) => start == -1,
+        None => false,
     }
 }
 
@@ -34,7 +30,7 @@ fn is_append_in(apdu: Apdu<'_>) -> bool
         return false;
     };
     match read_request(ATOMIC_WRITE_FILE, service) {
-        Ok(request) => is_append_request(request),
+        Ok(request) => starts_at_end(request.start()),
         Err(_) => false,
     }
 }

@@ -9,6 +9,7 @@ pub(crate) const BITS: u8 = 32;
 pub(crate) fn first_bits(bits: u8, host: u32) -> u64
     ensures { result ≡ first_bits bits host }
 {
+    // a u64, since a u32 takes no shift by 32 bits
     u64::from(host) >> BITS.saturating_sub(bits)
 }
 

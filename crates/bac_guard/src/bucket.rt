@@ -41,19 +41,21 @@ impl Bucket {
         }
     }
 
-    /// The same, filled until a moment by so many octets a second.
+    /// The bucket at a moment, in milliseconds. It has filled since its last one by `rate` octets a second, but not above a full one.
     fn filled(&self, rate: u64, now: u64) -> Bucket
         ensures { result ≡ filled rate now self.now }
     {
         let passed = now.saturating_sub(self.until);
+        // octets a second times milliseconds are thousandths of an octet
         let more = self.left.saturating_add(rate.saturating_mul(passed));
         Bucket {
+            // what came from its addresses may have filled it above full, and stays
             left: self.left.max(full(rate).min(more)),
             until: self.until.max(now),
         }
     }
 
-    /// The same, after so many octets came at a moment from an address of it.
+    /// The bucket after so many octets came at a moment, in milliseconds, from one of its addresses. `rate` is in octets a second.
     pub(crate) fn credited(&self, rate: u64, now: u64, octets: u64) -> Bucket
         ensures { result ≡ credited octets (filled rate now self.now) }
     {
@@ -72,7 +74,8 @@ impl Bucket {
         octets <= self.left / EACH
     }
 
-    /// The same, after so many octets are sent at a moment to an address of it, and whether they fit; where they do not, none is sent.
+    /// The bucket after so many octets are to go at a moment, in milliseconds, to one of its addresses, and whether they fit. Where they do not, none
+    /// is sent, and the bucket has only filled. `rate` is in octets a second.
     pub(crate) fn spent(&self, rate: u64, now: u64, octets: u64) -> (Bucket, bool)
         ensures bucket { result.0 ≡ spent octets (filled rate now self.now) }
         ensures fits { result.1 ≡ fits octets (filled rate now self.now) }

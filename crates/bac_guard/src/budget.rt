@@ -50,6 +50,7 @@ fn place_of(key: u64, host: [u8; 4]) -> usize
     ensures place { result ≡ place_of key (number_of host) }
     ensures within { result < PLACES }
 {
+    // the upper ten bits of the product choose one of 1,024 places; which ones share a place depends on the key
     let product = key.wrapping_mul(2 * number_of(host) + 1);
     (product / LOWER) as usize
 }
@@ -66,7 +67,7 @@ impl Budget {
         })
     }
 
-    /// So many octets came at a moment from an address.
+    /// Counts octets that came from an address at a moment, in milliseconds: three times as many more may be sent to its bucket.
     pub fn credit(&mut self, now: u64, host: [u8; 4], octets: usize)
         ensures { self.new ≡ table_after (traffic (number_of host) (Came now octets)) self.old }
     {

@@ -13,8 +13,8 @@ use crate::sources::Sources;
 use bac_driver::{Clock, Link, LinkFault};
 use bac_npdu::LinkAddress;
 
-/// A link over another one. It hears the datagrams of some sources and drops all others, as if the network had lost them; and it drops what it is to send where
-/// its receiver was sent enough. So who forges an address moves a node to send it little more than it could send itself.
+/// A link over another one. It hears the datagrams of some sources and drops all others, as if the network had lost them. It also drops what it is to
+/// send where its receiver was sent enough. So who forges an address moves a node to send it little more than it could send itself.
 #[derive(Drop)]
 pub struct Guarded<L, C> {
     link: L,

@@ -3,7 +3,8 @@ ghost use Rattle.std.specs.Prelude.{ℕ, List};
 ghost use Rattle.bac_guard.specs.Buckets.{Event, IsBounded};
 ghost use Rattle.bac_guard.specs.Budgets.{IsHostBounded, Traffic};
 
-/// What is sent through a bucket is bounded: no more than a full one has, three times what came, and what the rate gives in the time that went by.
+/// What is sent through a bucket is bounded. It is no more than a full one has, three times what came, and what the rate gives in the time that went
+/// by.
 pub fn what_is_sent_is_bounded()
     ensures { (rate began : ℕ) (events : List Event) → IsBounded rate began events }
 {}

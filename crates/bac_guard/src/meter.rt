@@ -26,7 +26,8 @@ impl<C: Clock> Meter<C> {
         self.spares_loopback && is_loopback(link)
     }
 
-    /// So many octets came from a link.
+    /// Counts octets that came from a link, at the moment of the clock: more may then be sent there. It does nothing where what is sent is not
+    /// bounded.
     pub(crate) fn credit(&mut self, from: LinkAddress, octets: usize)
         ensures { IsCredited from octets (meter_view C.told self.old) (meter_view C.told self.new) }
     {

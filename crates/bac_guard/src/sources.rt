@@ -48,8 +48,8 @@ impl Sources {
         sources
     }
 
-    /// The addresses that no router of the Internet forwards: those of the loopback, 127.0.0.0/8; private ones, 10.0.0.0/8, 172.16.0.0/12 and 192.168.0.0/16
-    /// (RFC 1918); shared ones, 100.64.0.0/10 (RFC 6598); and those of one link, 169.254.0.0/16 (RFC 3927).
+    /// The addresses that no router of the Internet forwards. These are the loopback, 127.0.0.0/8, and private ones, 10.0.0.0/8, 172.16.0.0/12 and
+    /// 192.168.0.0/16 (RFC 1918). Shared ones, 100.64.0.0/10 (RFC 6598), and those of one link, 169.254.0.0/16 (RFC 3927), belong to them.
     pub fn local() -> Sources
         ensures { blocks_of result ≡ LOCAL }
     {

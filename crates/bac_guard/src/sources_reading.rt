@@ -13,6 +13,7 @@ use std::net::Ipv4Addr;
 /// The text that hears all sources.
 const WORD: &str = "any";
 
+/// Whether an octet is a decimal digit in ASCII.
 fn is_digit(octet: u8) -> bool
     ensures { result ≡ is_digit octet }
 {
@@ -26,6 +27,7 @@ fn at_most(most: u8, number: u8) -> Option<u8>
     if number <= most { Some(number) } else { None }
 }
 
+/// The number of one digit. None of any other octet.
 fn one_digit(units: u8) -> Option<u8>
     ensures { result ≡ one_digit units }
 {
@@ -36,6 +38,7 @@ fn one_digit(units: u8) -> Option<u8>
     }
 }
 
+/// The number of two digits without a leading 0, if it is at most 32. None of any other octets.
 fn two_digits(tens: u8, units: u8) -> Option<u8>
     ensures { result ≡ two_digits tens units }
 {

@@ -1,3 +1,4 @@
 pub mod Elements
 pub mod Utf8
 pub mod Sole
+pub mod Named

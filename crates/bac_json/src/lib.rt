@@ -7,6 +7,7 @@
 mod apdu;
 mod layers;
 mod members;
+mod named;
 mod npdu;
 mod reply;
 mod request;

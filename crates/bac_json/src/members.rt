@@ -1,5 +1,5 @@
 //! Objects of JSON, one member after another.
-ghost use Rattle.std.specs.Prelude.{◌≡◌, true, IfOk};
+ghost use Rattle.std.specs.Prelude.{◌≡◌, false, true, IfOk};
 ghost use Rattle.bac_json.specs.Members.{Extends, is_whole, members_in};
 ghost use Rattle.serde_json.specs.Data.{boolean, no_members, number, object, put as with_member, string, unsigned};
 ghost use Rattle.serde_json.specs.View.{view};
@@ -72,6 +72,14 @@ impl Members {
         ensures { Extends (with_member key.now (boolean value)) self result }
     {
         self.json(key, Json::from(value))
+    }
+
+    /// The same, where memory is out for one more member.
+    pub(crate) fn lost(mut self) -> Members
+        ensures { is_whole result ≡ false }
+    {
+        self.is_whole = false;
+        self
     }
 
     /// The object. An Err is out of memory, at any member.

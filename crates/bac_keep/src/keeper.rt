@@ -10,9 +10,9 @@ use bac_store::Store;
 
 /// Who keeps what a node makes of its store, so that the next start finds it.
 ///
-/// A node [notes](Keeper::note) each request that it performs and each local change that it makes, right after it, and then
-/// [keeps](Keeper::keep) all of them together before its replies leave. After an `Err` nothing more is kept, and the node must not
-/// send what it has not sent: the next start finds the store with all that was noted since the last `keep`, or without all of it.
+/// A node [notes](Keeper::note) each request that it performs and each local change that it makes, right after it. Then it [keeps](Keeper::keep) all
+/// of them together before its replies leave. After an `Err` nothing more is kept, and the node must not send what it has not sent. The next start
+/// finds the store with all that was noted since the last `keep`, or without all of it.
 pub trait Keeper: Drop {
     /// No wrong answer of the disk was taken as true.
     ghost IsHonest: { Self → Type 0 };

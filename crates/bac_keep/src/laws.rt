@@ -10,8 +10,8 @@ ghost use Rattle.bac_keep.specs.Overlay.{CHUNK, overlay, with_file};
 
 use crate::keeper::Keeper;
 
-/// What a document and its cells make changes with the cells as the store changes: new values of a writable property are one cell, and
-/// new octets of a writable file are its chunks and their number.
+/// What a document and its cells make changes with the cells as the store changes. New values of a writable property are one cell, and new octets of
+/// a writable file are its chunks and their number.
 pub fn cells_are_writes()
     ensures value { (document : Objects) (cells : Cells) (id : ObjectId) (n : ℕ) (values : List ℕ) (p : Property) → IsInOrder document → Fits id
         → n < NUMBERS → listed_at document id n ≡ Some p → p.writable ≡ true

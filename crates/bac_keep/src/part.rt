@@ -40,6 +40,7 @@ fn object_of(number: u64) -> (ObjectIdentifier, u32)
 {
     let object = number / NUMBERS;
     let id = ObjectIdentifier {
+        // below `FILES` the type has 10 bits, so no cast loses one
         kind: (object / INSTANCES) as u16,
         instance: (object % INSTANCES) as u32,
     };
@@ -56,6 +57,7 @@ pub(crate) fn part_of(place: u64) -> Option<Part>
         let (object, property) = object_of(place);
         return Some(Part::Values { object, property });
     }
+    // an object and a number of 22 bits are 54 bits
     if place - FILES >= FILES {
         return None;
     }

@@ -41,6 +41,7 @@ pub fn note_request<K: Keeper>(
     ensures crash { K.IsHonest keeper.new → (s : Objects) → K.may_find keeper.new s → K.may_find keeper.old s }
     ensures base { K.base keeper.new ≡ K.base keeper.old }
 {
+    // a request whose reply is an Error changes nothing
     writes_change_one_thing();
     if !is_done(reply) {
         return Ok(());

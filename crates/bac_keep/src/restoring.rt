@@ -68,6 +68,7 @@ fn restore_values(
     ensures refused { IfErr result (AreBadValues store.old object property octets.now) }
 {
     let Some(listed) = store.listed(object, property) else {
+        // the document has no place for it
         return Ok(());
     };
     if !listed.writable {
@@ -126,6 +127,7 @@ fn restore_cell(
     ensures restored { OnOk result (IsRising cells.now → store.new ≡ overlay (held (drop at cells.now)) document.now) }
     ensures refused { IfErr result (λ e. IsRising cells.now → IsUnfit document.now (held cells.now) e) }
 {
+    // so that an identifier finds its object
     stores_are_in_order(document);
     let cell = &cells[at];
     match part_of(cell.place) {
@@ -143,6 +145,7 @@ fn restore_cell(
             restore_octets(alloc, store, object, &octets)?;
             Ok(())
         }
+        // read with the number of the file's chunks
         Some(Part::Chunk { .. }) => Ok(()),
     }
 }
@@ -159,6 +162,7 @@ pub fn restored(alloc: Global, document: &Store, cells: &[Cell]) -> Result<Store
     let mut store = document.copy(alloc)?;
     let count = cells.len();
     for done in 0..count {
+        // from the last cell on: each lies on top of those after it
         restore_cell(alloc, &mut store, document, cells, count - 1 - done)?;
     }
     Ok(store)

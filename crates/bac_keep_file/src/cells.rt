@@ -72,6 +72,7 @@ fn note_made<S: Store>(
     ensures counts { S.faults database.old ≤ S.faults database.new }
     ensures crash { NoMore S.recovers database.old database.new }
 {
+    // so that an identifier finds its object in both
     stores_are_in_order(document);
     stores_are_in_order(store);
     match *made {
@@ -84,6 +85,7 @@ fn note_made<S: Store>(
             note_octets(alloc, database, store, write.file)?;
             Ok(())
         }
+        // reads change nothing
         Made::Performed(_) => Ok(()),
         Made::Changed(
             Change::Value {

@@ -71,8 +71,8 @@ fn idle_among(alloc: Global, document: &Objects, cells: &[Cell]) -> Result<Vec<P
 }
 
 impl<S: Store + Drop> CellKeeper<S> {
-    /// What is kept and has no effect, in ascending order of place: values of a property, and octets of a file, that the document does not have, or that may
-    /// not be written in it. They stay, and count again once a document has a place for them.
+    /// What is kept and has no effect, in ascending order of place. These are values of a property, and octets of a file, that the document does not
+    /// have, or that may not be written in it. They stay, and count again once a document has a place for them.
     ///
     /// Returns `Database` if the database fails; `BadRow` if its table has a row that no write makes; `NoMemory` if an allocation fails. The keeper keeps and has noted what it did before.
     pub fn idle(&mut self) -> Result<Vec<Part>, KeepFault>

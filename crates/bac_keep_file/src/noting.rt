@@ -46,6 +46,7 @@ pub(crate) fn note_values<S: Store>(
     if u64::from(number) >= NUMBERS {
         return Err(KeepFault::HighNumber);
     }
+    // so that identifier, number and octets are within their limits
     stores_are_in_order(store);
     let place = value_place(object, number);
     put_cell(alloc, database, place, listed.octets, object, number)?;
@@ -108,6 +109,7 @@ fn put_file<S: Store>(
     ensures counts { S.faults database.old ≤ S.faults database.new }
     ensures crash { NoMore S.recovers database.old database.new }
 {
+    // at most 60,000 octets, so at most 59 chunks
     let count = ((octets.len() + 1023) / CHUNK) as u8;
     put_chunks(alloc, database, object, octets, count)?;
     let place = file_place(object, 0);

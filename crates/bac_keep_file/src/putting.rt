@@ -28,11 +28,12 @@ fn key_of(place: u64) -> i64
     requires { place < 2 ^ 63 }
     ensures { result ≡ pos place }
 {
+    // a place has 55 bits at most
     place as i64
 }
 
-/// The row of a cell: the place, which is the key, so that its own column is NULL; the octets; and for people the object's type, its
-/// instance, and the number of the property or of the part of the file.
+/// The row of a cell. The place is the key, so that its own column is NULL. The octets follow, and for people the object's type, its instance, and
+/// the number of the property or of the part of the file.
 fn row_of(
     alloc: Global,
     place: u64,

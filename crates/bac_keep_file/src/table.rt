@@ -14,8 +14,8 @@ use sqlite_schema::schema::Table;
 use sqlite_trees::store::Store;
 use std::alloc::Global;
 
-/// The statement that makes the table of a new file. The octets of a cell are those at its place; the other columns are for people:
-/// the object's type and instance, and the number of the property or of the part of the file.
+/// The statement that makes the table of a new file. The octets of a cell are those at its place. The other columns are for people: the object's type
+/// and instance, and the number of the property or of the part of the file.
 const TABLE: &str =
     "CREATE TABLE cell (place INTEGER PRIMARY KEY, octets BLOB NOT NULL, object_type INTEGER, instance INTEGER, number INTEGER) STRICT";
 

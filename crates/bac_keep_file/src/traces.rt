@@ -42,6 +42,7 @@ impl Traces {
             had_file: is_there(rt, path),
             had_log: match log_path(rt, path) {
                 Ok(log) => is_there(rt, log.as_str()),
+                // as if it were there, so that nothing of another is removed
                 Err(_) => true,
             },
         }

@@ -1,8 +1,9 @@
 //! Whether a log goes with its database file: none of what it kept is missing.
 //!
-//! A log has a header of 32 octets and then frames, each a page behind 24 octets (https://sqlite.org/fileformat2.html, section 4). SQLite reads a log that is
-//! missing, or that begins with something else, as an empty one, and the frames of a log up to the first one that is damaged. So what is lost without a sign is
-//! looked for here, before the log is read. The sound states that a power cut can leave are told apart by how the log is written:
+//! A log has a header of 32 octets and then frames, each a page behind 24 octets (https://sqlite.org/fileformat2.html, section 4). SQLite reads a log
+//! that is missing, or that begins with something else, as an empty one. Of any other log it reads the frames up to the first one that is damaged. So
+//! what is lost without a sign is looked for here, before the log is read. The sound states that a power cut can leave are told apart by how the log
+//! is written:
 //! - The file is marked only once its log has a header, and no later write shortens the log below it. It begins with another octet only while it is emptied, once
 //!   the file has all of it.
 //! - The *gate* of a frame, its first octet of salt, is another than the header's until all frames of its commit are there, or the room for them.
@@ -86,6 +87,7 @@ fn file_header<D: Disk>(db: &mut D) -> io::Result<Option<FileHeader>>
     db.read_at(60, &mut version)?;
     let size = usize::from(u16::from_be_bytes(size));
     Ok(Some(FileHeader {
+        // 65,536 does not fit two octets, and is written as 1
         page_size: PageSize::new(if size == 1 { 65_536 } else { size }),
         is_marked: number_in(version) == MARK,
     }))
@@ -113,7 +115,7 @@ impl LogHeader {
         number_in(round)
     }
 
-    /// The same with the first octet of each log.
+    /// The header as it was before the log began to be emptied: with the first octet that each log has.
     fn mended(self) -> LogHeader {
         let LogHeader { mut octets, gate } = self;
         octets[0] = 0x37;
@@ -125,6 +127,7 @@ impl LogHeader {
         let [first, second, third, fourth, ..] = self.octets;
         let mut sum = [0; 8];
         sum.copy_from_slice(&self.octets[24..32]);
+        // 0x83: the checksum counts words with the highest octet first
         let (one, two) = checksum_of(fourth == 0x83, (0, 0), &self.octets[..24]);
         let [a, b, c, d] = one.to_be_bytes();
         let [e, f, g, h] = two.to_be_bytes();
@@ -235,6 +238,7 @@ fn loses<D: Disk>(
 {
     let length = log.len()?;
     let (mut at, mut commits, mut is_next) = (first, 0, true);
+    // each turn goes on by a frame, so the end of the log ends it
     for _ in 0..u64::MAX {
         match place_at(log, salt, at, length)? {
             Place::End if is_next => return Ok(Some(OpenFault::LogCut)),
@@ -272,6 +276,7 @@ fn pages_of<D: Disk>(
     };
     let mut pages = Vec::new(alloc);
     let mut at = HEADER;
+    // each turn goes on by a frame, so the end of the log ends it
     for _ in 0..u64::MAX {
         let page = match place_at(log, salt, at, length) {
             Ok(Place::Frame { page, .. }) => page,
@@ -306,6 +311,7 @@ fn has_page<D: Disk>(
     let (Ok(mut logged), Ok(mut filed)) = (vec![in alloc; 0; size], vec![in alloc; 0; size]) else {
         return Err(OpenFault::NoMemory);
     };
+    // pages count from 1
     let number = (page as usize).saturating_sub(1);
     let (Some(start), Some(content)) = (number.checked_mul(size), at.checked_add(FRAME_HEADER))
     else {
@@ -338,6 +344,7 @@ fn has_pages<D: Disk>(
     let mut at = HEADER;
     for i in 0..pages.len() {
         let page = pages[i];
+        // a later frame of the same page has its last form
         let is_last = page < COUNT_PAGE && !pages[i + 1..].contains(&page);
         if is_last && !has_page(alloc, log, db, at, page, size)? {
             return Ok(false);
@@ -395,6 +402,7 @@ fn check_frames<D: Disk>(
         Ok(pages) => pages.len(),
         Err(error) => return Err(unread(error)),
     };
+    // the log has a commit, but none that can be read
     if frames == 0 && header.is_open() {
         return Err(OpenFault::LogDamaged);
     }
@@ -458,12 +466,12 @@ fn check_alone<D: Disk>(log: &mut D) -> Result<(), OpenFault>
     }
 }
 
-/// Checks that a log goes with its database file, unless a loss is accepted, and only reads. Where it passes a marked file, the database has all that was kept, but for the last commit at
-/// most.
+/// Checks that a log goes with its database file, unless a loss is accepted, and only reads. Where it passes a marked file, the database has all that
+/// was kept, but for the last commit at most.
 ///
-/// Returns `LogMissing` if a marked file has no log, `LogCut` if the log ends too early, `LogDamaged` if what it begins with or more than one commit behind that
-/// is damaged; `FileMissing` if a log has kept something, and the file is missing or empty; `Damaged` if a marked file states no page size; `Disk` if the disk
-/// fails; `NoMemory` if an allocation fails.
+/// Returns `LogMissing` if a marked file has no log; `LogCut` if the log ends too early; `LogDamaged` if what it begins with is damaged, or more than
+/// one commit behind that; `FileMissing` if a log has kept something, and the file is missing or empty; `Damaged` if a marked file states no page
+/// size; `Disk` if the disk fails; `NoMemory` if an allocation fails.
 pub(crate) fn check_files<D: Disk>(
     alloc: Global,
     files: &mut Files<D>,

@@ -21,7 +21,7 @@ use Rattle.bac_protocol.specs.Server as server
 use Rattle.bac_protocol.specs.Server.{State, ServerTransaction, Service, is_live}
 use Rattle.bac_protocol.specs.Server.State.{Done}
 use Rattle.bac_protocol.specs.Transaction.{Key, Rules, Copy, client_context, server_context}
-use Rattle.bac_protocol.specs.World.{Net, Post, later, is_room, lost, set_at, copies_of, client_acts, server_acts, asked_at, is_id_held}
+use Rattle.bac_protocol.specs.World.{Net, Post, later, is_room, is_short, lost, set_at, copies_of, client_acts, server_acts, asked_at, is_id_held}
 use Rattle.bac_protocol.specs.World.{server_restarted, server_begun, client_now, server_now, passes}
 use Rattle.bac_protocol.specs.Claims.{EachCopy}
 use Rattle.bac_protocol.specs.Own.{IsOfClient}
@@ -341,7 +341,7 @@ module _ (x : Rules) (Q : Net → ℕ → Bool → Service → Type 0) (key : Ke
     whole_comes i p comes is =
         h.copies (later key i n.posts) p.copy
         (subst (λ (j : Key). slice_get (copies_of j n.posts) (later j i n.posts) ≡ Some p.copy) is (copy_at i n.posts p comes.at))
-        (by_tests (nat_le (n.now - p.copy.moment) n.pace.life) (nat_le (later p.key i n.posts) x.overtake) refl comes.arrives)
+        (by_tests (nat_le (n.now - p.copy.moment) n.pace.life) (nat_le (later p.key i n.posts) x.overtake || is_short n p.key) refl comes.arrives)
       where
         by_tests : (a b : Bool) → nat_le (n.now - p.copy.moment) n.pace.life ≡ a → (a && b) ≡ true → n.now - p.copy.moment ≤ n.pace.life
         by_tests true b e f = grind (arith, nat_tests)

@@ -22,11 +22,11 @@ use Rattle.bac_protocol.specs.Transaction.{Key, Rules, Copy, client_context, ser
 use Rattle.bac_protocol.specs.Claims.{Moments, HasRestartedSince, IsBegunSince, IsBounded, EachCopy, IsPiece}
 use Rattle.bac_protocol.proofs.Paces.{beyond_least}
 use Rattle.bac_protocol.proofs.Alone.{sent}
-use Rattle.bac_protocol.proofs.Sound.{IsUnderway, Up, Down, Says, ClientFits, CollectsDown, IsKeptFor, IsUnbegun, SendsDown, StateFits, ServerFits, Sound}
+use Rattle.bac_protocol.proofs.Sound.{IsClear, IsDownWithin, IsUnderway, Up, Down, Says, ClientFits, CollectsDown, IsKeptFor, IsUnbegun, SendsDown, StateFits, ServerFits, Sound}
 use Rattle.bac_protocol.proofs.Sound.Up.{Reading, Repeated}
 use Rattle.bac_protocol.proofs.Sound.Down.{Unsent, Sent}
 use Rattle.bac_protocol.proofs.Own.{ClientSends, BeginsAnswer, own_sends, gets_own, ticks_own, client_sends_own}
-use Rattle.bac_protocol.proofs.Transfer.{takes_cases, takes_below}
+use Rattle.bac_protocol.proofs.Transfer.{clear_in, takes_cases, takes_below}
 use Rattle.bac_liveness.proofs.Flow.{Hands, reach, NearDown, SaysLimits, PhaseFlows, StateMade, Flow, client_flows, server_flows}
 use Rattle.bac_liveness.proofs.ClientFlows.{window_bound}
 use Rattle.bac_liveness.proofs.ClientFlows as of_client
@@ -84,9 +84,19 @@ pub sending_whole : (W : ℕ) (ask : Ask) (out : Outgoing) (all : Bool) (up : Up
     → ask.whole ≡ false
 sending_whole W ask out all up down h = h.in_pieces
 
-collecting_behind : (W : ℕ) (inc : Incoming) (out : Outgoing) (down : Down) → CollectsDown inc down → SendsDown W out down → out.first ≤ length inc.parts
-collecting_behind W inc out Unsent c d = absurd c
-collecting_behind W inc out (Sent ps t s) c d = let a = c.taken_is in let b = d.1.behind in omega arith
+-- what is collected of a reply: all that was acknowledged, and not all of its pieces, of which there are so many at most
+abbrev IsCollecting : (most : ℕ) → Incoming → Outgoing → Type 0
+IsCollecting most inc out = (out.first ≤ length inc.parts) × (length inc.parts < length out.pieces) × (length out.pieces ≤ most)
+
+collecting : (W most : ℕ) (inc : Incoming) (out : Outgoing) (down : Down) → CollectsDown inc down → SendsDown W out down → IsDownWithin most down
+    → IsCollecting most inc out
+collecting W most inc out Unsent c d h = absurd c
+collecting W most inc out (Sent ps t s) c d h =
+    let a = c.taken_is in
+    let left = c.left in
+    let b = d.1.behind in
+    let len : length out.pieces ≡ length ps = ap length d.0 in
+    (omega arith, omega arith, omega arith)
 
 abbrev pub hands_of : Moments → Hands
 hands_of times = record { now = times.now; life = times.pace.life; client = times.client.shows; server = times.server.shows }
@@ -178,7 +188,7 @@ module _ (W : ℕ) (x : Rules) (bound : IsBounded W x) (key : Key) (some : 0 < l
         (tick_limits now.client readable t) (up_of key.invoke_id (client.sends_of r) (client_sends_own.ticks c t))
 
     -- a segment of the reply comes, with k later copies
-    module _ (V k : ℕ) (late : k ≤ V) (room : V + 2 * W ≤ 255) where
+    module _ (most k : ℕ) (clear : IsClear W most k) where
       abbrev Responds : (Outgoing → Type 0) → Type 0
       Responds P = (e : ServerTransaction) → o ≡ Some e → is_live now.server e ≡ true → (out : Outgoing) (transfer : server.Transfer) (since : ℕ)
           → e.state ≡ SegmentedResponse out transfer since → P out
@@ -197,7 +207,7 @@ module _ (W : ℕ) (x : Rules) (bound : IsBounded W x) (key : Key) (some : 0 < l
           (λ n m ack j e at begun out transfer since is. let p = near e at begun out transfer since is in let below = p.below in omega arith)
 
       next_taken : (inc : Incoming) → t.phase ≡ SegmentedConf inc → (g : Segment) (octets : Octets)
-          → Responds (λ out. IsPiece W out.pieces (reach out) k g octets) → Responds (λ out. out.first ≤ length inc.parts)
+          → Responds (λ out. IsPiece W out.pieces (reach out) k g octets) → Responds (λ out. IsCollecting most inc out)
           → TakingOf (takes inc g.number g.more octets)
       next_taken inc is g octets near behind =
           takes_cases inc g.number g.more octets TakingOf (λ ne. flow.taken_down inc is) tt (λ n m. tt)
@@ -205,18 +215,20 @@ module _ (W : ℕ) (x : Rules) (bound : IsBounded W x) (key : Key) (some : 0 < l
           let p = near e at begun out transfer since st in
           let within = (p.is).within in
           let taken = flow.taken_down inc is e at begun out transfer since st in
-          let first = behind e at begun out transfer since st in
+          let collected = behind e at begun out transfer since st in
+          let first = collected.0 in
           let made = (subst (λ (y : State). StateMade x key y) st ((flow.made e at begun).state)).0 in
           let window = window_bound L W out some L_small made.window in
           let inside = made.within in
           let u : IsUnderway W (length inc.parts) (reach out) (length out.pieces) =
           record { behind = taken; near = omega arith; within = omega arith; some = omega arith } in
-          let below = takes_below V W (bound.some) room out.pieces (length inc.parts) (reach out) k late u g octets p n in
+          let below = takes_below W (bound.some) out.pieces (length inc.parts) (reach out) k
+          (clear_in W most (length out.pieces) k collected.2 clear) u collected.1 g octets p n in
           let more = length_more inc.parts octets in
           omega arith)
 
       comes_fine : (readable : Readable) (a : Apdu) → Responds (λ out. NearDown W out.pieces (reach out) k a)
-          → ((inc : Incoming) → t.phase ≡ SegmentedConf inc → Responds (λ out. out.first ≤ length inc.parts))
+          → ((inc : Incoming) → t.phase ≡ SegmentedConf inc → Responds (λ out. IsCollecting most inc out))
           → of_client.ComesFine W x key now t.ask t.repeats t.phase o copies some L_small L_client flow.some readable a
       comes_fine readable (ComplexAck id (Some g) choice octets) near behind =
           (first_taken (x.settings key.client).window g.window g octets near, λ inc is. next_taken inc is g octets near (behind inc is))
@@ -244,21 +256,24 @@ module _ (W : ℕ) (x : Rules) (bound : IsBounded W x) (key : Key) (some : 0 < l
     -- A server's reaction.
 
     abbrev FineAt : server.Reaction → Type 0
-    FineAt v = of_server.Fine x.overtake W x key now t.ask t.repeats t.phase o copies flow some L_small L_server bound.room v
+    FineAt v = of_server.Fine W x key now t.ask t.repeats t.phase o copies flow some L_small L_server v
 
     pub served_flow : (v : server.Reaction) → FineAt v → FlowOf now t v.entry (sent now.now v.sends copies)
     served_flow v fine = server_flows W x key now t.ask t.repeats t.phase o copies v flow fine.0
-        (of_server.entry_flows x.overtake W x key now t.ask t.repeats t.phase o copies flow some L_small L_server bound.room v fine)
+        (of_server.entry_flows W x key now t.ask t.repeats t.phase o copies flow some L_small L_server v fine)
 
     pub entry_ticks_flow : FlowOf now t (server.server_ticks (server_context x key now.server) o).entry
         (sent now.now (server.server_ticks (server_context x key now.server) o).sends copies)
     entry_ticks_flow = served_flow (server.server_ticks (server_context x key now.server) o)
-        (of_server.ticks_fine x.overtake W x key now t.ask t.repeats t.phase o copies flow some L_small L_server bound.room o refl)
+        (of_server.ticks_fine W x key now t.ask t.repeats t.phase o copies flow some L_small L_server o refl)
 
     -- What is known of the transaction.
-    module _ (asks number : ℕ) (log : List Fact) (up : Up) (down : Down) (s : Sound W key times asks number t o copies log up down) where
+    module _ (most asks number : ℕ) (log : List Fact) (up : Up) (down : Down) (s : Sound W most key times asks number t o copies log up down) where
+      clear_up : (k : ℕ) → IsClear W most k → IsClear W (length t.ask.pieces) k
+      clear_up k clear = clear_in W most (length t.ask.pieces) k s.asked_within clear
+
       abbrev UnsentNow : Type 0
-      UnsentNow = IsUnsent x.overtake W x key now t.ask t.repeats t.phase o copies flow some L_small L_server bound.room
+      UnsentNow = IsUnsent W x key now t.ask t.repeats t.phase o copies flow some L_small L_server
 
       unsent : down ≡ Unsent → UnsentNow
       unsent none =
@@ -317,16 +332,17 @@ module _ (W : ℕ) (x : Rules) (bound : IsBounded W x) (key : Key) (some : 0 < l
           by_fit (inl past) = let d = past.dead in absurd (grind (arith, nat_tests))
           by_fit (inr begun) = begun.state
 
-      known : (service : Service) (k : ℕ) (late : k ≤ x.overtake) (e : ServerTransaction) (at : o ≡ Some e) (begun : is_live now.server e ≡ true)
+      known : (service : Service) (k : ℕ) (clear : IsClear W most k) (e : ServerTransaction) (at : o ≡ Some e) (begun : is_live now.server e ≡ true)
           → (st : State) → StateFits W number t.ask st up down log
-          → of_server.IsKnown x.overtake W x key now t.ask t.repeats t.phase o copies flow some L_small L_server bound.room service k late apart e at begun st
-      known service k late e at begun st fits = go st up down refl refl fits
+          → of_server.IsKnown W x key now t.ask t.repeats t.phase o copies flow some L_small L_server service k (clear_up k clear) apart e at begun st
+      known service k clear e at begun st fits = go st up down refl refl fits
         where
           go : (y : State) (u : Up) (v : Down) → up ≡ u → down ≡ v → StateFits W number t.ask y u v log
-              → of_server.IsKnown x.overtake W x key now t.ask t.repeats t.phase o copies flow some L_small L_server bound.room service k late apart e at
+              → of_server.IsKnown W x key now t.ask t.repeats t.phase o copies flow some L_small L_server service k (clear_up k clear) apart e at
               begun y
           go (State.SegmentedRequest inc since) (Reading a b) Unsent is none f = (
             unsent none,
+            (let front = f.front in let taken = front.taken_is in let left = front.left in omega arith),
             λ out all ph full.
                 let front = f.front in
                 let taken = front.taken_is in
@@ -349,7 +365,7 @@ module _ (W : ℕ) (x : Rules) (bound : IsBounded W x) (key : Key) (some : 0 < l
       -- a copy of the client's, with k later ones
       comes_up : (k m : ℕ) (a : Apdu) → slice_get copies k ≡ Some (record { moment = m; apdu = a }) → now.now - m ≤ now.life
           → is_from_client a ≡ true → IsSentByClient x key a ⊎ IsSentByServer x key a
-          → of_server.ComesUp x.overtake W x key now t.ask t.repeats t.phase o copies flow some L_small L_server bound.room k a
+          → of_server.ComesUp W x key now t.ask t.repeats t.phase o copies flow some L_small L_server k a
       comes_up k m (ConfirmedRequest l id None choice octets) at young comes own =
           let says = says_of k (record { moment = m; apdu = ConfirmedRequest l id None choice octets }) at young in
           (flow.limits k (record { moment = m; apdu = ConfirmedRequest l id None choice octets }) at, says.1, says.3)
@@ -372,11 +388,11 @@ module _ (W : ℕ) (x : Rules) (bound : IsBounded W x) (key : Key) (some : 0 < l
       comes_up k m (Reject id r) at young comes own = tt
       comes_up k m (Abort b id r) at young comes own = tt
 
-      pub served_by : (service : Service) (free : Bool) → (free ≡ true → times.opens ≤ now.server) → (k m : ℕ) (late : k ≤ x.overtake) (a : Apdu)
+      pub served_by : (service : Service) (free : Bool) → (free ≡ true → times.opens ≤ now.server) → (k m : ℕ) (clear : IsClear W most k) (a : Apdu)
           → slice_get copies k ≡ Some (record { moment = m; apdu = a })
           → now.now - m ≤ now.life → is_from_client a ≡ true → IsSentByClient x key a ⊎ IsSentByServer x key a
           → (y : Option ServerTransaction) → o ≡ y → FineAt (server.server_on_apdu (server_context x key now.server) service y free a)
-      served_by service free opened k m late a at young comes own None is =
+      served_by service free opened k m clear a at young comes own None is =
           by_fit (subst (λ (y : Option ServerTransaction). ServerFits W times number t.ask y up down log) is s.server) free opened
         where
           sent_by : m ≤ times.until
@@ -385,12 +401,12 @@ module _ (W : ℕ) (x : Rules) (bound : IsBounded W x) (key : Key) (some : 0 < l
           by_fit : ServerFits W times number t.ask None up down log → (b : Bool) → (b ≡ true → times.opens ≤ now.server)
               → FineAt (server.idle_on_apdu (server_context x key now.server) service None b a)
           by_fit (inl un) b unwaited =
-              of_server.idle_fine x.overtake W x key now t.ask t.repeats t.phase o copies flow some L_small L_server bound.room service k late apart None is
+              of_server.idle_fine W x key now t.ask t.repeats t.phase o copies flow some L_small L_server service k (clear_up k clear) apart None is
               (unsent (unbegun_down number up down log un)) b a (comes_up k m a at young comes own)
           by_fit (inr lost) true unwaited = absurd (restarted_over lost.before (unwaited refl) m young sent_by)
           by_fit (inr lost) false unwaited =
-              of_server.closed_fine x.overtake W x key now t.ask t.repeats t.phase o copies flow some L_small L_server bound.room service k late apart None is a
-      served_by service free opened k m late a at young comes own (Some e) is = go (is_live now.server e) refl
+              of_server.closed_fine W x key now t.ask t.repeats t.phase o copies flow some L_small L_server service k (clear_up k clear) apart None is a
+      served_by service free opened k m clear a at young comes own (Some e) is = go (is_live now.server e) refl
         where
           d : Context
           d = server_context x key now.server
@@ -399,11 +415,11 @@ module _ (W : ℕ) (x : Rules) (bound : IsBounded W x) (key : Key) (some : 0 < l
               (Some e) free a)
           go true live =
               let f = live_begun e is live in
-              of_server.live_fine x.overtake W x key now t.ask t.repeats t.phase o copies flow some L_small L_server bound.room service k late apart e is live
-              e.state refl (known service k late e is live e.state f) a (comes_up k m a at young comes own)
+              of_server.live_fine W x key now t.ask t.repeats t.phase o copies flow some L_small L_server service k (clear_up k clear) apart e is live
+              e.state refl (known service k clear e is live e.state f) a (comes_up k m a at young comes own)
           go false dead =
               let says = says_of k (record { moment = m; apdu = a }) at young in
-              of_server.idle_fine x.overtake W x key now t.ask t.repeats t.phase o copies flow some L_small L_server bound.room service k late apart (Some e) is
+              of_server.idle_fine W x key now t.ask t.repeats t.phase o copies flow some L_small L_server service k (clear_up k clear) apart (Some e) is
               (unsent (none_begun m (client_moment W times number t.ask log up down m k a comes says) young e is
               (ap (λ b. if b then false else true) dead))) free a (comes_up k m a at young comes own)
 
@@ -422,25 +438,25 @@ module _ (W : ℕ) (x : Rules) (bound : IsBounded W x) (key : Key) (some : 0 < l
       granted (Abort b id r) down' own = tt
 
       pub collecting_first : (inc : Incoming) → t.phase ≡ SegmentedConf inc → (e : ServerTransaction) → o ≡ Some e → is_live now.server e ≡ true
-          → (out : Outgoing) (transfer : server.Transfer) (since : ℕ) → e.state ≡ SegmentedResponse out transfer since → out.first ≤ length inc.parts
+          → (out : Outgoing) (transfer : server.Transfer) (since : ℕ) → e.state ≡ SegmentedResponse out transfer since → IsCollecting most inc out
       collecting_first inc is e at begun out transfer since st =
           by_fit (subst (λ (y : Option ServerTransaction). ServerFits W times number t.ask y up down log) at s.server)
         where
           collects : CollectsDown inc down
           collects = subst (λ (ph : Phase). ClientFits W t.ask ph up down) is s.client
 
-          by_fit : ServerFits W times number t.ask (Some e) up down log → out.first ≤ length inc.parts
+          by_fit : ServerFits W times number t.ask (Some e) up down log → IsCollecting most inc out
           by_fit (inl past) = let d = past.dead in absurd (grind (arith, nat_tests))
           by_fit (inr h) =
               let fits = subst (λ (y : State). StateFits W number t.ask y up down log) st h.state in
-              collecting_behind W inc out down collects fits.sends
+              collecting W most inc out down collects fits.sends s.given_within
 
-      pub heard_by : (readable : Readable) (k m : ℕ) (late : k ≤ x.overtake) (a : Apdu) → slice_get copies k ≡ Some (record { moment = m; apdu = a })
+      pub heard_by : (readable : Readable) (k m : ℕ) (clear : IsClear W most k) (a : Apdu) → slice_get copies k ≡ Some (record { moment = m; apdu = a })
           → now.now - m ≤ now.life → is_from_client a ≡ false → IsSentByClient x key a ⊎ IsSentByServer x key a
           → FlowOf now (client.after now.client t (client.client_on_apdu (client_context x key now.client) readable t a)) o
           (sent now.now (client.sends_of (client.client_on_apdu (client_context x key now.client) readable t a)) copies)
-      heard_by readable k m late a at young comes own =
+      heard_by readable k m clear a at young comes own =
           gets_flow readable a (granted a comes own)
-          (comes_fine x.overtake k late bound.room readable a
+          (comes_fine most k clear readable a
           (λ e is begun out transfer since st. flow.sent_down e is begun out transfer since st k (record { moment = m; apdu = a }) at young)
           collecting_first)

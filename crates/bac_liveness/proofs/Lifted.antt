@@ -34,7 +34,7 @@ use Rattle.bac_protocol.proofs.Headline.{Kept, run_kept, start_kept}
 use Rattle.bac_protocol.proofs.Keys.{decide_key, set_same, set_other, copies_posted, copies_other, copy_at}
 use Rattle.bac_protocol.proofs.Nets.{NetSound, sound_at, room_opens}
 use Rattle.bac_protocol.proofs.Resting.{IsUnserved, Unserved, not_active}
-use Rattle.bac_protocol.proofs.Standing.{spent_stands}
+use Rattle.bac_protocol.proofs.Standing.{few_are_clear, spent_stands}
 use Rattle.bac_protocol.proofs.Owned.{own_in_run}
 use Rattle.bac_liveness.proofs.Paths.{some_is}
 use Rattle.bac_liveness.proofs.Flow.{Hands, reach, SaysLimits, AllUp, all_up, all_limits, request_window_near, PhaseFlows, Flow, flow_later, client_flows}
@@ -294,7 +294,7 @@ module _ (W : ℕ) (x : Rules) (bound : IsBounded W x) (key : Key) (some : 0 < l
     -- A delivery.
 
     served_on : (w : World S) → Kept S model opening W x bound w → AreOwn x w.net → FlowAt w.net → (number : ℕ) (p : Post)
-        → slice_get w.net.posts number ≡ Some p → w.net.now - p.copy.moment ≤ w.net.pace.life → later p.key number w.net.posts ≤ x.overtake
+        → slice_get w.net.posts number ≡ Some p → w.net.now - p.copy.moment ≤ w.net.pace.life → (later p.key number w.net.posts ≤ x.overtake) ⊎ (w.net.pieces p.key ≤ 256)
         → is_from_client p.copy.apdu ≡ true → (free : Bool) → FlowAt (takes_at_server S model x w p.key free p.copy.apdu).net
     served_on w s own flow number p at young few up free = go (decide_key p.key key)
       where
@@ -309,10 +309,11 @@ module _ (W : ℕ) (x : Rules) (bound : IsBounded W x) (key : Key) (some : 0 < l
         mine is t there =
             let f = sound_at W n key (Some t) there s.stands.net in
             let place = subst (λ (j : Key). slice_get (copies_of j n.posts) (later j number n.posts) ≡ Some p.copy) is (copy_at number n.posts p at) in
-            let late = subst (λ (j : Key). later j number n.posts ≤ x.overtake) is few in
+            let late = few_are_clear W x bound (n.pieces key) (later key number n.posts)
+            (subst (λ (j : Key). (later j number n.posts ≤ x.overtake) ⊎ (n.pieces j ≤ 256)) is few) in
             let sent_is = subst (λ (j : Key). IsOwnPost x (record { key = j; copy = p.copy })) is (own.posts number p at) in
             served_flow W x bound key some (moments_of n key) t (n.entries key) (copies_of key n.posts) (flow t there) (v key)
-            (served_by W x bound key some (moments_of n key) t (n.entries key) (copies_of key n.posts) (flow t there) n.asks (n.numbers key)
+            (served_by W x bound key some (moments_of n key) t (n.entries key) (copies_of key n.posts) (flow t there) (n.pieces key) n.asks (n.numbers key)
             n.log f.0 f.1 f.2 (service_of S model w key) (is_room n key free) (room_opens n key free)
             (later key number n.posts) p.copy.moment late p.copy.apdu place young up sent_is (n.entries key) refl)
 
@@ -321,7 +322,7 @@ module _ (W : ℕ) (x : Rules) (bound : IsBounded W x) (key : Key) (some : 0 < l
         go (inl is) = subst (λ (j : Key). FlowAt (server_acts n j (v j))) (sym is) (server_own n (v key) (mine is))
 
     heard_on : (w : World S) → Kept S model opening W x bound w → AreOwn x w.net → FlowAt w.net → (number : ℕ) (p : Post)
-        → slice_get w.net.posts number ≡ Some p → w.net.now - p.copy.moment ≤ w.net.pace.life → later p.key number w.net.posts ≤ x.overtake
+        → slice_get w.net.posts number ≡ Some p → w.net.now - p.copy.moment ≤ w.net.pace.life → (later p.key number w.net.posts ≤ x.overtake) ⊎ (w.net.pieces p.key ≤ 256)
         → is_from_client p.copy.apdu ≡ false → (o : Option ClientTransaction) → w.net.tickets p.key ≡ o
         → FlowAt (takes_at_client S x w p.key p.copy.apdu o).net
     heard_on w s own flow number p at young few down None there = flow
@@ -339,9 +340,10 @@ module _ (W : ℕ) (x : Rules) (bound : IsBounded W x) (key : Key) (some : 0 < l
             let there' : n.tickets key ≡ Some t = subst (λ (j : Key). n.tickets j ≡ Some t) is there in
             let f = sound_at W n key (Some t) there' s.stands.net in
             let place = subst (λ (j : Key). slice_get (copies_of j n.posts) (later j number n.posts) ≡ Some p.copy) is (copy_at number n.posts p at) in
-            let late = subst (λ (j : Key). later j number n.posts ≤ x.overtake) is few in
+            let late = few_are_clear W x bound (n.pieces key) (later key number n.posts)
+            (subst (λ (j : Key). (later j number n.posts ≤ x.overtake) ⊎ (n.pieces j ≤ 256)) is few) in
             let sent_is = subst (λ (j : Key). IsOwnPost x (record { key = j; copy = p.copy })) is (own.posts number p at) in
-            heard_by W x bound key some (moments_of n key) t (n.entries key) (copies_of key n.posts) (flow t there') n.asks
+            heard_by W x bound key some (moments_of n key) t (n.entries key) (copies_of key n.posts) (flow t there') (n.pieces key) n.asks
             (n.numbers key) n.log f.0 f.1 f.2 x.readable (later key number n.posts) p.copy.moment late p.copy.apdu place young down sent_is
 
         go : ((p.key ≡ key) ⊎ (p.key ≡ key → ⊥)) → FlowAt (client_acts n p.key t (r p.key))

@@ -103,7 +103,7 @@ kept_was W number ask kept up (Sent ps t n) log s = absurd s
 
 -- what is known of a ticket in a net that was reached
 abbrev pub SoundIn : ℕ → Net → Key → ClientTransaction → Up → Down → Type 0
-SoundIn W n key t up down = Sound W key (moments_of n key) n.asks (n.numbers key) t (n.entries key) (one n key).copies n.log up down
+SoundIn W n key t up down = Sound W (n.pieces key) key (moments_of n key) n.asks (n.numbers key) t (n.entries key) (one n key).copies n.log up down
 
 -- an entry that is live, or was begun since the ask was made, was begun for it
 begun_in : (W : ℕ) (n : Net) (key : Key) (t : ClientTransaction) (up : Up) (down : Down) → SoundIn W n key t up down → (e : ServerTransaction)

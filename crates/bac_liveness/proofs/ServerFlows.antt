@@ -27,7 +27,7 @@ use Rattle.bac_protocol.specs.Transaction.{Key, Rules, Copy, server_context}
 use Rattle.bac_protocol.specs.Claims.{IsPiece}
 use Rattle.bac_protocol.proofs.Alone.{sent}
 use Rattle.bac_protocol.proofs.Facts.{all_map, pieces_all, pieces_length}
-use Rattle.bac_protocol.proofs.Sound.{IsUnderway}
+use Rattle.bac_protocol.proofs.Sound.{IsClear, IsUnderway}
 use Rattle.bac_protocol.proofs.Transfer.{moved, acknowledged_cases, piece_at_is, takes_cases, takes_below}
 use Rattle.bac_protocol.proofs.Ways.{way_cut}
 use Rattle.bac_liveness.proofs.Flow.{Hands, reach, NearDown, AllDown, all_down, reply_window_near, TakenUp, IsReplySender, StateMade, Flow, EntryFlows}
@@ -60,9 +60,9 @@ reply_is_quiet d choice reply.Simple = tt
 reply_is_quiet d choice (reply.Complex o) = tt
 reply_is_quiet d choice (reply.Error class code) = tt
 
-module _ (V W : ℕ) (x : Rules) (key : Key) (now : Hands) (ask : Ask) (repeats : ℕ) (phase : Phase) (o : Option ServerTransaction) (copies : List Copy)
+module _ (W : ℕ) (x : Rules) (key : Key) (now : Hands) (ask : Ask) (repeats : ℕ) (phase : Phase) (o : Option ServerTransaction) (copies : List Copy)
     (flow : Flow W x key now ask repeats phase o copies) (some : 0 < lesser_window x key) (bounded : lesser_window x key ≤ W)
-    (own_is : lesser_window x key ≤ (x.settings key.server).window) (room : V + 2 * W ≤ 255) where
+    (own_is : lesser_window x key ≤ (x.settings key.server).window) where
   abbrev d : Context
   d = server_context x key now.server
 
@@ -272,9 +272,9 @@ module _ (V W : ℕ) (x : Rules) (key : Key) (now : Hands) (ask : Ask) (repeats 
         let le : n ≤ p.piece + 1 = grind (arith, nat_tests) in
         omega arith
 
-    take_fine : (inc : Incoming) (k : ℕ) (g : Segment) (octets : Octets) → k ≤ V → Taken_ (length inc.parts)
+    take_fine : (inc : Incoming) (k : ℕ) (g : Segment) (octets : Octets) → IsClear W n k → length inc.parts < n → Taken_ (length inc.parts)
         → FirstPass (λ a s. a ≤ length inc.parts) → IsSentPiece k g octets → TakeFine (takes inc g.number g.more octets)
-    take_fine inc k g octets late old behind h =
+    take_fine inc k g octets clear untaken old behind h =
         takes_cases inc g.number g.more octets TakeFine (λ ne. old) tt (λ e m. last_sent k g octets h m)
         (λ e m ack j out all is full.
         let y = h out all is full in
@@ -284,7 +284,7 @@ module _ (V W : ℕ) (x : Rules) (key : Key) (now : Hands) (ask : Ask) (repeats 
         let window = y.3 in
         let left = y.1 in
         let u : IsUnderway W (length inc.parts) (reach out) n = record { behind = taken; near = omega arith; within = omega arith; some = omega arith } in
-        let below = takes_below V W (omega arith) room ask.pieces (length inc.parts) (reach out) k late u g octets y.0 e in
+        let below = takes_below W (omega arith) ask.pieces (length inc.parts) (reach out) k clear u untaken g octets y.0 e in
         let more = length_more inc.parts octets in
         omega arith)
 
@@ -413,7 +413,7 @@ module _ (V W : ℕ) (x : Rules) (key : Key) (now : Hands) (ask : Ask) (repeats 
     pub none_down : (ps : List Octets) (s : ℕ) → AllDown W now ps s copies
     pub not_collecting : (inc : Incoming) → phase ≡ SegmentedConf inc → ⊥
 
-  module _ (service : Service) (k : ℕ) (late : k ≤ V) (apart : ask.whole ≡ true → (out : Outgoing) (all : Bool) → phase ≡ SegmentedRequest out all → ⊥) where
+  module _ (service : Service) (k : ℕ) (clear : IsClear W n k) (apart : ask.whole ≡ true → (out : Outgoing) (all : Bool) → phase ≡ SegmentedRequest out all → ⊥) where
     -- no entry is live
     pub idle_fine : (y : Option ServerTransaction) → o ≡ y → IsUnsent → (free : Bool) (a : Apdu) → ComesUp k a → Fine (server.idle_on_apdu d service y free a)
     idle_fine y at u free (ConfirmedRequest limits id None choice octets) h =
@@ -455,24 +455,24 @@ module _ (V W : ℕ) (x : Rules) (key : Key) (now : Hands) (ask : Ask) (repeats 
       of_ask : IsOf e
       of_ask = let m = flow.made e at begun in record { limits = m.limits; request = m.request }
 
-      receiving_fine : (inc : Incoming) (since : ℕ) → e.state ≡ State.SegmentedRequest inc since → IsUnsent → FirstPass (λ a s. a ≤ length inc.parts)
-          → (a : Apdu) → ComesUp k a → Fine (server.segmented_request_on_apdu d service e inc since a)
-      receiving_fine inc since is u behind (ConfirmedRequest limits id (Some g) choice octets) h =
+      receiving_fine : (inc : Incoming) (since : ℕ) → e.state ≡ State.SegmentedRequest inc since → IsUnsent → length inc.parts < n
+          → FirstPass (λ a s. a ≤ length inc.parts) → (a : Apdu) → ComesUp k a → Fine (server.segmented_request_on_apdu d service e inc since a)
+      receiving_fine inc since is u untaken behind (ConfirmedRequest limits id (Some g) choice octets) h =
           either_fine (nat_le T_WAIT_FOR_SEG (d.now - since)) (server.becomes e Dropped (server.server_abort d OTHER ∷ []))
           (server.request_segment_taken d service e g.number inc.window (takes inc g.number g.more octets))
           (becomes_fine e at Dropped (server.server_abort d OTHER ∷ []) (refl, tt) (λ b. dropped_fine (server.server_abort d OTHER ∷ [])))
           (segment_fine service u.none_down u.not_collecting e (λ b. of_ask) g.number inc.window (takes inc g.number g.more octets)
-          (take_fine service u.none_down u.not_collecting inc k g octets late
+          (take_fine service u.none_down u.not_collecting inc k g octets clear untaken
           (λ out all f full. subst (λ (st : State). TakenUp n (reach out) st) is (flow.taken_up out all f full e at begun)) behind h.2))
-      receiving_fine inc since is u behind (ConfirmedRequest limits id None choice octets) h = rests_fine (Some e) at [] tt tt
-      receiving_fine inc since is u behind (Abort false id r) h = becomes_fine e at Dropped [] tt (λ b. dropped_fine [])
-      receiving_fine inc since is u behind (Abort true id r) h = rests_fine (Some e) at [] tt tt
-      receiving_fine inc since is u behind (UnconfirmedRequest choice octets) h = rests_fine (Some e) at [] tt tt
-      receiving_fine inc since is u behind (SimpleAck id choice) h = rests_fine (Some e) at [] tt tt
-      receiving_fine inc since is u behind (ComplexAck id g choice octets) h = rests_fine (Some e) at [] tt tt
-      receiving_fine inc since is u behind (SegmentAck b id ack) h = rests_fine (Some e) at [] tt tt
-      receiving_fine inc since is u behind (Error id choice class code) h = rests_fine (Some e) at [] tt tt
-      receiving_fine inc since is u behind (Reject id r) h = rests_fine (Some e) at [] tt tt
+      receiving_fine inc since is u untaken behind (ConfirmedRequest limits id None choice octets) h = rests_fine (Some e) at [] tt tt
+      receiving_fine inc since is u untaken behind (Abort false id r) h = becomes_fine e at Dropped [] tt (λ b. dropped_fine [])
+      receiving_fine inc since is u untaken behind (Abort true id r) h = rests_fine (Some e) at [] tt tt
+      receiving_fine inc since is u untaken behind (UnconfirmedRequest choice octets) h = rests_fine (Some e) at [] tt tt
+      receiving_fine inc since is u untaken behind (SimpleAck id choice) h = rests_fine (Some e) at [] tt tt
+      receiving_fine inc since is u untaken behind (ComplexAck id g choice octets) h = rests_fine (Some e) at [] tt tt
+      receiving_fine inc since is u untaken behind (SegmentAck b id ack) h = rests_fine (Some e) at [] tt tt
+      receiving_fine inc since is u untaken behind (Error id choice class code) h = rests_fine (Some e) at [] tt tt
+      receiving_fine inc since is u untaken behind (Reject id r) h = rests_fine (Some e) at [] tt tt
 
       answers_fine : (b : Bool) (kept : Apdu) → IsDown kept → IsQuiet kept
           → Fine (server.rests (Some e) ((if b then kept else server.server_abort d OTHER) ∷ []))
@@ -538,12 +538,12 @@ module _ (V W : ℕ) (x : Rules) (key : Key) (now : Hands) (ask : Ask) (repeats 
 
       -- what is known of the entry by its state
       abbrev pub IsKnown : State → Type 0
-      IsKnown (State.SegmentedRequest inc since) = IsUnsent × FirstPass (λ a s. a ≤ length inc.parts)
+      IsKnown (State.SegmentedRequest inc since) = IsUnsent × (length inc.parts < n) × FirstPass (λ a s. a ≤ length inc.parts)
       IsKnown (Done kept) = IsDown kept × IsQuiet kept
       IsKnown _ = Unit {0}
 
       pub live_fine : (st : State) → e.state ≡ st → IsKnown st → (a : Apdu) → ComesUp k a → Fine (server.live_on_apdu d service e st a)
-      live_fine (State.SegmentedRequest inc since) is h a comes = receiving_fine inc since is h.0 h.1 a comes
+      live_fine (State.SegmentedRequest inc since) is h a comes = receiving_fine inc since is h.0 h.1 h.2 a comes
       live_fine (Done kept) is h a comes = done_gets_fine kept h.0 h.1 a
       live_fine (SegmentedResponse out transfer since) is h a comes = giving_fine out transfer since is a comes
       live_fine Dropped is h a comes = dropped_gets_fine a

@@ -67,10 +67,10 @@ first_pass : (ask : Ask) (repeats t s : ℕ) → ask.whole ≡ false → PassFit
 first_pass ask repeats t s whole (inl is) = absurd (let z = sym whole ∙ is in cc)
 first_pass ask repeats t s whole (inr is) = is
 
-module _ (W : ℕ) (x : Rules) (bound : IsBounded W x) (key : Key) (some : 0 < lesser_window x key) (times : Moments) (asks number : ℕ) (t : ClientTransaction)
+module _ (W : ℕ) (x : Rules) (bound : IsBounded W x) (key : Key) (some : 0 < lesser_window x key) (times : Moments) (most asks number : ℕ) (t : ClientTransaction)
     (o : Option ServerTransaction)
     (copies : List Copy) (log : List Fact) (flow : Flow W x key (hands_of times) t.ask t.repeats t.phase o copies) (up : Up) (down : Down)
-    (s : Sound W key times asks number t o copies log up down) (stays : o ≡ None → HasRestartedSince times → ⊥)
+    (s : Sound W most key times asks number t o copies log up down) (stays : o ≡ None → HasRestartedSince times → ⊥)
     (young : times.client.shows - t.ask.first ≤ DEADLINE)
     (entry_window : EntryHas (IsSentByServer x key) (IsLesser x key) o) (ticket_window : TicketHas (IsLesser x key) (Some t)) where
   abbrev now : ℕ
@@ -295,7 +295,7 @@ stands_in_step S model opening W x bound pace timely clocks events key windows t
     let flow = flows_in_run W x bound key some S model opening pace timely clocks events t at in
     let own = own_in_run x S model pace clocks opening events in
     let f = sound_at W w.net key (Some t) at s.stands.net in
-    in_step W x bound key some (moments_of w.net key) w.net.asks (w.net.numbers key) t (w.net.entries key)
+    in_step W x bound key some (moments_of w.net key) (w.net.pieces key) w.net.asks (w.net.numbers key) t (w.net.entries key)
     (copies_of key w.net.posts) w.net.log flow f.0 f.1 f.2
     stays young (own.entries key) (subst (λ (y : Option ClientTransaction). TicketHas (IsLesser x key) y) at (own.tickets key))
     (live_entry (server_now w.net key) (w.net.entries key)) refl

@@ -1,5 +1,5 @@
 -- One turn suffices.
-use Rattle.std.proofs.Common.{◌≡◌, ℕ, ◌+◌, ◌-◌, ◌⊎◌, Bool, true, false, ◌&&◌, List, [], ◌∷◌, ◌++◌, length, Some, slice_get, if◌then◌else◌, nat_le, nat_eq, refl}
+use Rattle.std.proofs.Common.{◌≡◌, ℕ, ◌+◌, ◌-◌, ◌⊎◌, Bool, true, false, ◌&&◌, ◌||◌, List, [], ◌∷◌, ◌++◌, length, Some, slice_get, if◌then◌else◌, nat_le, nat_eq, refl}
 use Rattle.std.proofs.Common.{sym, ap, subst, inl, inr, ◌∙◌, arith}
 use Rattle.std.proofs.lemmas.Bool.Decides.{nat_tests}
 use Rattle.bac_apdu.specs.Apdu.{Apdu}
@@ -15,7 +15,7 @@ use Rattle.bac_protocol.specs.Client.Reaction.{Stays, Repeats, Ends}
 use Rattle.bac_protocol.specs.Log.{Has, StoreModel}
 use Rattle.bac_protocol.specs.Log.Fact.{Performed}
 use Rattle.bac_protocol.specs.Transaction.{Key, Rules, client_context}
-use Rattle.bac_protocol.specs.World.{World, Post, Event, later, is_deliverable, post_of, happens, run, start, reacts, ticks_ticket, takes_at_server, client_now}
+use Rattle.bac_protocol.specs.World.{World, Post, Event, later, is_short, is_deliverable, post_of, happens, run, start, reacts, ticks_ticket, takes_at_server, client_now}
 use Rattle.bac_protocol.specs.World.Event.{Tick, Deliver}
 use Rattle.bac_protocol.specs.Claims.{IsBounded}
 use Rattle.bac_protocol.specs.Pace.{Pace, IsTimely}
@@ -43,7 +43,7 @@ last_on_its_way S x w key a posts is = record {
   key_is = refl;
   apdu_is = refl;
   arrives = ap (λ (ps : List Post). is_deliverable x (record w.net { posts = ps }) (length posts) (post_of key w.net.now a)) is
-      ∙ ap (λ (k : ℕ). nat_le (w.net.now - w.net.now) w.net.pace.life && nat_le k x.overtake) (none_later key posts (post_of key w.net.now a)) ∙ both;
+      ∙ ap (λ (k : ℕ). nat_le (w.net.now - w.net.now) w.net.pace.life && (nat_le k x.overtake || is_short w.net key)) (none_later key posts (post_of key w.net.now a)) ∙ both;
 }
   where
     young : nat_le (w.net.now - w.net.now) w.net.pace.life ≡ true
@@ -52,8 +52,8 @@ last_on_its_way S x w key a posts is = record {
     none : nat_le 0 x.overtake ≡ true
     none = grind (arith, nat_tests)
 
-    both : (nat_le (w.net.now - w.net.now) w.net.pace.life && nat_le 0 x.overtake) ≡ true
-    both = ap (λ b. b && nat_le 0 x.overtake) young ∙ none
+    both : (nat_le (w.net.now - w.net.now) w.net.pace.life && (nat_le 0 x.overtake || is_short w.net key)) ≡ true
+    both = ap (λ b. b && (nat_le 0 x.overtake || is_short w.net key)) young ∙ ap (λ b. b || is_short w.net key) none
 
 -- a tick that is due sends the request
 due_repeats : (c : Context) (t : ClientTransaction) → t.ask.whole ≡ true → IsDue c.now t

@@ -20,7 +20,7 @@ use Rattle.bac_protocol.specs.Server.State.{Done}
 use Rattle.bac_protocol.specs.Log.{Fact, Has}
 use Rattle.bac_protocol.specs.Log.Fact.{Asked, Performed, Ended, Changed, Restarted}
 use Rattle.bac_protocol.specs.Transaction.{Key, Rules, client_context, server_context, ended, performed}
-use Rattle.bac_protocol.specs.World.{Net, Post, is_id_held, is_room, lost, asked_at, client_acts, server_acts, notes_change, client_restarted, server_restarted}
+use Rattle.bac_protocol.specs.World.{Net, Post, is_id_held, is_room, is_short, lost, asked_at, client_acts, server_acts, notes_change, client_restarted, server_restarted}
 use Rattle.bac_protocol.specs.World.{is_lost, is_key_held, post_of, set_at, later, client_now, server_now, passes}
 use Rattle.bac_protocol.specs.Pace.{clock_at, Pace, Clock}
 use Rattle.bac_protocol.proofs.Facts.{Grows, grows_more}
@@ -528,7 +528,7 @@ module _ (x : Rules) (key : Key) (ask : Ask) (number made : ℕ) where
 
   pub fine_comes : (n : Net) → Waits n → (i : ℕ) (q : Post) → Comes x n i q → q.key ≡ key → IsFine n.log q.copy.apdu
   fine_comes n h i q comes is = h.posts i q comes.at is
-      (young (nat_le (n.now - q.copy.moment) n.pace.life) (nat_le (later q.key i n.posts) x.overtake) refl comes.arrives)
+      (young (nat_le (n.now - q.copy.moment) n.pace.life) (nat_le (later q.key i n.posts) x.overtake || is_short n q.key) refl comes.arrives)
     where
       young : (a b : Bool) → nat_le (n.now - q.copy.moment) n.pace.life ≡ a → (a && b) ≡ true → n.now - q.copy.moment ≤ n.pace.life
       young true b e f = grind (arith, nat_tests)

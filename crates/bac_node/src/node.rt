@@ -100,9 +100,9 @@ impl Node {
     /// A node that restarts at a moment, in milliseconds, after it has lost its transactions: its process was started again, or its power came back. Use it in
     /// place of `new` whenever the link may have had the node before.
     ///
-    /// So that no old request is performed twice, and no answer to one is taken for another's, it waits (own rules of this profile): while no more than 65,000 ms
-    /// have passed it answers each new request with an Abort of reason 0, and while no more than 75,000 ms have passed it refuses each ask with `NoInvokeId`.
-    /// The faults are those of `new`.
+    /// It waits, so that no old request is performed twice, and no answer to one is taken for another's (own rules of this profile). While no more
+    /// than 65,000 ms have passed it answers each new request with an Abort of reason 0. While no more than 75,000 ms have passed it refuses each ask
+    /// with `NoInvokeId`. The faults are those of `new`.
     pub fn restarted(
         alloc: Global,
         config: Config,
@@ -224,8 +224,9 @@ impl Node {
         self.servers.capacity()
     }
 
-    /// How many client slots are held at a moment in milliseconds: their transactions are open, or no more than 135,000 ms have passed since the first sending
-    /// (own rule of this profile). No two slots have one key, and there are no more of them than the node was made with, whether they are held or not.
+    /// How many client slots are held at a moment in milliseconds. A slot is held while its transaction is open, and while no more than 135,000 ms
+    /// have passed since the first sending (own rule of this profile). No two slots have one key, and there are no more of them than the node was
+    /// made with, whether they are held or not.
     pub fn held(&self, now: u64) -> usize
         ensures number { result ≡ count_by (is_slot_held now) self.now.clients.slots }
         ensures within { result ≤ self.now.clients.capacity }
@@ -244,8 +245,8 @@ impl Node {
         self.servers.live(now)
     }
 
-    /// The first moment, in milliseconds, looked at from a moment on, at which not all slots of its reply table have a live entry; the last moment of all where
-    /// that is not before it. Until then a request that needs a slot gets an Abort of reason 0. It looks at each slot where all are in use.
+    /// The first moment, in milliseconds, looked at from a moment on, at which a slot of its reply table has no live entry. It is 2^64 - 1 where
+    /// there is none before. Until then a request that needs a slot gets an Abort of reason 0. It looks at each slot where all are in use.
     pub fn next_free(&self, from: u64) -> u64
         ensures from { from ≤ result }
         ensures full { (moment : ℕ) → from ≤ moment → moment < result
@@ -268,12 +269,13 @@ impl Node {
     pub fn keys_are_apart(&self)
         ensures { HasKeysApart self.now }
     {
+        // the contract of each says that no two slots of its table have one key
         let _held = self.held(self.latest);
         let _live = self.live(self.latest);
     }
 
-    /// A law of each node, for a caller that was handed one: no reassembly of a reply or of a request holds more than 65,535 octets, or more than 65,535
-    /// segments. It goes over both tables, and changes nothing.
+    /// A law of each node, for a caller that was handed one. No reassembly of a reply or of a request holds more than 65,535 octets, or more than
+    /// 65,535 segments. It goes over both tables, and changes nothing.
     pub fn reassemblies_are_short(&self)
         ensures replies { AreRepliesShort self.now.clients.slots }
         ensures requests { AreRequestsShort self.now.servers.slots }
@@ -282,12 +284,13 @@ impl Node {
         self.servers.reassemblies_are_short();
     }
 
-    /// A law of each node, for a caller that was handed one: its window is 1 at least, and each reply of its store can be sent, in one APDU or in segments.
-    /// It does nothing.
+    /// A law of each node, for a caller that was handed one. Its window is 1 at least, and each reply of its store can be sent, in one APDU or in
+    /// segments. It does nothing.
     pub fn replies_can_be_sent(&self)
         ensures window { 1 ≤ self.now.settings.window }
         ensures replies { (r : Request) → reply_length (reply_to self.now.store r) ≤ DATA_LIMIT }
     {
+        // a `Window` has a segment at least, by the invariant of its fields
         let _window = self.settings.window.size;
         replies_can_be_sent(&self.store);
     }
@@ -320,17 +323,19 @@ impl Node {
 
     /// A datagram comes from a link to a node of these rules. Call it with the same rules for all datagrams, or `on` for all.
     ///
-    /// Where reads are performed anew, ReadProperty and AtomicReadFile without segments are performed each time that they come, from the store as it then is,
-    /// unless a request of their peer and invoke ID still goes on. They take a slot only where their reply goes in segments, until the SegmentACK that finishes it,
-    /// or an Abort of their client. A kept reply of another request goes again to that request alone: another one ends it and is performed.
+    /// Where reads are performed anew, ReadProperty and AtomicReadFile without segments are performed each time that they come, from the store as it
+    /// then is. One is not while a request of its peer and invoke ID still goes on. A read takes a slot only where its reply goes in segments, until
+    /// the SegmentACK that finishes it, or an Abort of its client. A kept reply of another request goes again to that request alone: another one ends
+    /// it and is performed.
     ///
     /// A new request that finds no free slot, or comes while the node waits after a restart, is turned away with an Abort of reason 0; `turned_away` of the outcome
     /// says so.
     ///
-    /// The faults are those of `on`; `NoMemory` also where an APDU might make the server's end keep more than `memory` octets of service data: a request is taken
-    /// to need room for its own, and for the longest reply and the place of a segment, 65,539 octets. With less than that, only what needs no room is heard. A repeat of a request that was received whole needs none,
-    /// in segments or not; nor, where reads are performed anew, does a read without segments whose reply is one APDU. What is kept already stays, but for
-    /// entries that are not live, whose place a new one takes.
+    /// The faults are those of `on`. `NoMemory` also where an APDU might make the server's end keep more than `memory` octets of service data. A
+    /// request is taken to need room for its own, and for the longest reply and the place of a segment, 65,539 octets. With less than that, only what
+    /// needs no room is heard. A repeat of a request that was received whole needs none, in segments or not. Nor, where reads are performed anew,
+    /// does a read without segments whose reply is one APDU. What is kept already stays, but for entries that are not live, whose place a new one
+    /// takes.
     pub fn hear(
         &mut self,
         rules: &Rules,
@@ -351,6 +356,7 @@ impl Node {
         let (peer, apdu) = match read_from(self.link, from, octets) {
             Ok(read) => read,
             Err(cause) => {
+                // a dropped datagram moves the latest moment, and nothing else
                 self.latest = now;
                 return Ok(Outcome::dropped(self.alloc, cause));
             }
@@ -400,6 +406,7 @@ impl Node {
         let served = self
             .servers
             .on(self.alloc, &serving, now, peer, apdu, &mut self.store)?;
+        // no room within the bound on memory counts as memory that ran out
         let Some(turn) = served else {
             return Err(NoMemory);
         };
@@ -492,6 +499,7 @@ impl Node {
     {
         let Reaction { mut sends, ended } = self.clients.prepare_tick(&self.settings, now)?;
         let mut more = self.servers.prepare_tick(self.alloc, &self.settings, now)?;
+        // the client's datagrams leave before the server's
         sends.append(&mut more)?;
         Ok(Reaction { sends, ended })
     }
@@ -520,25 +528,27 @@ impl Node {
             .min(self.servers.next_due(self.latest))
     }
 
-    /// The first moment, in milliseconds, at which a tick does anything: a timer of a transaction runs out, a transaction of the client expires (clauses 5.4.4
-    /// and 5.4.5), or an entry of the server's end is not live any more. It is not before the latest moment. None where nothing is due before the last moment of all, 2^64 - 1.
+    /// The first moment, in milliseconds, at which a tick does anything. Then a timer runs out, a transaction of the client expires (clauses 5.4.4
+    /// and 5.4.5), or an entry of the server's end is not live any more. It is not before the latest moment. None where nothing is due before the
+    /// last moment of all, 2^64 - 1.
     ///
-    /// Call it after each `on`, `tick` and `ask`, and then wait for a datagram until that moment, or without end where it is None: a tick before it does nothing.
-    /// Once the moment has come, call [`tick`](Node::tick). It looks at each slot.
+    /// Call it after each `on`, `tick` and `ask`. Then wait for a datagram until that moment, or without end where it is None: a tick before it does
+    /// nothing. Once the moment has come, call [`tick`](Node::tick). It looks at each slot.
     pub fn next_due(&self) -> Option<u64>
         ensures rests { MatchOption result (RestsUntil LAST_MOMENT self.now) (λ due. RestsUntil due self.now) }
         ensures moves { IfSome result (λ due. MovesAt due self.now) }
     {
         let due = self.first_due();
+        // the last moment of all stands for no moment
         if due == u64::MAX {
             return None;
         }
         Some(due.max(self.latest))
     }
 
-    /// Sets where its invoke IDs begin from now on: an ask takes the least one from there on that is not held for the peer, and where all up to 255 are held,
-    /// the least of all. A program that ends after a few asks should begin at a different one each time, say one from its clock: a server may still keep the
-    /// reply to an ask of the program that used the same address before.
+    /// Sets where its invoke IDs begin from now on. An ask takes the least one from there on that is not held for the peer. Where all up to 255 are
+    /// held, it takes the least of all. A program that ends after a few asks should begin at a different one each time, say one from its clock. A
+    /// server may still keep the reply to an ask of the program that used the same address before.
     pub fn set_first_invoke_id(&mut self, first_id: u8)
         ensures { self.new ≡ with_first_id first_id self.old }
     {
@@ -568,6 +578,7 @@ impl Node {
         if self.is_before(now) {
             return Err(AskFault::ClockBack);
         }
+        // it drops what comes from its own address, so no answer could come
         if peer.link == self.link {
             return Err(AskFault::SelfPeer);
         }

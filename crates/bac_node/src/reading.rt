@@ -60,6 +60,7 @@ pub(crate) fn read_from<'a>(
     let Ok(apdu) = bac_apdu::read(apdu) else {
         return Err(Cause::Apdu);
     };
+    // tested last, in the order of `Cause`
     if from == link {
         return Err(Cause::OwnLink);
     }

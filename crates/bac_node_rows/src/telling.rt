@@ -6,7 +6,7 @@ use bac_commands::{print_ended, print_ending_line};
 use bac_node::Outcome;
 use bac_requester::Ending;
 use bac_responder::{Act, Effect};
-use bac_service::{AnyRequest, OwnedRequest};
+use bac_service::OwnedRequest;
 use bac_transaction::{Datagram, PeerKey};
 use std::alloc::Global;
 use std::io::Write;
@@ -54,16 +54,6 @@ pub(crate) fn print_sends(alloc: Global, sends: &[Datagram], out: &mut Vec<u8>) 
     Some(())
 }
 
-/// The word for a request.
-fn verb(request: &OwnedRequest) -> &'static str {
-    match request {
-        AnyRequest::ReadProperty(_) => "read",
-        AnyRequest::WriteProperty(_) => "write",
-        AnyRequest::ReadFile(_) => "get",
-        AnyRequest::WriteFile(_) => "put",
-    }
-}
-
 /// The client and the invoke ID of a request, its word and its service data.
 fn print_request(
     alloc: Global,
@@ -71,7 +61,8 @@ fn print_request(
     request: &OwnedRequest,
     out: &mut Vec<u8>,
 ) -> Option<()> {
-    let (peer, invoke_id, verb) = (key.peer.link[3], key.invoke_id, verb(request));
+    let verb = request.as_request().service().verb();
+    let (peer, invoke_id) = (key.peer.link[3], key.invoke_id);
     let service = spelled(alloc, request)?;
     write!(out, "performed {peer}:{invoke_id} {verb} {service} ").ok()
 }

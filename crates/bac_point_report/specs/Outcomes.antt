@@ -2,22 +2,16 @@
 use Rattle.std.specs.Prelude.{◌≡◌, ℕ, Bool, true, false, List, Option, Some, None, codes, if◌then◌else◌}
 use Rattle.std.specs.Option.{is_some}
 use Rattle.bac_service.specs.Replies as plain
-use Rattle.bac_service.specs.Values.{Complex, Request}
-use Rattle.bac_service.specs.Values.Complex.{FileRead, StreamWritten, RecordsWritten, PropertyRead}
+use Rattle.bac_service.specs.Values.{values_answered}
+use Rattle.bac_service.specs.Values.{Request}
 use Rattle.bac_service_text.specs.Asked.{names_other}
 use Rattle.bac_service_text.specs.Reasons.{aborted_words, error_words, rejected_words}
 use Rattle.bac_ask_report.specs.Records.{Outcome, Answered, Rejected, Aborted, TimedOut, Expired, Refused, NoEnding, NoLink}
 
 -- the values that a reply carries
-abbrev pub values_in_complex : Complex → Option (List ℕ)
-values_in_complex (FileRead end start octets) = None
-values_in_complex (StreamWritten start) = None
-values_in_complex (RecordsWritten start) = None
-values_in_complex (PropertyRead r values) = Some values
-
 abbrev pub values_in_reply : plain.Reply → Option (List ℕ)
 values_in_reply plain.Reply.Simple = None
-values_in_reply (plain.Reply.Complex c) = values_in_complex c
+values_in_reply (plain.Reply.Complex c) = values_answered c
 values_in_reply (plain.Reply.Error class code) = None
 values_in_reply (plain.Reply.Reject reason) = None
 

@@ -2,31 +2,21 @@
 ghost use Rattle.std.specs.Prelude.{◌≡◌, IfOk};
 ghost use Rattle.std.specs.Option.{option_map};
 ghost use Rattle.bac_ask_report.specs.Records.{outcome_view};
-ghost use Rattle.bac_service.specs.Views.{complex_view, reply_view, request_view};
-ghost use Rattle.bac_point_report.specs.Outcomes.{failed_reply_words, failure_words, has_values, is_done, is_silent, values_in_complex, values_in_reply, values_of};
+ghost use Rattle.bac_service.specs.Views.{reply_view, request_view};
+ghost use Rattle.bac_point_report.specs.Outcomes.{failed_reply_words, failure_words, has_values, is_done, is_silent, values_in_reply, values_of};
 
 use bac_ask_report::Outcome;
-use bac_service::{AnyComplex, AnyReply, Complex, Reply, Request};
+use bac_service::{AnyReply, Reply, Request};
 use bac_service_text::{aborted_words, error_words, names_other, rejected_words};
 use bac_value::Data;
 use std::alloc::{AllocError, Global};
-
-fn values_in_complex(complex: Complex<'_>) -> Option<Data<'_>>
-    ensures { option_map (λ d. d.octets.now) result ≡ values_in_complex (complex_view complex.entry) }
-{
-    match complex {
-        AnyComplex::FileRead(_) => None,
-        AnyComplex::FileWritten(_) => None,
-        AnyComplex::PropertyRead(read) => Some(read.values),
-    }
-}
 
 fn values_in_reply(reply: Reply<'_>) -> Option<Data<'_>>
     ensures { option_map (λ d. d.octets.now) result ≡ values_in_reply (reply_view reply.entry) }
 {
     match reply {
         AnyReply::Simple => None,
-        AnyReply::Complex(complex) => values_in_complex(complex),
+        AnyReply::Complex(complex) => complex.values(),
         AnyReply::Error { .. } => None,
         AnyReply::Reject(_) => None,
     }

@@ -23,15 +23,6 @@ use std::alloc::Global;
 use std::io;
 use std::io::{ErrorKind, Write};
 
-/// The property that a question is for. None if it is for a file.
-pub(crate) fn reference_of(question: &Question) -> Option<PropertyReference> {
-    match question.request.as_request() {
-        AnyRequest::ReadProperty(reference) => Some(reference),
-        AnyRequest::WriteProperty(write) => Some(write.reference),
-        AnyRequest::ReadFile(_) | AnyRequest::WriteFile(_) => None,
-    }
-}
-
 /// Whether a line was answered with a value.
 fn is_valued(line: &LineQuestion, end: &AskEnd) -> bool
     ensures { result ≡ is_valued line.now end.now }
@@ -95,7 +86,7 @@ fn print_answers<O: Write, E: Write>(
 ) -> io::Result<()> {
     let is_named = lines.len() > 1;
     for (line, end) in lines.iter().zip(ends) {
-        if let Some(reference) = reference_of(&line.question) {
+        if let Some(reference) = line.question.request.as_request().property() {
             print_answer(alloc, is_named, reference, outcome_of(end), out, err)?;
         }
     }

@@ -2,7 +2,6 @@
 
 use crate::performing::Desk;
 use crate::questions::question_by;
-use crate::reading::reference_of;
 use crate::task::Writing;
 use bac_asking::{Client, ClientSockets, ask_on, outcome_of};
 use bac_driver::{AskEnd, Question};
@@ -90,7 +89,7 @@ fn order_of<'a, M: ClientSockets, E: Write>(
     };
     let words = ["read", target.object, target.property];
     let reading = question_by(desk.alloc, desk.peer, &words, err)?;
-    let Some(reference) = reference_of(&reading) else {
+    let Some(reference) = reading.request.as_request().property() else {
         return Err(print_bad("expected OBJECT [PROPERTY] VALUE", err));
     };
     Ok(Order {

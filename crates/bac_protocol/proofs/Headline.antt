@@ -1,5 +1,5 @@
 -- After every run the log is right with the stores.
-use Rattle.std.proofs.Common.{◌≡◌, ℕ, ◌-◌, ◌<◌, ◌≤◌, Bool, true, false, ◌&&◌, List, [], ◌∷◌, Option, Some, None, slice_get, if◌then◌else◌}
+use Rattle.std.proofs.Common.{◌≡◌, ℕ, ◌-◌, ◌<◌, ◌≤◌, Bool, true, false, ◌&&◌, ◌||◌, List, [], ◌∷◌, Option, Some, None, slice_get, if◌then◌else◌}
 use Rattle.std.proofs.Common.{nat_le, nat_eq, ◌∙◌, refl, sym, ap, subst, inl, inr, arith}
 use Rattle.std.proofs.lemmas.Bool.Decides.{nat_tests}
 use Rattle.bac_apdu.specs.Apdu.{Apdu}
@@ -16,7 +16,7 @@ use Rattle.bac_protocol.specs.Log.Fact.{Asked, Performed, Ended, Changed, Restar
 use Rattle.bac_protocol.specs.Transaction.{Key, Rules, Copy, ended, ended_away, performed, served, client_context, server_context}
 use Rattle.bac_protocol.specs.World.{World, Post, Event, later, client_acts, server_acts, asked_at, begin_of, is_id_held, is_room, service_of, reacts}
 use Rattle.bac_protocol.specs.World.{serves, ask_made, takes_at_client, takes_at_server, arrives, delivered, ticks_ticket, ticks_as_client}
-use Rattle.bac_protocol.specs.World.{ticks_as_server, stored, is_active, begun, is_quiet, begun_again, happens, run, start, client_now, server_now}
+use Rattle.bac_protocol.specs.World.{ticks_as_server, stored, is_short, is_active, begun, is_quiet, begun_again, happens, run, start, client_now, server_now}
 use Rattle.bac_protocol.specs.World.Event.{MakeAsk, Deliver, Tick, Noise, Advance, Change, RestartClient, RestartServer, Begin, BeginAgain, Stray, AskAway, TickAway}
 use Rattle.bac_protocol.specs.World.{server_acts_away, reacts_away, serves_away, is_id_held_away}
 use Rattle.bac_protocol.specs.World.{strays_to_server, strays_to_client, asked_away, ticks_ticket_away, ticks_as_client_away, ticks_as_server_away}
@@ -25,7 +25,8 @@ use Rattle.bac_protocol.proofs.Dead.{ended_is_silent}
 use Rattle.bac_protocol.proofs.Keys.{copy_at}
 use Rattle.bac_protocol.proofs.Nets.{net_log, room_opens, sound_at}
 use Rattle.bac_protocol.proofs.Served.{IsServed, gets_served, ticks_quiet}
-use Rattle.bac_protocol.proofs.Standing.{Stands, start_stands, time_stands, change_stands, client_restart_stands, server_restart_stands, begin_stands, begin_again_stands}
+use Rattle.bac_protocol.proofs.Sound.{IsClear}
+use Rattle.bac_protocol.proofs.Standing.{Stands, few_are_clear, start_stands, time_stands, change_stands, client_restart_stands, server_restart_stands, begin_stands, begin_again_stands}
 use Rattle.bac_protocol.proofs.Standing.{ask_stands, ticket_gets, ticket_ticks, entry_gets, entry_ticks, no_entry_ticks, away_right, away_reacts, away_serves, away_asks}
 use Rattle.bac_protocol.proofs.StrangerTables.{Away, away_gets, away_ticks, served_apart}
 
@@ -177,10 +178,7 @@ module _ (S : Type 0) (model : StoreModel S) (opening : ℕ → S) (W : ℕ) (x 
 
   -- the copy whose number that is arrives
   module _ (w : World S) (s : Kept w) (number : ℕ) (p : Post) (at_number : slice_get w.net.posts number ≡ Some p) where
-    k : ℕ
-    k = later p.key number w.net.posts
-
-    arrives_kept : (o : Option ClientTransaction) → w.net.tickets p.key ≡ o → w.net.now - p.copy.moment ≤ w.net.pace.life → later p.key number w.net.posts ≤ x.overtake
+    arrives_kept : (o : Option ClientTransaction) → w.net.tickets p.key ≡ o → w.net.now - p.copy.moment ≤ w.net.pace.life → IsClear W (w.net.pieces p.key) (later p.key number w.net.posts)
         → (free up : Bool) → is_from_client p.copy.apdu ≡ up → Kept (if up then takes_at_server S model x w p.key free p.copy.apdu else takes_at_client S x w p.key p.copy.apdu o)
     arrives_kept None at young few free up way =
         absurd (none_there (later p.key number w.net.posts) p.copy
@@ -199,18 +197,20 @@ module _ (S : Type 0) (model : StoreModel S) (opening : ℕ → S) (W : ℕ) (x 
         reacts_kept w s p.key t (client.client_on_apdu (client_context x p.key (client_now w.net p.key)) x.readable t p.copy.apdu)
         (ticket_gets W x bound w.net s.stands p.key t at p.copy.moment (later p.key number w.net.posts) few p.copy.apdu says)
 
-    by_test : (free a b : Bool) → nat_le (w.net.now - p.copy.moment) w.net.pace.life ≡ a → nat_le (later p.key number w.net.posts) x.overtake ≡ b
-        → Kept (if a && b then arrives S model x w p.key free p.copy.apdu else w)
-    by_test free true true young few = arrives_kept (w.net.tickets p.key) refl (grind (arith, nat_tests)) (grind (arith, nat_tests)) free
-        (is_from_client p.copy.apdu) refl
-    by_test free true false young few = s
-    by_test free false b young few = s
+    by_test : (free a b d : Bool) → nat_le (w.net.now - p.copy.moment) w.net.pace.life ≡ a → nat_le (later p.key number w.net.posts) x.overtake ≡ b
+        → is_short w.net p.key ≡ d → Kept (if a && (b || d) then arrives S model x w p.key free p.copy.apdu else w)
+    by_test free true true d young few short = arrives_kept (w.net.tickets p.key) refl (grind (arith, nat_tests))
+        (few_are_clear W x bound (w.net.pieces p.key) (later p.key number w.net.posts) (inl (grind (arith, nat_tests)))) free (is_from_client p.copy.apdu) refl
+    by_test free true false true young few short = arrives_kept (w.net.tickets p.key) refl (grind (arith, nat_tests))
+        (few_are_clear W x bound (w.net.pieces p.key) (later p.key number w.net.posts) (inr (grind (arith, nat_tests)))) free (is_from_client p.copy.apdu) refl
+    by_test free true false false young few short = s
+    by_test free false b d young few short = s
 
   delivered_kept : (w : World S) → Kept w → (number : ℕ) (free : Bool) (o : Option Post) → slice_get w.net.posts number ≡ o
       → Kept (delivered S model x w number free o)
   delivered_kept w s number free None e = s
   delivered_kept w s number free (Some p) e = by_test w s number p e free (nat_le (w.net.now - p.copy.moment) w.net.pace.life)
-      (nat_le (later p.key number w.net.posts) x.overtake) refl refl
+      (nat_le (later p.key number w.net.posts) x.overtake) (is_short w.net p.key) refl refl refl
 
   -- a ticket's tick
   ticket_kept : (w : World S) → Kept w → (key : Key) (o : Option ClientTransaction) → w.net.tickets key ≡ o → Kept (ticks_ticket S x w key o)

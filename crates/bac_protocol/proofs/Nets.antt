@@ -1,5 +1,5 @@
 -- What holds of one transaction holds of each of many.
-use Rattle.std.proofs.Common.{◌≡◌, ℕ, ◌+◌, ◌<◌, ◌≤◌, ◌≢◌, ◌⊎◌, Bool, true, false, not, ◌&&◌, List, ◌∷◌, Option, Some, None}
+use Rattle.std.proofs.Common.{◌≡◌, ℕ, ◌+◌, ◌<◌, ◌≤◌, ◌≢◌, ◌⊎◌, max, Bool, true, false, not, ◌&&◌, List, ◌∷◌, length, Option, Some, None}
 use Rattle.std.proofs.Common.{nat_le, nat_lt, nat_eq, refl, sym, if◌then◌else◌}
 use Rattle.std.proofs.Common.{ap, subst, inl, inr, ◌∙◌, arith, zero-add}
 use Rattle.std.proofs.lemmas.Bool.Decides.{nat_tests}
@@ -20,7 +20,7 @@ use Rattle.bac_protocol.specs.Log.{Fact, asks_in, IsUnperformed, IsUnended, IsOr
 use Rattle.bac_protocol.specs.Log.Fact.{Asked, Performed, Ended, Changed, Restarted, Served, AskedAway, EndedAway}
 use Rattle.bac_protocol.specs.Transaction.{Key, Rules, ended, performed, client_context}
 use Rattle.bac_protocol.specs.World.{Net, set_at, client_acts, server_acts, asked_at, notes_change, is_room, net_start}
-use Rattle.bac_protocol.specs.World.{Strangers, lost, client_restarted, server_restarted, client_begun, server_begun, next_client, client_now, server_now, passes, is_lost, is_in_time}
+use Rattle.bac_protocol.specs.World.{Strangers, with_reply, lost, client_restarted, server_restarted, client_begun, server_begun, next_client, client_now, server_now, passes, is_lost, is_in_time}
 use Rattle.bac_protocol.proofs.Alone.{Transaction, client_does, server_does, asked_by, one}
 use Rattle.bac_protocol.proofs.Sound.{OfAsk, IsOfOther, IsBelow, Up, Down, IsKeptFor, IsUnbegun, StateFits, WasGiven, ServerFits, IsOpenIn, IsCounted, IsTimed, IsSoundAt, IsSound}
 use Rattle.bac_protocol.proofs.Sound.Up.{Reading}
@@ -129,6 +129,8 @@ elsewhere W asks' key f w (Some t) log ne s = (
     server = server_more W w.times w.number t.ask f w.log s.0 s.1 w.entry (ne t refl) (s.2).server;
     upload = (s.2).upload;
     download = (s.2).download;
+    asked_within = (s.2).asked_within;
+    given_within = (s.2).given_within;
     arriving = λ k c e young. let h = (s.2).arriving k c e young in (
       h.0,
       rw zero-add at (says_goes W w.times 0 c.moment k w.number t.ask w.log (f ∷ w.log) s.0 s.0 s.1 s.1 (grows_more f w.log) (up_same 0 s.0)
@@ -252,12 +254,14 @@ net_server W n key t at s v own = net_keeps W n (server_acts n key v) key s
     (server_does (one n key) v) {
       ticket = sym at i;
       entry = sym (set_same n.entries key v.entry) i;
+      pieces = sym (set_same n.pieces key (with_reply (n.pieces key) v.effect v.entry)) i;
       copies = sym
           (copies_posted key n.now v.sends n.posts) i;
     }) own)
     (λ k ne i. record (one n k) {
       log = performed (n.numbers key) v.effect n.log;
       entry = set_other n.entries key v.entry k ne i;
+      pieces = set_other n.pieces key (with_reply (n.pieces key) v.effect v.entry) k ne i;
       copies =
           copies_other key k ne n.now v.sends n.posts i;
     })
@@ -277,6 +281,7 @@ net_asked W some x n key s spent choice whole front rest = net_keeps W n (asked_
     (asked_by x key (one n key) ask) {
       times = record (moments_of n key) { made = sym (set_same n.made key n.now) i; until = sym (set_same n.until key n.now) i };
       number = sym (set_same n.numbers key n.asks) i;
+      pieces = sym (set_same n.pieces key (length ask.pieces)) i;
       ticket = sym (set_same n.tickets key (Some made)) i;
       copies =
           sym (copies_posted key n.now sends n.posts) i;
@@ -287,6 +292,7 @@ net_asked W some x n key s spent choice whole front rest = net_keeps W n (asked_
       log = Asked n.asks key.client key.server (request_of ask) ∷ n.log;
       number =
           set_other n.numbers key n.asks k ne i;
+      pieces = set_other n.pieces key (length ask.pieces) k ne i;
       ticket = set_other n.tickets key (Some made) k ne i;
       copies = copies_other key k ne n.now sends n.posts i;
     })
@@ -374,6 +380,8 @@ loses_entry W exact key w (Some t) s = (
     server = server_lost W exact w.times w.number t.ask w.log s.0 s.1 w.entry (s.2).clock.timely.some (s.2).clock.on (s.2).server;
     upload = (s.2).upload;
     download = (s.2).download;
+    asked_within = (s.2).asked_within;
+    given_within = (s.2).given_within;
     arriving = (s.2).arriving;
   },
 )
@@ -452,6 +460,8 @@ loses_ticket W exact at key w (Some t) before s = (
     server = server_renewing W exact at w.times w.number t.ask w.log s.0 s.1 w.entry (s.2).server;
     upload = (s.2).upload;
     download = (s.2).download;
+    asked_within = (s.2).asked_within;
+    given_within = (s.2).given_within;
     arriving = (s.2).arriving;
   },
 )
@@ -547,6 +557,8 @@ server_begins W exact key w (Some t) nil none s = (
         (subst (λ (e : Option ServerTransaction). ServerFits W w.times w.number t.ask e s.0 s.1 w.log) nil (s.2).server));
     upload = (s.2).upload;
     download = (s.2).download;
+    asked_within = (s.2).asked_within;
+    given_within = (s.2).given_within;
     arriving = (s.2).arriving;
   },
 )
@@ -677,6 +689,8 @@ module _ (by a b until : ℕ) (times : Moments) (later : times.until ≤ until) 
       server = server_later W w.number t.ask w.log s.0 s.1 w.entry (s.2).clock (s.2).server;
       upload = (s.2).upload;
       download = (s.2).download;
+      asked_within = (s.2).asked_within;
+      given_within = (s.2).given_within;
       arriving = λ k c d young.
           let h = (s.2).arriving k c d (omega arith) in
           (h.0, says_later W w.number k c.moment times (passing by a b until times) later (omega arith) t.ask w.log s.0 s.1 c.apdu h.1);

@@ -1,5 +1,5 @@
 -- In every run all copies are their transactions' own, and have the windows of their ends.
-use Rattle.std.proofs.Common.{◌≡◌, ℕ, zero, suc, ◌-◌, ◌⊎◌, Bool, true, false, ◌&&◌, List, [], ◌∷◌, ◌++◌, map, Option, Some, None, slice_get}
+use Rattle.std.proofs.Common.{◌≡◌, ℕ, zero, suc, ◌-◌, ◌⊎◌, Bool, true, false, ◌&&◌, ◌||◌, List, [], ◌∷◌, ◌++◌, map, Option, Some, None, slice_get}
 use Rattle.std.proofs.Common.{if◌then◌else◌, nat_le, nat_eq, refl, sym, subst, inl, inr, arith}
 use Rattle.bac_apdu.specs.Apdu.{Apdu}
 use Rattle.bac_apdu.specs.Apdu.Apdu.{ConfirmedRequest, ComplexAck}
@@ -15,7 +15,7 @@ use Rattle.bac_protocol.specs.Log.{StoreModel}
 use Rattle.bac_protocol.specs.Transaction.{Key, Rules, client_context, server_context}
 use Rattle.bac_protocol.specs.World.{Net, World, Post, Event, post_of, set_at, later, client_acts, server_acts, is_id_held, is_room, lost, ask_made}
 use Rattle.bac_protocol.specs.World.{takes_at_client, takes_at_server, arrives, delivered, ticks_ticket, ticks_as_client, ticks_as_server, serves}
-use Rattle.bac_protocol.specs.World.{service_of, is_active, begun, is_quiet, begun_again, happens, run, start}
+use Rattle.bac_protocol.specs.World.{service_of, is_short, is_active, begun, is_quiet, begun_again, happens, run, start}
 use Rattle.bac_protocol.specs.World.Event.{MakeAsk, Deliver, Tick, Noise, Advance, Change, RestartClient, RestartServer, Begin, BeginAgain, Stray, AskAway, TickAway}
 use Rattle.bac_protocol.specs.Own.{EntryHas, PhaseHas, TicketHas, IsLesser, IsSentByClient, IsSentByServer, IsOwnPost, AreOwn}
 use Rattle.bac_protocol.specs.World.{serves_away, is_id_held_away, strays_to_server, strays_to_client, asked_away, ticks_ticket_away, ticks_as_client_away}
@@ -172,7 +172,7 @@ module _ (x : Rules) where
     delivered_owned : (w : World S) → Owned w.net → (number : ℕ) (free : Bool) (o : Option Post) → slice_get w.net.posts number ≡ o
         → Owned (delivered S model x w number free o).net
     delivered_owned w h number free None e = h
-    delivered_owned w h number free (Some p) e = go (nat_le (w.net.now - p.copy.moment) w.net.pace.life && nat_le (later p.key number w.net.posts) x.overtake)
+    delivered_owned w h number free (Some p) e = go (nat_le (w.net.now - p.copy.moment) w.net.pace.life && (nat_le (later p.key number w.net.posts) x.overtake || is_short w.net p.key))
       where
         go : (b : Bool) → Owned (if b then arrives S model x w p.key free p.copy.apdu else w).net
         go true = arrives_owned w h p.key free p.copy.apdu (own_at w.net.posts h.posts number p e) (is_from_client p.copy.apdu) refl

@@ -1,5 +1,5 @@
 -- After any moves a net is in order.
-use Rattle.std.proofs.Common.{◌≡◌, ℕ, ◌-◌, ◌≤◌, Bool, true, false, ◌&&◌, List, [], ◌∷◌, Option, Some, None, slice_get, nat_le, refl, subst, if◌then◌else◌}
+use Rattle.std.proofs.Common.{◌≡◌, ℕ, ◌-◌, ◌≤◌, ◌⊎◌, Bool, true, false, ◌&&◌, ◌||◌, List, [], ◌∷◌, Option, Some, None, slice_get, nat_le, refl, subst, inl, inr, if◌then◌else◌}
 use Rattle.std.proofs.Common.{arith}
 use Rattle.std.proofs.lemmas.Bool.Decides.{nat_tests}
 use Rattle.bac_apdu.specs.Apdu.{Apdu}
@@ -12,7 +12,7 @@ use Rattle.bac_protocol.specs.Server as server
 use Rattle.bac_protocol.specs.Server.{Service}
 use Rattle.bac_protocol.specs.Transaction.{Key, Rules, client_context, server_context, Copy}
 use Rattle.bac_protocol.specs.World.{Net, Post, later, server_acts, asked_at, asked_away_at, is_id_held, is_id_held_away, is_room, net_start, client_now, server_now}
-use Rattle.bac_protocol.specs.World.{is_active, begun, is_quiet, begun_again}
+use Rattle.bac_protocol.specs.World.{is_short, is_active, begun, is_quiet, begun_again}
 use Rattle.bac_protocol.specs.Claims.{IsBounded}
 use Rattle.bac_protocol.specs.Moves.{Move, taken_by_client, taken_by_server, arrived, ticket_ticked, moved, IsReached, IsInOrder, SetsOnePlace}
 use Rattle.bac_protocol.specs.Moves.{strayed_to_client, strayed_to_server, ticket_ticked_away}
@@ -23,8 +23,9 @@ use Rattle.bac_protocol.proofs.Calm.{Calm, none_live_of}
 use Rattle.bac_protocol.proofs.Dead.{ended_is_silent}
 use Rattle.bac_protocol.proofs.Keys.{copy_at, set_same, set_other}
 use Rattle.bac_protocol.proofs.Nets.{NetSound, net_log, room_opens, sound_at}
-use Rattle.bac_protocol.proofs.Standing.{Stands, start_stands, time_stands, change_stands, client_restart_stands, server_restart_stands, begin_stands, begin_again_stands}
+use Rattle.bac_protocol.proofs.Standing.{Stands, few_are_clear, start_stands, time_stands, change_stands, client_restart_stands, server_restart_stands, begin_stands, begin_again_stands}
 use Rattle.bac_protocol.proofs.Standing.{ask_stands, ticket_gets, ticket_ticks, entry_gets, entry_ticks, no_entry_ticks, away_reacts, away_serves, away_asks, spent_stands}
+use Rattle.bac_protocol.proofs.Sound.{IsClear}
 use Rattle.bac_protocol.proofs.StrangerTables.{away_gets, away_ticks, served_apart, was_away}
 
 none_there : (k : ℕ) (c : Copy) → slice_get [] k ≡ Some c → ⊥
@@ -37,7 +38,7 @@ module _ (W : ℕ) (x : Rules) (bound : IsBounded W x) where
       (copy_at number n.posts p at))
 
   arrives_stands : (n : Net) → Stands W n → (number : ℕ) (p : Post) → slice_get n.posts number ≡ Some p → n.now - p.copy.moment ≤ n.pace.life
-      → later p.key number n.posts ≤ x.overtake → (free : Bool) (service : Service) (o : Option ClientTransaction) → n.tickets p.key ≡ o → (up : Bool)
+      → IsClear W (n.pieces p.key) (later p.key number n.posts) → (free : Bool) (service : Service) (o : Option ClientTransaction) → n.tickets p.key ≡ o → (up : Bool)
       → is_from_client p.copy.apdu ≡ up → Stands W (if up then taken_by_server x n p free service else taken_by_client x n p o)
   arrives_stands n s number p at young few free service None is up way = absurd (posted n s number p at is)
   arrives_stands n s number p at young few free service (Some t) is true way =
@@ -51,14 +52,20 @@ module _ (W : ℕ) (x : Rules) (bound : IsBounded W x) where
   arrived_stands : (n : Net) → Stands W n → (number : ℕ) (free : Bool) (service : Service) (o : Option Post) → slice_get n.posts number ≡ o
       → Stands W (arrived x n number free service o)
   arrived_stands n s number free service None at = s
-  arrived_stands n s number free service (Some p) at = go (nat_le (n.now - p.copy.moment) n.pace.life) (nat_le (later p.key number n.posts) x.overtake) refl refl
+  arrived_stands n s number free service (Some p) at = go (nat_le (n.now - p.copy.moment) n.pace.life) (nat_le (later p.key number n.posts) x.overtake)
+      (is_short n p.key) refl refl refl
     where
-      go : (a b : Bool) → nat_le (n.now - p.copy.moment) n.pace.life ≡ a → nat_le (later p.key number n.posts) x.overtake ≡ b
-          → Stands W (if a && b then (if is_from_client p.copy.apdu then taken_by_server x n p free service else taken_by_client x n p (n.tickets p.key)) else n)
-      go true true young few = arrives_stands n s number p at (grind (arith, nat_tests)) (grind (arith, nat_tests)) free service (n.tickets p.key) refl
-          (is_from_client p.copy.apdu) refl
-      go true false young few = s
-      go false b young few = s
+      arrives : n.now - p.copy.moment ≤ n.pace.life → (later p.key number n.posts ≤ x.overtake) ⊎ (n.pieces p.key ≤ 256)
+          → Stands W (if is_from_client p.copy.apdu then taken_by_server x n p free service else taken_by_client x n p (n.tickets p.key))
+      arrives young clear = arrives_stands n s number p at young (few_are_clear W x bound (n.pieces p.key) (later p.key number n.posts) clear) free service
+          (n.tickets p.key) refl (is_from_client p.copy.apdu) refl
+
+      go : (a b d : Bool) → nat_le (n.now - p.copy.moment) n.pace.life ≡ a → nat_le (later p.key number n.posts) x.overtake ≡ b → is_short n p.key ≡ d
+          → Stands W (if a && (b || d) then (if is_from_client p.copy.apdu then taken_by_server x n p free service else taken_by_client x n p (n.tickets p.key)) else n)
+      go true true d young few short = arrives (grind (arith, nat_tests)) (inl (grind (arith, nat_tests)))
+      go true false true young few short = arrives (grind (arith, nat_tests)) (inr (grind (arith, nat_tests)))
+      go true false false young few short = s
+      go false b d young few short = s
 
   ticket_stands : (n : Net) → Stands W n → (key : Key) (o : Option ClientTransaction) → n.tickets key ≡ o → Stands W (ticket_ticked x n key o)
   ticket_stands n s key None is = s

@@ -1,5 +1,5 @@
 -- What holds of one transaction at each moment. Whole numbers of pieces are kept beside the two machines, which see numbers modulo 256 alone.
-use Rattle.std.proofs.Common.{◌≡◌, ℕ, ◌+◌, ◌-◌, ◌<◌, ◌≤◌, ◌≢◌, ◌⊎◌, true, false, List, [], ◌∷◌, length, take, Option, Some, None}
+use Rattle.std.proofs.Common.{◌≡◌, ℕ, ◌+◌, ◌-◌, ◌*◌, ◌<◌, ◌≤◌, ◌≢◌, ◌⊎◌, true, false, List, [], ◌∷◌, length, take, Option, Some, None}
 use Rattle.bac_apdu.specs.Apdu.{Apdu, Segment}
 use Rattle.bac_apdu.specs.Apdu.Apdu.{ConfirmedRequest, UnconfirmedRequest, SimpleAck, ComplexAck, SegmentAck, Error, Reject, Abort}
 use Rattle.bac_segment.specs.Limits.{N_RETRY}
@@ -111,6 +111,10 @@ Says W times number ask log up down moment k (Abort false id reason) = moment �
 -- a copy that is young enough to arrive was sent since the ask was made, and is of it
 abbrev pub Fits : ℕ → Moments → ℕ → Ask → List Fact → Up → Down → ℕ → Copy → Type 0
 Fits W times number ask log up down k c = times.now - c.moment ≤ times.pace.life → (times.made ≤ c.moment) × Says W times number ask log up down c.moment k c.apdu
+
+-- the numbers of a transfer in so many pieces are clear to the receiver of a copy with k later ones
+abbrev pub IsClear : (W total k : ℕ) → Type 0
+IsClear W total k = (k + 2 * W ≤ 255) ⊎ (total ≤ 256)
 
 -- The client.
 
@@ -252,7 +256,12 @@ pub record IsTimed (times : Moments) (first : ℕ) : Type 0 where
   pub early : times.until ≤ times.made + most times.pace DEADLINE
   pub counts : times.restarted ≤ times.made → IsCounted times first
 
-pub record Sound (W : ℕ) (key : Key) (times : Moments) (asks number : ℕ) (t : ClientTransaction) (entry : Option ServerTransaction) (copies : List Copy) (log : List Fact) (up : Up)
+-- the reply has no more pieces than these
+abbrev pub IsDownWithin : (most : ℕ) → Down → Type 0
+IsDownWithin most Unsent = Unit {0}
+IsDownWithin most (Sent pieces taken sent) = length pieces ≤ most
+
+pub record Sound (W most : ℕ) (key : Key) (times : Moments) (asks number : ℕ) (t : ClientTransaction) (entry : Option ServerTransaction) (copies : List Copy) (log : List Fact) (up : Up)
     (down : Down) : Type 0 where
   pub clock : IsTimed times t.ask.first
   pub numbers : IsBelow asks log
@@ -266,6 +275,8 @@ pub record Sound (W : ℕ) (key : Key) (times : Moments) (asks number : ℕ) (t 
   pub server : ServerFits W times number t.ask entry up down log
   pub upload : UpFits W t.ask up
   pub download : DownFits W down
+  pub asked_within : length t.ask.pieces ≤ most
+  pub given_within : IsDownWithin most down
   pub arriving : EachCopy (λ k c. Fits W times number t.ask log up down k c) copies
 
 -- nothing was asked yet of this transaction
@@ -278,7 +289,7 @@ pub record IsFresh (asks : ℕ) (entry : Option ServerTransaction) (copies : Lis
 
 abbrev pub IsSoundAt : ℕ → Key → Option ClientTransaction → Transaction → Type 0
 IsSoundAt W key None w = IsFresh w.asks w.entry w.copies w.log
-IsSoundAt W key (Some t) w = (up : Up) × (down : Down) × Sound W key w.times w.asks w.number t w.entry w.copies w.log up down
+IsSoundAt W key (Some t) w = (up : Up) × (down : Down) × Sound W w.pieces key w.times w.asks w.number t w.entry w.copies w.log up down
 
 abbrev pub IsSound : ℕ → Key → Transaction → Type 0
 IsSound W key w = IsSoundAt W key w.ticket w

@@ -1,5 +1,5 @@
 -- What holds of every net to which moves lead. Each step of an end, of time and of a life keeps it.
-use Rattle.std.proofs.Common.{◌≡◌, ℕ, ◌+◌, ◌-◌, ◌≤◌, Bool, true, false, List, [], ◌∷◌, ◌++◌, Option, Some, None, slice_get, if◌then◌else◌, refl, sym, ap, subst, arith}
+use Rattle.std.proofs.Common.{◌≡◌, ℕ, ◌+◌, ◌-◌, ◌≤◌, ◌⊎◌, Bool, true, false, List, [], ◌∷◌, ◌++◌, Option, Some, None, slice_get, if◌then◌else◌, refl, sym, ap, subst, inl, inr, arith}
 use Rattle.bac_apdu.specs.Apdu.{Apdu}
 use Rattle.bac_protocol.specs.Times.{DEADLINE, KEEP}
 use Rattle.bac_protocol.specs.Pace.{Pace, IsTimely, clock_at, most}
@@ -31,7 +31,7 @@ use Rattle.bac_protocol.proofs.Resting.{Unasked, Unserved, not_active, unasked_a
 use Rattle.bac_protocol.proofs.Resting.{unserved_acts, unserved_acts_away, unserved_more, unserved_restarts}
 use Rattle.bac_protocol.proofs.Sending.{Sends, made_before, sends_asked, sends_client, sends_later, sends_next_client, sends_restarted, sends_start}
 use Rattle.bac_protocol.proofs.ServerKeeps.{server_gets_kept, server_ticks_kept}
-use Rattle.bac_protocol.proofs.Sound.{Says}
+use Rattle.bac_protocol.proofs.Sound.{IsClear, Says}
 use Rattle.bac_protocol.proofs.StrangerTables.{Away, away_after, away_asked, away_ended, away_later, away_lost, away_more, away_performed}
 use Rattle.bac_protocol.proofs.StrangerTables.{away_server_begins, away_server_restarted, away_starts, right_after, right_asked}
 
@@ -56,6 +56,11 @@ start_stands W pace clocks timely = record {
 all_there : (posts : List Post) → posts ++ [] ≡ posts
 all_there [] = refl
 all_there (p ∷ posts) = ap (λ ps. p ∷ ps) (all_there posts)
+
+-- few enough later copies may overtake one, or its transfers are short
+pub few_are_clear : (W : ℕ) (x : Rules) → IsBounded W x → (pieces k : ℕ) → (k ≤ x.overtake) ⊎ (pieces ≤ 256) → IsClear W pieces k
+few_are_clear W x bound pieces k (inl few) = let room = bound.room in inl (omega arith)
+few_are_clear W x bound pieces k (inr short) = inr short
 
 module _ (W : ℕ) (n : Net) (s : Stands W n) where
   log_stands : IsLogOf n.asks n.log
@@ -272,7 +277,12 @@ module _ (W : ℕ) (x : Rules) (bound : IsBounded W x) (n : Net) (s : Stands W n
       go : (o : Option ServerTransaction) → n.entries key ≡ o → o ≡ None → Stands W (server_acts n key (server.server_ticks (server_context x key (server_now n key)) o))
       go (Some e) is nil = absurd cc
       go None is nil = subst (λ (m : Net). Stands W m)
-          (λ i. record n { served = with_node key.server n.served; entries = sym (set_nothing n.entries key None is) i; posts = sym (all_there n.posts) i })
+          (λ i. record n {
+            served = with_node key.server n.served;
+            entries = sym (set_nothing n.entries key None is) i;
+            pieces = sym (set_nothing n.pieces key (n.pieces key) refl) i;
+            posts = sym (all_there n.posts) i;
+          })
           (served_stands W n s key.server)
 
   -- What each machine does, where there is a ticket.
@@ -292,22 +302,22 @@ module _ (W : ℕ) (x : Rules) (bound : IsBounded W x) (n : Net) (s : Stands W n
         let c = client_context x key (client_now n key) in
         let r = client.client_ticks c t in
         reacts_keep W n s key t at r (net_client W n key t at s.net r
-        (client_ticks_kept W x.overtake bound.some bound.room (x.settings key.client) (bound.windows key.client) x.readable key
+        (client_ticks_kept W bound.some (x.settings key.client) (bound.windows key.client) x.readable key
         (one n key) t f.0 f.1 f.2))
         (calm_client n s.calm key t at r (ended_is_silent.ticks c t))
 
-    pub ticket_gets : (m k : ℕ) → k ≤ x.overtake → (a : Apdu) → Says_at m k a
+    pub ticket_gets : (m k : ℕ) → IsClear W (n.pieces key) k → (a : Apdu) → Says_at m k a
         → Stands W (client_acts n key t (client.client_on_apdu (client_context x key (client_now n key)) x.readable t a))
     ticket_gets m k few a says =
         let f = sound_at W n key (Some t) at s.net in
         let c = client_context x key (client_now n key) in
         let r = client.client_on_apdu c x.readable t a in
         reacts_keep W n s key t at r (net_client W n key t at s.net r
-        (client_gets_kept W x.overtake bound.some bound.room (x.settings key.client) (bound.windows key.client) x.readable key
+        (client_gets_kept W bound.some (x.settings key.client) (bound.windows key.client) x.readable key
         (one n key) t f.0 f.1 f.2 m k few a says))
         (calm_client n s.calm key t at r (ended_is_silent.gets c x.readable t a))
 
-    pub entry_gets : (k : ℕ) → k ≤ x.overtake → (p : Copy) → slice_get (one n key).copies k ≡ Some p → n.now - p.moment ≤ n.pace.life
+    pub entry_gets : (k : ℕ) → IsClear W (n.pieces key) k → (p : Copy) → slice_get (one n key).copies k ≡ Some p → n.now - p.moment ≤ n.pace.life
         → is_from_client p.apdu ≡ true → Says_at p.moment k p.apdu → (service : Service) (free : Bool)
         → Stands W (server_acts n key (server.server_on_apdu (server_context x key (server_now n key)) service (n.entries key)
         (is_room n key free) p.apdu))
@@ -317,7 +327,7 @@ module _ (W : ℕ) (x : Rules) (bound : IsBounded W x) (n : Net) (s : Stands W n
         let v = server.server_on_apdu c service (n.entries key) (is_room n key free) p.apdu in
         serves_keep W n s key v
         (net_server W n key t at s.net v
-        (server_gets_kept W x.overtake bound.some bound.room (x.settings key.server) (bound.windows key.server) service key
+        (server_gets_kept W bound.some (x.settings key.server) (bound.windows key.server) service key
         (one n key) t (n.entries key) f.0 f.1 f.2 (is_room n key free) (room_opens n key free) p.moment k few young p.apdu says))
         (calm_gets n s.calm key c refl refl service (is_room n key free) (room_opens n key free) k p place young way)
 
@@ -327,6 +337,6 @@ module _ (W : ℕ) (x : Rules) (bound : IsBounded W x) (n : Net) (s : Stands W n
         let c = server_context x key (server_now n key) in
         let v = server.server_ticks c (n.entries key) in
         serves_keep W n s key v
-        (net_server W n key t at s.net v (server_ticks_kept W x.overtake bound.some bound.room (x.settings key.server) (bound.windows key.server)
+        (net_server W n key t at s.net v (server_ticks_kept W bound.some (x.settings key.server) (bound.windows key.server)
         (λ choice octets. Rejects 0) key (one n key) t (n.entries key) f.0 f.1 f.2))
         (calm_ticks n s.calm key c refl refl)

@@ -31,9 +31,9 @@ pub record IsBounded (W : ℕ) (x : Rules) : Type 0 where
 abbrev pub EachCopy : (ℕ → Copy → Type 0) → List Copy → Type 0
 EachCopy P copies = (k : ℕ) (c : Copy) → slice_get copies k ≡ Some c → P k c
 
--- copy c, with k later ones, may arrive
-abbrev pub MayArrive : Rules → Net → ℕ → Copy → Type 0
-MayArrive x n k c = (n.now - c.moment ≤ n.pace.life) × (k ≤ x.overtake)
+-- copy c of that transaction, with k later ones, may arrive
+abbrev pub MayArrive : Rules → Net → Key → ℕ → Copy → Type 0
+MayArrive x n key k c = (n.now - c.moment ≤ n.pace.life) × ((k ≤ x.overtake) ⊎ (n.pieces key ≤ 256))
 
 -- The times of one transaction: real ones, and what the clocks of its ends show.
 pub record Moments : Type 0 where
@@ -83,8 +83,8 @@ pub record HasRestartedSince (m : Moments) : Type 0 where
 -- the world's copy of that number stands among those of its transaction at the number of later ones, and is deliverable exactly where it may arrive
 pub record IsInPlace (x : Rules) (n : Net) (number : ℕ) (p : Post) : Type 0 where
   pub place : slice_get (copies_of p.key n.posts) (later p.key number n.posts) ≡ Some p.copy
-  pub arrives : is_deliverable x n number p ≡ true → MayArrive x n (later p.key number n.posts) p.copy
-  pub only : MayArrive x n (later p.key number n.posts) p.copy → is_deliverable x n number p ≡ true
+  pub arrives : is_deliverable x n number p ≡ true → MayArrive x n p.key (later p.key number n.posts) p.copy
+  pub only : MayArrive x n p.key (later p.key number n.posts) p.copy → is_deliverable x n number p ≡ true
 
 -- piece p of these, as a segment carries it
 pub record IsPieceAt (pieces : List Octets) (p : ℕ) (segment : Segment) (octets : Octets) : Type 0 where
@@ -142,7 +142,7 @@ LiveIsOf m ask (Some e) = is_live m.server.shows e ≡ true → IsEntryOf m ask 
 -- each copy of the transaction that may arrive is of its newest ask, and so is its entry, where it is live
 pub record IsOfNewest (x : Rules) (n : Net) (key : Key) (t : ClientTransaction) : Type 0 where
   pub asked : Has (Asked (n.numbers key) key.client key.server (request_of t.ask)) n.log
-  pub copies : EachCopy (λ k c. MayArrive x n k c → IsCopyOf (moments_of n key) (n.numbers key) t.ask n.log c) (copies_of key n.posts)
+  pub copies : EachCopy (λ k c. MayArrive x n key k c → IsCopyOf (moments_of n key) (n.numbers key) t.ask n.log c) (copies_of key n.posts)
   pub entry : LiveIsOf (moments_of n key) t.ask (n.entries key)
 
 -- where there was no ask, there is nothing
@@ -200,36 +200,36 @@ pub record IsInWindow (W : ℕ) (out : Outgoing) (taken sent : ℕ) : Type 0 whe
 
 -- No number is misread.
 
--- a segment that has the number of the next piece is the next piece
+-- a segment that has the number of the next piece, while there is one, is the next piece
 abbrev pub IsReadAsNext : List Octets → (taken : ℕ) → Segment → Octets → Type 0
-IsReadAsNext pieces taken segment octets = segment.number ≡ taken % 256 → IsPieceAt pieces taken segment octets
+IsReadAsNext pieces taken segment octets = taken < length pieces → segment.number ≡ taken % 256 → IsPieceAt pieces taken segment octets
 
--- what a SegmentACK acknowledges to the sender was taken
-abbrev pub IsReadAsTaken : (W taken sent number : ℕ) → Type 0
-IsReadAsTaken W taken sent number = (out : Outgoing) → IsInWindow W out taken sent → ahead number out.first < in_window out
+-- what a SegmentACK acknowledges to the sender of these pieces was taken
+abbrev pub IsReadAsTaken : (W : ℕ) → List Octets → (taken sent number : ℕ) → Type 0
+IsReadAsTaken W pieces taken sent number = (out : Outgoing) → out.pieces ≡ pieces → IsInWindow W out taken sent → ahead number out.first < in_window out
     → out.first + ahead number out.first < taken
 
 -- all this of the APDUs of a request's transfer
 abbrev pub IsNearUp : (W : ℕ) → List Octets → (taken sent : ℕ) → ℕ → Apdu → Type 0
 IsNearUp W pieces taken sent k (ConfirmedRequest limits invoke_id (Some segment) choice service) =
     IsPiece W pieces sent k segment service × IsReadAsNext pieces taken segment service
-IsNearUp W pieces taken sent k (SegmentAck true invoke_id ack) = IsAck W taken sent k ack.number × IsReadAsTaken W taken sent ack.number
+IsNearUp W pieces taken sent k (SegmentAck true invoke_id ack) = IsAck W taken sent k ack.number × IsReadAsTaken W pieces taken sent ack.number
 IsNearUp W pieces taken sent k _ = Unit {0}
 
 -- and of a reply's
 abbrev pub IsNearDown : (W : ℕ) → List Octets → (taken sent : ℕ) → ℕ → Apdu → Type 0
 IsNearDown W pieces taken sent k (ComplexAck invoke_id (Some segment) choice service) =
     IsPiece W pieces sent k segment service × IsReadAsNext pieces taken segment service
-IsNearDown W pieces taken sent k (SegmentAck false invoke_id ack) = IsAck W taken sent k ack.number × IsReadAsTaken W taken sent ack.number
+IsNearDown W pieces taken sent k (SegmentAck false invoke_id ack) = IsAck W taken sent k ack.number × IsReadAsTaken W pieces taken sent ack.number
 IsNearDown W pieces taken sent k _ = Unit {0}
 
 -- in a pass over so many pieces, taken ≤ sent ≤ taken + W; the whole number p of each copy that may arrive has p < sent ≤ p + 1 + W + k, and it is
 -- read as it was meant
-pub record IsNearPass (W : ℕ) (x : Rules) (n : Net) (total taken sent : ℕ) (near : ℕ → Apdu → Type 0) (copies : List Copy) : Type 0 where
+pub record IsNearPass (W : ℕ) (x : Rules) (n : Net) (key : Key) (total taken sent : ℕ) (near : ℕ → Apdu → Type 0) (copies : List Copy) : Type 0 where
   pub taken_sent : taken ≤ sent
   pub sent_taken : sent ≤ taken + W
   pub sent_total : sent ≤ total
-  pub copies_near : EachCopy (λ k c. MayArrive x n k c → near k c.apdu) copies
+  pub copies_near : EachCopy (λ k c. MayArrive x n key k c → near k c.apdu) copies
 
 -- so many pieces were taken: the first of them
 pub record HasFront (pieces : List Octets) (inc : Incoming) (taken : ℕ) : Type 0 where
@@ -265,7 +265,7 @@ pub record IsRequestPass (W : ℕ) (x : Rules) (n : Net) (key : Key) (t : Client
   pub sent : ℕ
   pub server : ServerHasTaken (moments_of n key) t.ask (n.entries key) taken
   pub client : ClientIsInWindow W t.ask t.phase taken sent
-  pub pass : IsNearPass W x n (length t.ask.pieces) taken sent (IsNearUp W t.ask.pieces taken sent) (copies_of key n.posts)
+  pub pass : IsNearPass W x n key (length t.ask.pieces) taken sent (IsNearUp W t.ask.pieces taken sent) (copies_of key n.posts)
 
 -- a request in segments is in its first pass until a repeat is made
 abbrev pub RequestsAreInWindow : ℕ → Rules → Net → Type 0
@@ -286,7 +286,7 @@ pub record IsReplyPass (W : ℕ) (x : Rules) (n : Net) (key : Key) (t : ClientTr
   pub performed : WasPerformed (n.numbers key) t.ask (reply.Complex (join out.pieces)) n.log
   pub client : ClientHasTaken out.pieces t.phase taken
   pub server : IsInWindow W out taken sent
-  pub pass : IsNearPass W x n (length out.pieces) taken sent (IsNearDown W out.pieces taken sent) (copies_of key n.posts)
+  pub pass : IsNearPass W x n key (length out.pieces) taken sent (IsNearDown W out.pieces taken sent) (copies_of key n.posts)
 
 -- where no reply was begun in segments, no segment of one may arrive, and no SegmentACK of its client
 abbrev pub IsOfNoPass : Apdu → Type 0
@@ -296,7 +296,7 @@ IsOfNoPass _ = Unit {0}
 
 -- no segment of a reply may arrive
 abbrev pub IsUnsent : Rules → Net → Key → Type 0
-IsUnsent x n key = EachCopy (λ k c. MayArrive x n k c → IsOfNoPass c.apdu) (copies_of key n.posts)
+IsUnsent x n key = EachCopy (λ k c. MayArrive x n key k c → IsOfNoPass c.apdu) (copies_of key n.posts)
 
 -- the pass of a reply whose server restarted in it, and gives no more of it
 pub record IsLostPass (W : ℕ) (x : Rules) (n : Net) (key : Key) (t : ClientTransaction) : Type 0 where
@@ -305,7 +305,7 @@ pub record IsLostPass (W : ℕ) (x : Rules) (n : Net) (key : Key) (t : ClientTra
   pub sent : ℕ
   pub performed : WasPerformed (n.numbers key) t.ask (reply.Complex (join pieces)) n.log
   pub client : ClientHasTaken pieces t.phase taken
-  pub pass : IsNearPass W x n (length pieces) taken sent (IsNearDown W pieces taken sent) (copies_of key n.posts)
+  pub pass : IsNearPass W x n key (length pieces) taken sent (IsNearDown W pieces taken sent) (copies_of key n.posts)
 
 -- in SEGMENTED_RESPONSE the one pass of the reply goes on; otherwise it has not begun
 abbrev pub StateHasReplyPass : (W : ℕ) → Rules → Net → Key → ClientTransaction → State → Type 0
@@ -353,7 +353,7 @@ IsSegmentOfRequest _ = ⊥
 abbrev pub LaterPassesFindReply : Rules → Net → Type 0
 LaterPassesFindReply x n =
     (key : Key) (t : ClientTransaction) → n.tickets key ≡ Some t → t.ask.whole ≡ false → IsPastFirstPass t.phase t.repeats
-    → EachCopy (λ k c. MayArrive x n k c → IsSegmentOfRequest c.apdu
+    → EachCopy (λ k c. MayArrive x n key k c → IsSegmentOfRequest c.apdu
     → HasRestartedSince (moments_of n key) ⊎ IsLiveWithReply (moments_of n key) (n.entries key)) (copies_of key n.posts)
 
 -- Strangers.

@@ -1,5 +1,5 @@
 -- All transactions of all nodes, with one list of copies, one log, and the servers' stores.
-use Rattle.std.specs.Prelude.{◌≡◌, ℕ, zero, suc, ◌+◌, ◌-◌, min, Bool, false, ◌&&◌, not, List, [], ◌∷◌, ◌++◌, map, Option, Some, None, slice_get, if◌then◌else◌}
+use Rattle.std.specs.Prelude.{◌≡◌, ℕ, zero, suc, ◌+◌, ◌-◌, min, max, Bool, false, ◌&&◌, not, List, [], ◌∷◌, ◌++◌, map, length, Option, Some, None, slice_get, if◌then◌else◌}
 use Rattle.std.specs.Prelude.{◌||◌, nat_le, nat_lt, nat_eq}
 use Rattle.bac_apdu.specs.Apdu.{Apdu}
 use Rattle.bac_protocol.specs.Times.{DEADLINE, KEEP, REST}
@@ -9,7 +9,8 @@ use Rattle.bac_protocol.specs.Wire.{is_from_client}
 use Rattle.bac_protocol.specs.Client.{Ask, request_of, Phase, ClientTransaction, after, sends_of, ending_of, asked_ticket, asks, client_on_apdu, client_ticks, is_held}
 use Rattle.bac_protocol.specs.Client as client
 use Rattle.bac_protocol.specs.Client.Phase.{Idle}
-use Rattle.bac_protocol.specs.Server.{ServerTransaction, Effect, Service, server_on_apdu, server_ticks}
+use Rattle.bac_protocol.specs.Server.{ServerTransaction, State, Effect, Service, server_on_apdu, server_ticks}
+use Rattle.bac_protocol.specs.Server.State.{SegmentedResponse}
 use Rattle.bac_protocol.specs.Server as server
 use Rattle.bac_protocol.specs.Log.{Fact, StoreModel, restarted}
 use Rattle.bac_protocol.specs.Log.Fact.{Asked, Changed, Restarted, AskedAway}
@@ -41,6 +42,7 @@ pub record Net : Type 0 where
   pub numbers : Key → ℕ  -- the number of each transaction's newest ask
   pub made : Key → ℕ  -- and the real moment at which it was made
   pub until : Key → ℕ  -- and the last one, so far, at which its client was in time to send for it
+  pub pieces : Key → ℕ  -- and the most pieces, so far, of its request and of its reply
   pub tickets : Key → Option ClientTransaction
   pub entries : Key → Option ServerTransaction
   pub posts : List Post  -- every copy that was sent, oldest first, numbered from 0
@@ -78,9 +80,13 @@ later key number [] = 0
 later key zero (p ∷ posts) = count_of key posts
 later key (suc number) (p ∷ posts) = later key number posts
 
--- a copy is deliverable while it is young and not overtaken by too many of its transaction
+-- no number comes twice in the transfers of a transaction: they have at most 256 pieces (clause 20.1.2.7)
+abbrev pub is_short : Net → Key → Bool
+is_short n key = nat_le (n.pieces key) 256
+
+-- a copy is deliverable while it is young and, but in short transfers, not overtaken by too many of its transaction
 abbrev pub is_deliverable : Rules → Net → (number : ℕ) → Post → Bool
-is_deliverable x n number p = nat_le (n.now - p.copy.moment) n.pace.life && nat_le (later p.key number n.posts) x.overtake
+is_deliverable x n number p = nat_le (n.now - p.copy.moment) n.pace.life && (nat_le (later p.key number n.posts) x.overtake || is_short n p.key)
 
 -- the copies of one transaction, newest first, in front of others
 abbrev pub copies_before : Key → List Post → List Copy → List Copy
@@ -118,11 +124,26 @@ client_acts n key t r =
       log = ended (n.numbers key) (ending_of r) n.log;
     }
 
+-- how many pieces an entry sends, where its reply goes in segments
+abbrev pub pieces_of_state : State → ℕ
+pieces_of_state (SegmentedResponse out transfer since) = length out.pieces
+pieces_of_state _ = 0
+
+abbrev pub pieces_of_entry : Option ServerTransaction → ℕ
+pieces_of_entry None = 0
+pieces_of_entry (Some e) = pieces_of_state e.state
+
+-- the most pieces of a transaction, where its server performed that, and has that entry now
+abbrev pub with_reply : (pieces : ℕ) → Option Effect → Option ServerTransaction → ℕ
+with_reply pieces None o = pieces
+with_reply pieces (Some effect) o = max pieces (pieces_of_entry o)
+
 -- what its server does: the entry after it, the copies that it sends, and a performance in the log
 abbrev pub server_acts : Net → Key → server.Reaction → Net
 server_acts n key v =
     record n {
       entries = set_at n.entries key v.entry;
+      pieces = set_at n.pieces key (with_reply (n.pieces key) v.effect v.entry);
       served = with_node key.server n.served;
       posts = n.posts ++ map (post_of key n.now) v.sends;
       log = performed (n.numbers key) v.effect n.log;
@@ -139,6 +160,7 @@ asked_at x n key ask =
       numbers = set_at n.numbers key n.asks;
       made = set_at n.made key n.now;
       until = set_at n.until key n.now;
+      pieces = set_at n.pieces key (length ask.pieces);
       tickets = set_at n.tickets key (Some (asked_ticket c ask));
       posts = n.posts ++ map (post_of key n.now) (sends_of (asks c ask));
       log = Asked n.asks key.client key.server (request_of ask) ∷ n.log;
@@ -495,6 +517,7 @@ net_start pace clocks =
       numbers = λ key. 0;
       made = λ key. 0;
       until = λ key. 0;
+      pieces = λ key. 0;
       tickets = λ key. None;
       entries = λ key. None;
       posts = [];

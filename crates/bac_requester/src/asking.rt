@@ -21,7 +21,7 @@ use crate::client::{Client, ClientRules};
 use crate::outgoing_request::{OutgoingRequest, RequestWay};
 use crate::transaction::ClientTransaction;
 use bac_npdu::Peer;
-use bac_service::{AnyRequest, Request, Service, write_request};
+use bac_service::{Request, write_request};
 use bac_slots::{AgedTable, SlotTable, has_room, ranks_of_keys};
 use bac_transaction::{Context, Datagram, PeerKey};
 use bac_value::NoMemory;
@@ -45,7 +45,8 @@ fn is_held_as(found: &PeerKey, client: &Client, key: &PeerKey, now: u64) -> bool
     found == key && client.is_held(now)
 }
 
-/// Whether a slot that is held has that invoke ID for the peer; only the slot whose place in the order of the keys is the rank of that key can be it.
+/// Whether a slot that is held has that invoke ID for the peer. `place` is the rank of that key in the order of the keys: only the slot there can
+/// have it.
 fn is_id_held<S: SlotTable<PeerKey, Client>>(
     table: &S,
     place: usize,
@@ -58,6 +59,7 @@ fn is_id_held<S: SlotTable<PeerKey, Client>>(
 {
     // what stands at the rank of a key, where keys are distinct
     ranks_of_keys::<PeerKey, Client>();
+    // no two slots have one key
     let _slots = table.len();
     let key = PeerKey {
         peer: *peer,
@@ -79,6 +81,7 @@ fn least_id_from<S: SlotTable<PeerKey, Client>>(
 ) -> Option<u8>
     ensures { result ≡ least_not (is_id_held now (slots_view (S.slots table.now)) (peer_view peer.now)) (256 - from) from }
 {
+    // no two slots have one key, so behind a key that is there the rank of the next one is one more
     ranks_of_keys::<PeerKey, Client>();
     let _slots = table.len();
     let first = PeerKey {
@@ -87,10 +90,12 @@ fn least_id_from<S: SlotTable<PeerKey, Client>>(
     };
     let mut place = table.rank(&first);
     for n in u16::from(from)..256 {
+        // below 256, so no bit is lost
         let invoke_id = n as u8;
         if !is_id_held(table, place, peer, invoke_id, now) {
             return Some(invoke_id);
         }
+        // its slot is here, so that of the next key is the next
         place += 1;
     }
     None
@@ -123,19 +128,6 @@ pub(crate) fn has_no_slot<S: SlotTable<PeerKey, Client>>(
     !has_room(aged, now) || asked == u64::MAX
 }
 
-/// The service choice of a request.
-fn choice_of(request: Request<'_>) -> u8
-    ensures { result ≡ choice_of (request_view request.entry) }
-{
-    let service = match request {
-        AnyRequest::ReadFile(_) => Service::AtomicReadFile,
-        AnyRequest::WriteFile(_) => Service::AtomicWriteFile,
-        AnyRequest::ReadProperty(_) => Service::ReadProperty,
-        AnyRequest::WriteProperty(_) => Service::WriteProperty,
-    };
-    service.choice()
-}
-
 /// Writes the service data of a request, and sends it for the first time.
 pub(crate) fn begin(
     alloc: Global,
@@ -149,6 +141,6 @@ pub(crate) fn begin(
 {
     let mut service = Vec::new(alloc);
     write_request(request, &mut service)?;
-    let outgoing = OutgoingRequest::new(choice_of(request), way, service);
+    let outgoing = OutgoingRequest::new(request.choice(), way, service);
     ClientTransaction::begin(alloc, context, outgoing)
 }

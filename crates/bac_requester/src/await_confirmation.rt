@@ -52,6 +52,7 @@ fn on_simple_ack(
 ) -> Transition
     ensures { MakesTransition context.now transaction.now (on_simple_ack transaction.now.ask choice) result transaction.now }
 {
+    // an ack that does not fit the request is ignored
     if choice != transaction.choice() || !has_simple_ack(choice) {
         return stays(alloc, context, transaction);
     }
@@ -85,6 +86,7 @@ fn close_with_one(
     ensures { IfOk result (IsClosing context.now choice (answered_with (context_view context.now) reads_reply choice [] service.now)) }
 {
     let Some(complex) = read_one(alloc, choice, service)? else {
+        // what can't be read ends the transaction at both ends
         let sends = only_abort(alloc, context, false, OTHER)?;
         return Ok(Closing {
             sends,
@@ -107,6 +109,7 @@ fn on_complex_ack(
 ) -> Result<Transition, NoMemory>
     ensures { TriesTransition context.now transaction.now (on_complex_ack (context_view context.now) reads_reply transaction.now.ask choice service.now) result transaction.now }
 {
+    // an ack that does not fit the request is ignored
     if choice != transaction.choice() || !has_complex_ack(choice) {
         return Ok(stays(alloc, context, transaction));
     }
@@ -148,6 +151,7 @@ fn on_first_segment(
         segment,
         service,
     )?;
+    // only once nothing can fail any more
     transaction.core.since = context.moment;
     transaction.phase = Phase::SegmentedConf { incoming };
     Ok(transition)

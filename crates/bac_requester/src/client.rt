@@ -89,6 +89,7 @@ impl Ticks<ClientRules, PeerKey, Settings> for Client {
             key: *key,
             moment: now,
         };
+        // the tick takes the transaction by value; the placeholder goes in the next line
         let held = std::mem::replace(&mut self.held, TransactionSlot::Closed { first: 0 });
         self.held = ticked(&context, held);
     }
@@ -107,6 +108,7 @@ impl SlotFact<Client> for ShortReplies {
         let TransactionSlot::Open(transaction) = &client.held else {
             return;
         };
+        // its contract bounds the octets and the segments
         let _octets = transaction.reassembled();
     }
 }

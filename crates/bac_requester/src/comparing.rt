@@ -44,6 +44,7 @@ fn same_ask(one: &RequestState, other: &RequestState) -> bool
     if one.whole != other.whole {
         return false;
     }
+    // one that goes whole is not cut, so it has no pieces to compare
     if one.whole {
         one.outgoing.octets() == other.outgoing.octets()
     } else {

@@ -68,6 +68,7 @@ impl RequestWay {
         if len + WHOLE_HEAD <= most {
             return Ok(RequestWay::InOne);
         }
+        // each peer takes APDUs of 50 octets at least (clause 20.1.2.5), so a segment has room
         let size = most - SEGMENT_HEAD;
         if peer.takes_segments && allows_segments(peer.max_segments, len.div_ceil(size)) {
             return Ok(RequestWay::InSegments { size });

@@ -84,8 +84,8 @@ fn fault_of(fault: RequestFault) -> AskFault
 impl<S: SlotTable<PeerKey, Client> + Drop> Requester<S> {
     /// A client's end without transactions, with room for `slots` of them, whose invoke IDs begin at 0. `NoMemory` where the table can't be allocated.
     ///
-    /// `restart` is the moment, in milliseconds, at which its node restarts and has lost what it had. It then refuses each ask while no more than 75,000 ms have
-    /// passed since (own rule of this profile): until then a copy of an old request, or an answer to one, may still arrive.
+    /// `restart` is the moment, in milliseconds, at which its node restarts and has lost what it had. It then refuses each ask while no more than
+    /// 75,000 ms have passed since (own rule of this profile). Until then a copy of an old request, or an answer to one, may still arrive.
     pub fn new(alloc: Global, slots: usize, restart: Option<u64>) -> Result<Requester<S>, NoMemory>
         ensures { IfOk result (λ r. r ≡ record { slots = []; capacity = slots; asked = 0; asks_from = first_after REST_TIME restart; first_id = 0 }) }
     {
@@ -102,8 +102,8 @@ impl<S: SlotTable<PeerKey, Client> + Drop> Requester<S> {
         })
     }
 
-    /// Sets where its invoke IDs begin from now on: an ask takes the least one from there on that is not held for the peer, and where all up to 255 are held,
-    /// the least of all.
+    /// Sets where its invoke IDs begin from now on. An ask takes the least one from there on that is not held for the peer. Where all up to 255 are
+    /// held, it takes the least of all.
     pub fn set_first_invoke_id(&mut self, first_id: u8)
         ensures { self.new ≡ record self.old { first_id = first_id } }
     {
@@ -139,6 +139,7 @@ impl<S: SlotTable<PeerKey, Client> + Drop> Requester<S> {
             Ok(way) => way,
             Err(fault) => return Err(fault_of(fault)),
         };
+        // after a restart an old answer may still come, for any invoke ID
         if is_waiting(self.restart, REST, now) {
             return Err(AskFault::NoInvokeId);
         }
@@ -156,6 +157,7 @@ impl<S: SlotTable<PeerKey, Client> + Drop> Requester<S> {
             },
             moment: now,
         };
+        // all that can fail comes before the slot is taken
         let Ok((transaction, sends)) = begin(self.alloc, &context, way, request) else {
             return Err(AskFault::NoMemory);
         };
@@ -219,8 +221,8 @@ impl<S: SlotTable<PeerKey, Client> + Drop> Requester<S> {
         tick(&mut self.aged, settings, now);
     }
 
-    /// The first moment, in milliseconds, at which the timer of a transaction runs out or a transaction expires (clause 5.4.4); the last moment of all where no
-    /// transaction is open. A tick before it does nothing; one from it on does something. It looks at each slot.
+    /// The first moment, in milliseconds, at which the timer of a transaction runs out or a transaction expires (clause 5.4.4). It is the last moment
+    /// of all where no transaction is open. A tick before it does nothing; one from it on does something. It looks at each slot.
     pub fn next_due(&self) -> u64
         ensures rests { (settings : Set) (now : ℕ) → now < result → requester_tick settings now self.now ≡ record { end = self.now; sends = []; ended = [] } }
         ensures moves { (settings : Set) (now : ℕ) → result ≤ now → result < LAST_MOMENT → (requester_tick settings now self.now).end ≢ self.now }
@@ -228,13 +230,15 @@ impl<S: SlotTable<PeerKey, Client> + Drop> Requester<S> {
         first_due(&self.aged.table, 0)
     }
 
-    /// How many slots are held at a moment, in milliseconds: their transactions are open, or no more than 135,000 milliseconds have passed since the first
-    /// sending (own rule of this profile). No two slots have one key, and there are no more of them than the capacity, whether they are held or not.
+    /// How many slots are held at a moment, in milliseconds. A slot is held while its transaction is open, and while no more than 135,000
+    /// milliseconds have passed since the first sending (own rule of this profile). No two slots have one key, and there are no more of them than the
+    /// capacity, whether they are held or not.
     pub fn held(&self, now: u64) -> usize
         ensures number { result ≡ count_by (is_slot_held now) self.now.slots }
         ensures within { result ≤ self.now.capacity }
         ensures orderly { IsOrderlyClient self.now }
     {
+        // no two slots have one key, and there are no more than the table has room for
         let _len = self.aged.table.len();
         count_alive(&self.aged, now)
     }

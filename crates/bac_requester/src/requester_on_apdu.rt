@@ -36,6 +36,7 @@ impl Client {
         let TransactionSlot::Open(transaction) = &mut self.held else {
             return Ok(nothing(alloc));
         };
+        // first, so that an ending can be reported once the transaction has gone on
         room.reserve_exact(1)?;
         let Transition { sends, ending } = transaction.on_apdu(alloc, context, apdu)?;
         let Some(ending) = ending else {
@@ -46,6 +47,7 @@ impl Client {
         };
         let first = transaction.first();
         self.held = TransactionSlot::Closed { first };
+        // the vector with the room goes out; the next open transaction reserves anew
         let mut ended = std::mem::replace(room, Vec::new(alloc));
         ended.push_reserved(Ended {
             ticket: self.number,
@@ -80,6 +82,7 @@ pub(crate) fn requester_on_apdu<S: SlotTable<PeerKey, Client>>(
         return Ok(nothing(alloc));
     };
     let reaction = slot.on_apdu(alloc, context, room, apdu)?;
+    // its timer may now run out before all others
     let due = slot.due(from);
     aged.ages.comes_due(due);
     Ok(reaction)

@@ -42,6 +42,7 @@ fn close_with_segments(
 {
     let mut sends = only_ack(alloc, context, false, false, number, incoming.window())?;
     let Some(complex) = read_parts(alloc, choice, incoming)? else {
+        // the last segment is acknowledged all the same, before the Abort
         let abort = abort(alloc, context, OTHER)?;
         sends.push(abort)?;
         return Ok(Closing {
@@ -86,6 +87,7 @@ fn takes_last(
     ensures { TakesSegment context.now (conf_segment_taken (context_view context.now) reads_reply core.now.choice segment.number incoming.old.window
         (takes incoming.old segment.number segment.more octets.now)) core.now incoming.old result incoming.new }
 {
+    // to take the segment back, should the answer find no memory
     let unacknowledged = incoming.unacknowledged();
     let Ok(_) = incoming.on_segment(segment.number, segment.more, octets) else {
         return Err(NoMemory);
@@ -159,6 +161,7 @@ pub(crate) fn on_next_segment(
         return Ok(nothing(alloc));
     }
     let transition = takes_segment(alloc, context, core, incoming, segment, octets)?;
+    // each segment starts the timer anew, also one out of order
     core.since = context.moment;
     Ok(transition)
 }

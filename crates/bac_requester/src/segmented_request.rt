@@ -41,6 +41,7 @@ pub(crate) fn on_segment_ack(
     ensures reacts { TriesTransition context.now (ticket_view core.old phase.old) (moves_request_window (context_view context.now) core.old.choice all_sent
         (acknowledged context.now.settings.window.size core.old.outgoing ack.number ack.window.size)) result (ticket_view core.new phase.new) }
 {
+    // to go back to, should the next window find no memory
     let was = core.outgoing.position();
     match core
         .outgoing

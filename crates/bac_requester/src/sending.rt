@@ -50,6 +50,7 @@ pub(crate) fn whole_request(
     only_apdu(alloc, context, &request)
 }
 
+/// Piece `n` of a request as an APDU, counted from 0 (clause 20.1.2).
 fn piece_apdu<'a>(context: &Context, choice: u8, outgoing: &'a Outgoing, n: usize) -> Apdu<'a>
     requires { n < length outgoing.now.pieces }
     ensures { apdu_view result ≡ request_piece (context_view context.now) choice outgoing.now.pieces n }
@@ -57,6 +58,7 @@ fn piece_apdu<'a>(context: &Context, choice: u8, outgoing: &'a Outgoing, n: usiz
     let count = outgoing.count();
     let segment = Segment {
         more: n + 1 < count,
+        // sequence numbers count modulo 256
         number: (n % 256) as u8,
         window: context.settings.window,
     };
@@ -69,6 +71,7 @@ fn piece_apdu<'a>(context: &Context, choice: u8, outgoing: &'a Outgoing, n: usiz
     }
 }
 
+/// The datagram of piece `n` of a request.
 fn piece(
     alloc: Global,
     context: &Context,

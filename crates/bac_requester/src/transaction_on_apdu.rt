@@ -78,6 +78,7 @@ impl ClientTransaction {
                         let ack = ReceivedAck { number, window };
                         on_segment_ack(alloc, context, core, phase, all_sent, ack)
                     }
+                    // the answer may overtake the SegmentACK of the last window
                     _ if all_sent => await_confirmation_on_apdu(alloc, context, self, apdu),
                     _ => Ok(on_refusal(alloc, context, self, apdu)),
                 }

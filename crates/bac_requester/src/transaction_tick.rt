@@ -39,6 +39,7 @@ fn repeat_sends(
     let sends = if core.whole {
         whole_request(alloc, context, core.choice, core.outgoing.octets())?
     } else {
+        // the transfer begins anew, with its first segment alone
         let end = core.outgoing.count().min(1);
         pieces(alloc, context, core.choice, &core.outgoing, 0, end)?
     };
@@ -83,6 +84,7 @@ fn repeated(context: &Context, mut core: RequestState, phase: Phase) -> Transact
         return TransactionSlot::Open(ClientTransaction { core, phase });
     }
     core.outgoing.restart();
+    // all segments were sent before, so an answer may come at any time
     let phase = Phase::SegmentedRequest { all_sent: true };
     TransactionSlot::Open(ClientTransaction { core, phase })
 }
@@ -105,9 +107,9 @@ fn window_repeated(context: &Context, mut core: RequestState, all_sent: bool) ->
 }
 
 impl ClientTransaction {
-    /// What a tick sends for the transaction, and how it ends it (clause 5.4.4). More than 60,000 milliseconds after the first sending it ends as Expired.
-    /// Otherwise, once the timer of its state has run out, it sends the window of its request again (3 times), or the whole request (3 times); after the last
-    /// of these it ends as TimedOut. Nothing changes. `NoMemory` where the datagrams can't be allocated.
+    /// What a tick sends for the transaction, and how it ends it (clause 5.4.4). More than 60,000 milliseconds after the first sending it ends as
+    /// Expired. Otherwise something happens once the timer of its state has run out. It sends the window of its request again (3 times), or the whole
+    /// request (3 times); after the last of these it ends as TimedOut. Nothing changes. `NoMemory` where the datagrams can't be allocated.
     pub(crate) fn prepare_tick(
         &self,
         alloc: Global,
@@ -129,6 +131,7 @@ impl ClientTransaction {
                 if core.whole {
                     repeat_sends(alloc, context, core)
                 } else {
+                    // a request in segments is not sent again once its reply comes in
                     Ok(ends(alloc, Ending::TimedOut))
                 }
             }

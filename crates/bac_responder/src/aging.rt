@@ -63,6 +63,7 @@ impl SlotFact<ServerTransaction> for ShortRequests {
     ghost Holds = { IsRequestShort };
 
     fn holds(&self, entry: &ServerTransaction) {
+        // its contract bounds the octets and the segments
         let _octets = entry.reassembled();
     }
 }

@@ -9,7 +9,7 @@ ghost use Rattle.bac_transaction.specs.Services.{service_of};
 ghost use Rattle.bac_transaction.specs.Views.{context_view, peer_of, read_rule_view};
 ghost use Rattle.bac_responder.specs.Hearing.{BeginsSo, EntersWhereFree, HasBegunAt, HeedsRoom, TellsAway, whole_read};
 
-use crate::ending::{begins_request, is_read};
+use crate::ending::begins_request;
 use crate::performed::Performed;
 use crate::performing::commit;
 use crate::reading::read_whole;
@@ -18,6 +18,7 @@ use crate::server_transaction::{Origin, Terms};
 use crate::{ServerTransaction, idle_on_apdu};
 use bac_apdu::Apdu;
 use bac_protocol::reasons::OTHER;
+use bac_service::is_read_choice;
 use bac_store::Store;
 use bac_transaction::{Context, ReadRule, only_abort};
 use bac_value::NoMemory;
@@ -86,6 +87,7 @@ fn on_read(
             turned_away: true,
         }));
     }
+    // before the commit, so that nothing can fail once the store has changed
     let request = Vec::from_slice(alloc, octets)?;
     let effect = commit(change, store);
     let origin = Origin {
@@ -119,7 +121,7 @@ fn whole_read<'a>(reads: ReadRule, apdu: &Apdu<'a>) -> Option<(Terms, &'a [u8])>
     else {
         return None;
     };
-    if segment.is_some() || !is_read(choice) {
+    if segment.is_some() || !is_read_choice(choice) {
         return None;
     }
     Some((Terms { choice, limits }, service))

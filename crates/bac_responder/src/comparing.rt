@@ -7,6 +7,7 @@ use crate::kept_reply::{KeptReply, SpelledReply};
 use crate::server_transaction::{Origin, ServerTransaction, State, Transfer};
 use bac_slots::Same;
 
+/// Whether two replies are equal, in their octets or their codes.
 fn is_same_spelled(reply: &SpelledReply, other: &SpelledReply) -> bool
     ensures { MatchBool result (spelled_view reply.now ≡ spelled_view other.now) (spelled_view reply.now ≡ spelled_view other.now → ⊥) }
 {
@@ -24,6 +25,7 @@ fn is_same_spelled(reply: &SpelledReply, other: &SpelledReply) -> bool
     }
 }
 
+/// Whether two kept replies of one APDU are equal.
 fn is_same_kept(kept: &KeptReply, other: &KeptReply) -> bool
     ensures { MatchBool result ((i c : ℕ) → kept_reply_view i c kept.now ≡ kept_reply_view i c other.now)
         ((i j c : ℕ) → kept_reply_view i c kept.now ≡ kept_reply_view j c other.now → ⊥) }
@@ -36,6 +38,7 @@ fn is_same_kept(kept: &KeptReply, other: &KeptReply) -> bool
     }
 }
 
+/// Whether two transfers are equally far.
 fn is_same_transfer(transfer: Transfer, other: Transfer) -> bool
     ensures { MatchBool result (transfer_view transfer ≡ transfer_view other) (transfer_view transfer ≡ transfer_view other → ⊥) }
 {
@@ -47,6 +50,7 @@ fn is_same_transfer(transfer: Transfer, other: Transfer) -> bool
     )
 }
 
+/// Whether two states are equal, with all that they keep.
 fn is_same_state(state: &State, other: &State) -> bool
     ensures { MatchBool result ((c : ℕ) → state_view c state.now ≡ state_view c other.now)
         ((c : ℕ) → state_view c state.now ≡ state_view c other.now → ⊥) }
@@ -72,6 +76,7 @@ fn is_same_state(state: &State, other: &State) -> bool
     }
 }
 
+/// Whether two entries are for the same request, and began at the same moment.
 fn is_same_origin(origin: &Origin, other: &Origin) -> bool
     ensures { MatchBool result ((z : machine.State) → entry_of origin.now z ≡ entry_of other.now z)
         ((y z : machine.State) → entry_of origin.now y ≡ entry_of other.now z → ⊥) }

@@ -13,7 +13,7 @@ use crate::repeats::{is_other_first, is_repeated};
 use crate::server_transaction::{ReplyTransfer, State, Transfer};
 use bac_apdu::Apdu;
 use bac_segment::Outgoing;
-use bac_service::{ATOMIC_READ_FILE, READ_PROPERTY};
+use bac_service::is_read_choice;
 use bac_transaction::{ReadRule, Rules};
 
 /// Whether an APDU begins a request: one without SEG, or its segment 0.
@@ -28,13 +28,6 @@ pub(crate) fn begins_request(apdu: &Apdu<'_>) -> bool
         } => segment.number == 0,
         _ => false,
     }
-}
-
-/// Whether requests of this choice change no store: ReadProperty and AtomicReadFile (clauses 15.5 and 14.1).
-pub(crate) fn is_read(choice: u8) -> bool
-    ensures { result ≡ is_read choice }
-{
-    choice == READ_PROPERTY || choice == ATOMIC_READ_FILE
 }
 
 impl State {
@@ -88,6 +81,7 @@ fn acknowledges_all(outgoing: &Outgoing, number: u8) -> bool
     ensures { result ≡ machine.is_all_acknowledged (acknowledged 1 outgoing.now number 1) }
 {
     let first = outgoing.position().first;
+    // how far into the window the number points: numbers count modulo 256
     let by = number.wrapping_sub((first % 256) as u8) as usize;
     if by >= outgoing.in_window() {
         return false;
@@ -100,7 +94,7 @@ impl ServerTransaction {
     fn is_of_whole_read(&self) -> bool
         ensures { result ≡ machine.is_of_whole_read is_read self.now }
     {
-        is_read(self.origin.terms.choice) && self.origin.request.is_some()
+        is_read_choice(self.origin.terms.choice) && self.origin.request.is_some()
     }
 
     /// Whether an APDU is the SegmentACK that finishes its reply in segments, or an Abort of its client, and it is of a read that came without SEG.
@@ -135,7 +129,7 @@ impl ServerTransaction {
             return false;
         }
         match segment {
-            None => is_read(choice) || !is_repeated(&self.origin, None, choice, service),
+            None => is_read_choice(choice) || !is_repeated(&self.origin, None, choice, service),
             Some(segment) => segment.number == 0 && is_other_first(&self.origin, choice, service),
         }
     }

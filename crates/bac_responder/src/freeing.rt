@@ -16,6 +16,7 @@ fn dead_from<S: SlotTable<PeerKey, ServerTransaction>>(table: &S, n: usize) -> u
 {
     match table.by_age(n) {
         None => u64::MAX,
+        // an entry is live at its last moment too
         Some((_, _, entry)) => entry.begin().saturating_add(KEEP + 1),
     }
 }

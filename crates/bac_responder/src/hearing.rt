@@ -93,7 +93,7 @@ fn has_place<S: SlotTable<PeerKey, ServerTransaction>>(
     begins_request(apdu) && has_room(aged, now) && !is_waiting(restart, KEEP, now)
 }
 
-/// The same once the entry of the key has ended, if it does.
+/// Whether an APDU begins a request that finds a place, as `has_place` says. If the entry of its key ends, its own slot becomes free for it.
 fn has_place_left<S: SlotTable<PeerKey, ServerTransaction>>(
     aged: &AgedTable<ServerAging, S>,
     told: &Told,
@@ -173,6 +173,7 @@ fn begin<S: SlotTable<PeerKey, ServerTransaction>>(
     else {
         return Ok(None);
     };
+    // nothing fails from here on: the old entry goes, and the new one takes its place
     end_entry(aged, &key, ends);
     match entry {
         None => Ok(Some(served(key, performed, turned_away))),
@@ -215,6 +216,7 @@ pub(crate) fn on_apdu<S: SlotTable<PeerKey, ServerTransaction>>(
     }
     match slot.goes_on(alloc, told, apdu, store) {
         Ok(Some(performed)) => {
+            // its timer may now run out before all others
             let due = slot.due(from);
             aged.ages.comes_due(due);
             Ok(Some(served(told.context.key, performed, false)))

@@ -1,4 +1,4 @@
-//! IDLE (clause 5.4.5.1): an APDU where no entry of its key is live. lookup calls it once for such an APDU.
+//! IDLE (clause 5.4.5.1): an APDU where no entry of its key is live. `beginning` calls it for all but reads that are performed anew.
 ghost use Rattle.std.specs.Prelude.{◌≡◌, true};
 ghost use Rattle.bac_apdu.specs.Views.{apdu_view, limits_view, segment_view};
 ghost use Rattle.bac_protocol.specs.Server as machine;
@@ -37,6 +37,7 @@ fn on_request(
         sends,
         commit: change,
     } = prepare_reply(alloc, context, terms, found, store)?;
+    // before the commit, so that nothing can fail once the store has changed
     let request = Vec::from_slice(alloc, octets)?;
     let effect = commit(change, store);
     let origin = Origin {
@@ -86,7 +87,7 @@ fn on_first_segment(
 /// An APDU comes where no entry of its key is live; `free` says whether a slot of the reply table has no live entry. What is sent, what is performed, and the
 /// entry that begins, if any.
 ///
-/// A request is performed, and segment 0 of one begins to be received, where a slot is free; otherwise an Abort with reason 0 is sent, and nothing is
+/// A request is performed, and segment 0 of one begins to be received, where a slot is free. Otherwise an Abort with reason 0 is sent, and nothing is
 /// remembered. All else is ignored. An Err says that an allocation failed; the store is then as before.
 pub fn idle_on_apdu(
     alloc: Global,

@@ -174,12 +174,14 @@ pub(crate) fn fits(kept: Option<usize>, len: usize, room: usize) -> bool
     match kept {
         None => false,
         Some(kept) => {
+            // each difference is tested before the next one is taken from it
             kept <= room && MOST_GROWTH <= room - kept && len <= room - kept - MOST_GROWTH
         }
     }
 }
 
-/// What is kept at the most after a call, from what it was before: less what the entry of its key kept before, and more by what that keeps now.
+/// What is kept at the most after a call. From what was kept before, it takes away what the entry of its key kept, and adds what that entry keeps
+/// now. None where one of them is not known.
 pub(crate) fn moved(
     kept: Option<usize>,
     before: Option<usize>,
@@ -209,7 +211,8 @@ fn given_back_at<S: SlotTable<PeerKey, ServerTransaction>>(
     entry.octets()
 }
 
-/// How many octets the oldest slots keep, up to the first one whose entry is live: so many at least are given back when all that are not live are dropped.
+/// How many octets the oldest slots keep, up to the first one whose entry is live. A tick that drops all that are not live gives back so many at
+/// least.
 pub(crate) fn given_back<S: SlotTable<PeerKey, ServerTransaction>>(table: &S, now: u64) -> usize
     ensures { sum_of (counted true now) (S.slots table.now) + result ≤ sum_of (counted false now) (S.slots table.now) }
 {

@@ -1,4 +1,4 @@
-//! An APDU for a live entry, in each of its states. lookup calls it once for such an APDU.
+//! An APDU for a live entry, in each of its states. `hearing` calls it.
 ghost use Rattle.std.specs.Prelude.{◌≡◌};
 ghost use Rattle.bac_apdu.specs.Views.{apdu_view};
 ghost use Rattle.bac_protocol.specs.Server as machine;
@@ -71,9 +71,9 @@ fn dropped_on_apdu(alloc: Global, context: &Context, apdu: &Apdu<'_>) -> Result<
 impl ServerTransaction {
     /// An APDU comes for the entry, which must be live, and the entry goes on by its state (clause 5.4.5).
     ///
-    /// A request that is being received goes on with its next segment, and is performed with its last one; a kept reply is sent again, or its transfer in
-    /// segments goes on; another request with the invoke ID, and each request after a reassembly that was given up, gets an Abort with reason 0. What the
-    /// state does not name is ignored. An Err says that an allocation failed; the entry and the store are then as before.
+    /// A request that is being received goes on with its next segment, and is performed with its last one. A kept reply is sent again, or its
+    /// transfer in segments goes on. Another request with the invoke ID gets an Abort with reason 0, and so does each request after a reassembly that
+    /// was given up. What the state does not name is ignored. An Err says that an allocation failed; the entry and the store are then as before.
     pub fn on_apdu(
         &mut self,
         alloc: Global,

@@ -54,6 +54,7 @@ pub(crate) fn first_end<S: SlotTable<PeerKey, ServerTransaction>>(
     ensures { result ≡ first_of life_end (S.slots aged.now.table) }
 {
     match aged.ages.latest {
+        // moments never went back, so the oldest entry ends first
         Some(_) => end_at(&aged.table, 0),
         None => first_end_of_all(&aged.table),
     }

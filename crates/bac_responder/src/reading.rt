@@ -26,7 +26,8 @@ pub(crate) fn read_whole(
     }
 }
 
-/// The same of service data in segments, which are not joined; `NoMemory` only where they spell a request that wants memory.
+/// The request that service data in segments spell, or the number of the reason for rejecting them (clause 18.9). The segments are not joined.
+/// `NoMemory` only where they spell a request that wants memory.
 pub(crate) fn read_segments(
     alloc: Global,
     choice: u8,

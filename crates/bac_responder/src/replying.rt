@@ -65,6 +65,7 @@ pub(crate) fn piece_apdu<'a>(
 {
     let segment = Segment {
         more: outgoing.count() - n > 1,
+        // sequence numbers count modulo 256
         number: (n % 256) as u8,
         window: context.settings.window,
     };
@@ -197,6 +198,7 @@ fn encode_reply(alloc: Global, reply: Reply<'_>) -> Result<SpelledReply, NoMemor
             Ok(SpelledReply::Complex(octets))
         }
         AnyReply::Error { class, code } => Ok(SpelledReply::Error { class, code }),
+        // a store refuses by an Error, never by a Reject
         AnyReply::Reject(_) => unreachable!(),
     }
 }

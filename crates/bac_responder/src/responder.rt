@@ -79,8 +79,8 @@ impl<S: SlotTable<PeerKey, ServerTransaction> + Drop> Model for Responder<S> {
 impl<S: SlotTable<PeerKey, ServerTransaction> + Drop> Responder<S> {
     /// A server's end without entries, with room for so many slots; an Err where their allocation fails. Nothing takes memory for slots later.
     ///
-    /// Where its node restarts at a moment, in milliseconds, it has lost its entries, and turns each request away while no more than 65,000 ms have passed
-    /// since (own rule of this profile): so long one that it performed before may still come again.
+    /// Where its node restarts at a moment, in milliseconds, it has lost its entries. It then turns each request away while no more than 65,000 ms
+    /// have passed since (own rule of this profile). So long one that it performed before may still come again.
     pub fn new(alloc: Global, slots: usize, restart: Option<u64>) -> Result<Responder<S>, NoMemory>
         ensures { IfOk result (λ r. r ≡ record { slots = []; capacity = slots; serves_from = first_after KEPT_FOR restart }) }
     {
@@ -99,13 +99,14 @@ impl<S: SlotTable<PeerKey, ServerTransaction> + Drop> Responder<S> {
         ensures within { result ≤ self.now.capacity }
         ensures orderly { IsOrderlyServer self.now }
     {
+        // no two entries have one key, and there are no more than the table has room for
         let _len = self.aged.table.len();
         count_alive(&self.aged, now)
     }
 
-    /// The first moment, in milliseconds, at which the timer of an entry is due (clause 5.4.5) or an entry is not live any more, looked at from a moment on; the
-    /// last moment of all where there is none. A tick before it does nothing; at it, or at the moment looked from if that is later, one does something.
-    /// Where a timer may run it looks at each slot, otherwise at the oldest one, as long as the moments of requests never went back.
+    /// The first moment, in milliseconds, looked at from a moment on, at which a timer is due (clause 5.4.5) or an entry is not live any more. It is
+    /// the last moment of all where there is none. A tick before it does nothing; at it, or at the moment looked from if that is later, one does
+    /// something. Where a timer may run it looks at each slot, otherwise at the oldest one, as long as the moments of requests never went back.
     pub fn next_due(&self, from: u64) -> u64
         ensures rests { (settings : Set) (moment : ℕ) → from ≤ moment → moment < result
             → responder_tick settings moment self.now ≡ record { end = self.now; sends = []; act = None } }
@@ -114,8 +115,8 @@ impl<S: SlotTable<PeerKey, ServerTransaction> + Drop> Responder<S> {
         first_timer(&self.aged, from).min(first_end(&self.aged))
     }
 
-    /// The first moment, in milliseconds, looked at from a moment on, at which not all of its slots have a live entry; the last moment of all where that is not
-    /// before it. So long a request that needs a slot is turned away. It looks at each slot where all are in use, otherwise at none.
+    /// The first moment, in milliseconds, looked at from a moment on, at which a slot has no live entry; the last moment of all where there is none
+    /// before. So long a request that needs a slot is turned away. It looks at each slot where all are in use, otherwise at none.
     pub fn next_free(&self, from: u64) -> u64
         ensures from { from ≤ result }
         ensures full { (moment : ℕ) → from ≤ moment → moment < result → self.now.capacity ≤ count_by (is_slot_live moment) self.now.slots }
@@ -176,6 +177,7 @@ impl<S: SlotTable<PeerKey, ServerTransaction> + Drop> Responder<S> {
         if now < self.counts_from {
             return false;
         }
+        // what is known is only a bound: count what is there
         self.kept = count_octets(&self.aged.table, false, now);
         if fits(self.kept, len, room) {
             return true;
@@ -184,16 +186,18 @@ impl<S: SlotTable<PeerKey, ServerTransaction> + Drop> Responder<S> {
             peer: *peer,
             invoke_id: invoke_id_of(apdu),
         };
+        // the new entry takes the place of those that are not live
         if is_none_live(&self.aged.table, &key, now)
             && fits(count_octets(&self.aged.table, true, now), len, room)
         {
             return true;
         }
+        // a flood of requests must not cost a walk over the table each
         self.counts_from = now.saturating_add(PAUSE);
         false
     }
 
-    /// The same within the bound on memory; true where there is none.
+    /// Whether there is room for an APDU within the bound on memory, as `has_room_for` says; true where there is no bound.
     fn has_room(&mut self, memory: Option<usize>, now: u64, peer: &Peer, apdu: &Apdu<'_>) -> bool
         ensures same { self.new ≡ self.old }
         ensures within { IsTrue result → StaysWithin memory now (peer_view peer.now) (apdu_view apdu.now) self.old }
@@ -206,27 +210,28 @@ impl<S: SlotTable<PeerKey, ServerTransaction> + Drop> Responder<S> {
         }
     }
 
-    /// An APDU comes from a peer, at that moment in milliseconds: call it for each APDU that a client can send, and then send all of `sends`, in their order.
-    /// `act` is the request that was performed, if any; the store has changed by it already. Call it with the same rules for all APDUs.
+    /// An APDU comes from a peer, at that moment in milliseconds. Call it for each APDU that a client can send, and then send all of `sends`, in
+    /// their order. `act` is the request that was performed, if any; the store has changed by it already. Call it with the same rules for all APDUs.
     ///
-    /// A new request is performed, or begins to be received, where a slot is free; a copy of one with a live entry is answered from the entry, and not
-    /// performed again. A live entry is never evicted: where no slot is free, or while the end waits after a restart, a new request is turned away, with an
-    /// Abort of reason 0.
+    /// A new request is performed, or begins to be received, where a slot is free. A copy of one with a live entry is answered from the entry, and
+    /// not performed again. A live entry is never evicted. Where no slot is free, or while the end waits after a restart, a new request is turned
+    /// away, with an Abort of reason 0.
     ///
-    /// Where reads are performed anew, the entry of a read that came without segments ends at the SegmentACK that finishes its reply in segments, and at an Abort of
-    /// its client. Another entry is over once its reply of one APDU was sent, its reply in segments was acknowledged or aborted by its client, or its request was
-    /// given up. Such an entry ends when a read comes without segments (ReadProperty, AtomicReadFile), or another request than the kept one: without segments, or
-    /// segment 0 of it. The request is then performed, or begins to be received; the kept one still gets the kept reply. Where no entry of its peer and invoke ID
-    /// goes on, a read whose reply is one APDU is performed: it needs no slot, no entry is kept of it, and it is not turned away.
+    /// Where reads are performed anew, the entry of a read that came without segments ends with its reply in segments. The SegmentACK that finishes
+    /// the reply ends it, and an Abort of its client. Another entry is over once its reply of one APDU was sent, its reply in segments was
+    /// acknowledged or aborted by its client, or its request was given up. Such an entry ends when a read comes without segments (ReadProperty,
+    /// AtomicReadFile), or another request than the kept one: without segments, or segment 0 of it. The request is then performed, or begins to be
+    /// received; the kept one still gets the kept reply. Where no entry of its peer and invoke ID goes on, a read whose reply is one APDU is
+    /// performed. It needs no slot, no entry is kept of it, and it is not turned away.
     ///
     /// An entry that is over ends also, whatever request begins, where it began more than `remember` milliseconds ago: an equal one is then performed again.
     ///
-    /// `memory` bounds the octets of service data that entries keep: of requests and replies, and of the segments of requests that are received, each with four
-    /// more. None is returned where memory has no room, and nothing is done: drop the APDU as where memory ran out. A request is taken to need room for its own
-    /// octets, and for the longest reply and the place of a segment, 65,539 octets; any other APDU needs none. Nor does a request with a live entry that goes on,
-    /// unless it is a segment where segments are received; nor a read without segments whose reply is one APDU, where reads are performed anew. Entries
-    /// that are not live count, but not where the request takes their place. Entries are counted one by one only where there seems to be no room, and once there
-    /// was none, not again for 1,000 ms.
+    /// `memory` bounds the octets of service data that entries keep: of requests and replies, and of the segments of requests that are received, each
+    /// with four more. None is returned where memory has no room, and nothing is done: drop the APDU as where memory ran out. A request is taken to
+    /// need room for its own octets, and for the longest reply and the place of a segment, 65,539 octets; any other APDU needs none. Nor does a
+    /// request with a live entry that goes on, unless it is a segment where segments are received. Nor does a read without segments whose reply is
+    /// one APDU, where reads are performed anew. Entries that are not live count, but not where the request takes their place. Entries are counted
+    /// one by one only where there seems to be no room, and once there was none, not again for 1,000 ms.
     ///
     /// An Err says that an allocation failed. The server's end and the store are then as before, and the same APDU can be handed in again.
     pub fn on(
@@ -259,6 +264,7 @@ impl<S: SlotTable<PeerKey, ServerTransaction> + Drop> Responder<S> {
             restart: self.restart,
             room,
         };
+        // the calls below ask for this key again
         seek(&mut self.aged, &key);
         // that no two entries have one key
         let _entries = self.aged.table.len();
@@ -285,9 +291,9 @@ impl<S: SlotTable<PeerKey, ServerTransaction> + Drop> Responder<S> {
         prepare(alloc, settings, &self.aged.table, now)
     }
 
-    /// Time goes on for all entries, up to that moment in milliseconds, and those that are not live any more are dropped, with all that they kept. Call it after
-    /// `prepare_tick`, at `next_due` or as often as suits. It takes no memory. Before the first moment at which a timer can be due it looks at those that it
-    /// drops, and one more, as long as the moments of requests never went back.
+    /// Time goes on for all entries, up to that moment in milliseconds, and those that are not live any more are dropped, with all that they kept.
+    /// Call it after `prepare_tick`, at `next_due` or as often as suits. It takes no memory. Before the first moment at which a timer can be due it
+    /// looks at those that it drops, and one more. That holds as long as the moments of requests never went back.
     pub fn commit_tick(&mut self, settings: &Settings, now: u64)
         ensures ticked { self.new ≡ (responder_tick (settings_view settings.now) now self.old).end }
         ensures live { AreLive now self.new.slots }

@@ -105,6 +105,7 @@ impl Reassembly {
             self.old self.new result }
     {
         let ReceivedSegment { segment, octets } = received;
+        // to take the segment back, should the reply find no memory
         let unacknowledged = self.incoming.unacknowledged();
         let Ok(_) = self
             .incoming
@@ -161,6 +162,7 @@ impl Reassembly {
         else {
             return Err(NoMemory);
         };
+        // each segment in time starts the timer anew, also one out of order
         self.since = context.moment;
         Ok((Performed::sends(sends), None))
     }

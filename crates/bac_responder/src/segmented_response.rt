@@ -58,6 +58,7 @@ impl ReplyTransfer {
         let Transfer::Stopped = self.transfer else {
             return Ok(Performed::nothing(alloc));
         };
+        // to go back to, should the window find no memory
         let before = self.outgoing.position();
         self.outgoing.resume();
         let Ok(sends) = window_sends(alloc, context, origin.terms.choice, &self.outgoing) else {
@@ -87,6 +88,7 @@ impl ReplyTransfer {
         let Transfer::Running = self.transfer else {
             return Ok(Performed::nothing(alloc));
         };
+        // to go back to, should the next window find no memory
         let before = self.outgoing.position();
         match self
             .outgoing
@@ -146,6 +148,7 @@ impl ReplyTransfer {
                 window,
                 ..
             } => {
+                // one that a server sends is not for this reply
                 if server {
                     return Ok(Performed::nothing(alloc));
                 }

@@ -61,7 +61,7 @@ impl ServerTransaction {
 
     /// The entry after a tick. It takes no memory.
     ///
-    /// A window that is sent again takes a retry, and where none is left the transfer stops; a reassembly without a segment for 8,000 ms or longer is
+    /// A window that is sent again takes a retry, and where none is left the transfer stops. A reassembly without a segment for 8,000 ms or longer is
     /// given up. An entry that is not live stays as it is.
     pub fn commit_tick(&mut self, context: &Context)
         ensures { self.new ≡ entry_or self.old (server_ticks (context_view context.now) (Some self.old)).entry }

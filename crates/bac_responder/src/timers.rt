@@ -21,9 +21,9 @@ fn state_due(state: &State) -> u64
 }
 
 impl ServerTransaction {
-    /// The first moment, in milliseconds, at which a tick finds the timer of its state due (clause 5.4.5), looked at from a moment on: before it a tick
-    /// sends nothing and changes nothing. The last moment of all, where the entry is not live then, or its state has no timer
-    /// that is due while it lives.
+    /// The first moment, in milliseconds, at which a tick finds the timer of its state due (clause 5.4.5), looked at from a moment on. Before it a
+    /// tick sends nothing and changes nothing. It is the last moment of all where the entry is not live then, or its state has no timer that is due
+    /// while it lives.
     pub fn due(&self, from: u64) -> u64
         ensures due { result ≡ due_of from self.now }
         ensures quiet { IsQuiet from result self.now }

@@ -31,11 +31,12 @@ pub record Own : Type 0 where
   pub entries : Key → Option ServerTransaction
   pub posts : List Post
   pub log : List Fact
+  pub pieces : Key → ℕ
   pub far_entries : Key → Option ServerTransaction  -- of strangers
 
 -- all else is the other's
 abbrev pub over : Net → Own → Net
-over n g = record n { entries = g.entries; posts = g.posts; log = g.log; far = record (n.far) { entries = g.far_entries } }
+over n g = record n { entries = g.entries; posts = g.posts; log = g.log; pieces = g.pieces; far = record (n.far) { entries = g.far_entries } }
 
 -- Tables.
 

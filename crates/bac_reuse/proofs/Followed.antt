@@ -1,5 +1,5 @@
 -- Each move of a net in which servers let invoke IDs be used again is followed by a net of bac_protocol.
-use Rattle.std.proofs.Common.{◌≡◌, ℕ, ◌+◌, ◌-◌, ◌≤◌, ◌⊎◌, Bool, true, false, ◌&&◌, List, [], ◌∷◌, ◌++◌, map, Option, Some, None}
+use Rattle.std.proofs.Common.{◌||◌, length, ◌≡◌, ℕ, ◌+◌, ◌-◌, ◌≤◌, ◌⊎◌, Bool, true, false, ◌&&◌, List, [], ◌∷◌, ◌++◌, map, Option, Some, None}
 use Rattle.std.proofs.Common.{slice_get, if◌then◌else◌, nat_eq, nat_le, refl, ap, sym, subst, inl, inr, ◌∙◌, arith}
 use Rattle.std.proofs.lemmas.Bool.Decides.{nat_tests}
 use Rattle.bac_apdu.specs.Apdu.{Apdu}
@@ -23,10 +23,11 @@ use Rattle.bac_protocol.specs.Transaction.{Copy, Key, Rules, client_context, end
 use Rattle.bac_protocol.specs.World.{Net, Post, asked_at, asked_away_at, begin_of, client_acts, client_acts_away, client_now, client_restarted}
 use Rattle.bac_protocol.specs.World.{copies_of, is_id_held, is_id_held_away, is_room, later, lost, net_start, notes_change, passes, post_of, server_acts}
 use Rattle.bac_protocol.specs.World.{server_acts_away, server_now, server_restarted, set_at, with_clock, with_node}
-use Rattle.bac_protocol.specs.World.{begun, begun_again, is_active, is_quiet}
+use Rattle.bac_protocol.specs.World.{is_short, begun, begun_again, is_active, is_quiet}
 use Rattle.bac_protocol.specs.declared.times.TheConstants.{KEEP}
 use Rattle.bac_protocol.proofs.Resting.{not_active, unserved_acts_away, unserved_more, unserved_restarts}
-use Rattle.bac_protocol.proofs.Standing.{Stands, ask_stands, away_asks, away_reacts, away_right, begin_again_stands, begin_stands, change_stands, client_restart_stands}
+use Rattle.bac_protocol.proofs.Sound.{IsClear}
+use Rattle.bac_protocol.proofs.Standing.{Stands, few_are_clear, ask_stands, away_asks, away_reacts, away_right, begin_again_stands, begin_stands, change_stands, client_restart_stands}
 use Rattle.bac_protocol.proofs.Standing.{served_stands, server_restart_stands, spent_stands, start_stands, ticket_gets, ticket_stays, ticket_ticks, time_stands}
 use Rattle.bac_protocol.specs.Moves.{Move, strayed_to_client, taken_by_client, ticket_ticked, ticket_ticked_away}
 use Rattle.bac_protocol.specs.Moves.Move.{Asks, Arrives, TicksTicket, TicksEntry, Passes, Changes, RestartsClient, RestartsServer, Begins, BeginsAgain}
@@ -46,7 +47,7 @@ use Rattle.bac_reuse.proofs.Beside.{AbortsOf, AreGone, Fit, IsForeign, IsLike, I
 use Rattle.bac_reuse.proofs.Beside.{ended_away_grows, like_key, likes_join, likes_later, likes_map, likes_same, logs_both, logs_ending_away, logs_served, over, served_grows, set_keeps}
 use Rattle.bac_reuse.proofs.Clients.{AbortsIf, EndsAsAborted, IsAnswer, answer_comes, asks_steady, gets_steady, steady_ends, ticks_steady}
 use Rattle.bac_reuse.proofs.Machine.{IsGone, gone_ticks}
-use Rattle.bac_reuse.proofs.Simulated.{IsFollowed, Like, client_ended, client_same, copy_comes, follows, ticks_on}
+use Rattle.bac_reuse.proofs.Simulated.{IsFollowed, Like, set_below, client_ended, client_same, copy_comes, follows, ticks_on}
 use Rattle.bac_reuse.proofs.NetSteps.{client_ends}
 
 all_there : (posts : List Post) → posts ++ [] ≡ posts
@@ -81,7 +82,7 @@ module _ (W : ℕ) (x : Rules) (bound : IsBounded W x) (u : Reusing) where
   -- Copies.
 
   module _ (n : Net) (g : Own) (s : Stands W n) (l : LikeAt n g) (number : ℕ) (p q : Post) (at_theirs : slice_get n.posts number ≡ Some q)
-      (like : IsLike n g.log p q) (young : n.now - p.copy.moment ≤ n.pace.life) (few : later p.key number n.posts ≤ x.overtake) where
+      (like : IsLike n g.log p q) (young : n.now - p.copy.moment ≤ n.pace.life) (clear : IsClear W (n.pieces p.key) (later p.key number n.posts)) where
     place : q ≡ p → slice_get (copies_of p.key n.posts) (later p.key number n.posts) ≡ Some p.copy
     place same = subst (λ (y : Post). slice_get (copies_of y.key n.posts) (later y.key number n.posts) ≡ Some y.copy) same (copy_at number n.posts q at_theirs)
 
@@ -99,7 +100,7 @@ module _ (W : ℕ) (x : Rules) (bound : IsBounded W x) (u : Reusing) where
           let r = client.client_on_apdu told x.readable t p.copy.apdu in
           client_same W x bound u n g s l p.key t at r (ended_is_silent.gets told x.readable t p.copy.apdu)
           (steady_ends (client_now n p.key) t r (gets_steady told x.readable t p.copy.apdu))
-          (ticket_gets W x bound n s p.key t at p.copy.moment (later p.key number n.posts) few p.copy.apdu
+          (ticket_gets W x bound n s p.key t at p.copy.moment (later p.key number n.posts) clear p.copy.apdu
           ((f.2).arriving (later p.key number n.posts) p.copy (place same) young).1)
 
       stays : Goes Stays
@@ -110,7 +111,7 @@ module _ (W : ℕ) (x : Rules) (bound : IsBounded W x) (u : Reusing) where
           let r = client.client_on_apdu told x.readable t (Abort true p.key.invoke_id OTHER) in
           client_same W x bound u n g s l p.key t at r (ended_is_silent.gets told x.readable t (Abort true p.key.invoke_id OTHER))
           (steady_ends (client_now n p.key) t r (gets_steady told x.readable t (Abort true p.key.invoke_id OTHER)))
-          (ticket_gets W x bound n s p.key t at 0 (later p.key number n.posts) few (Abort true p.key.invoke_id OTHER) (omega arith))
+          (ticket_gets W x bound n s p.key t at 0 (later p.key number n.posts) clear (Abort true p.key.invoke_id OTHER) (omega arith))
 
       was_asked : WasAsked (n.numbers p.key) g.log
       was_asked =
@@ -157,7 +158,7 @@ module _ (W : ℕ) (x : Rules) (bound : IsBounded W x) (u : Reusing) where
             → Follows (taken_by_server_so x u (over n g) p free service)
         go same aborts None at = absurd (none_there (later p.key number n.posts) p.copy
             (subst (λ (cs : List Copy). slice_get cs (later p.key number n.posts) ≡ Some p.copy) (sound_at W n p.key None at s.net).no_copies (place same)))
-        go same aborts (Some t) at = copy_comes W x bound u n g s l p.key t at (later p.key number n.posts) few p.copy (place same) young way
+        go same aborts (Some t) at = copy_comes W x bound u n g s l p.key t at (later p.key number n.posts) clear p.copy (place same) young way
             (subst (λ (o : Option ClientTransaction). AbortsOf o p.copy.apdu) at aborts) service free
 
         by : IsLike n g.log p q → Follows (taken_by_server_so x u (over n g) p free service)
@@ -173,7 +174,7 @@ module _ (W : ℕ) (x : Rules) (bound : IsBounded W x) (u : Reusing) where
       → Follows (arrived_so x u (over n g) number free service o)
   arrives n g s l number free service None at = stands n g s l
   arrives n g s l number free service (Some p) at =
-      by (nat_le (n.now - p.copy.moment) n.pace.life) (nat_le (later p.key number g.posts) x.overtake) refl refl
+      by (nat_le (n.now - p.copy.moment) n.pace.life) (nat_le (later p.key number g.posts) x.overtake) (is_short (over n g) p.key) refl refl refl
     where
       found : (q : Post) × (slice_get n.posts number ≡ Some q) × IsLike n g.log p q
       found = like_at (IsLike n g.log) g.posts n.posts number p l.posts at
@@ -181,14 +182,20 @@ module _ (W : ℕ) (x : Rules) (bound : IsBounded W x) (u : Reusing) where
       as_few : later p.key number n.posts ≡ later p.key number g.posts
       as_few = likes_later (IsLike n g.log) (like_key n g.log) p.key number g.posts n.posts l.posts
 
-      by : (a b : Bool) → nat_le (n.now - p.copy.moment) n.pace.life ≡ a → nat_le (later p.key number g.posts) x.overtake ≡ b
-          → Follows (if a && b then (if is_from_client p.copy.apdu then taken_by_server_so x u (over n g) p free service
+      comes : n.now - p.copy.moment ≤ n.pace.life → (later p.key number n.posts ≤ x.overtake) ⊎ (n.pieces p.key ≤ 256)
+          → Follows (if is_from_client p.copy.apdu then taken_by_server_so x u (over n g) p free service else taken_by_client x (over n g) p (n.tickets p.key))
+      comes young clear = comes_over n g s l number p found.0 found.1 found.2 young (few_are_clear W x bound (n.pieces p.key) (later p.key number n.posts) clear)
+          free service (is_from_client p.copy.apdu) refl
+
+      by : (a b d : Bool) → nat_le (n.now - p.copy.moment) n.pace.life ≡ a → nat_le (later p.key number g.posts) x.overtake ≡ b
+          → is_short (over n g) p.key ≡ d → Follows (if a && (b || d) then (if is_from_client p.copy.apdu then taken_by_server_so x u (over n g) p free service
           else taken_by_client x (over n g) p (n.tickets p.key)) else over n g)
-      by true true young few = comes_over n g s l number p found.0 found.1 found.2 (grind (arith, nat_tests))
-          (let le : later p.key number g.posts ≤ x.overtake = grind (arith, nat_tests) in subst (λ m. m ≤ x.overtake) (sym as_few) le) free service
-          (is_from_client p.copy.apdu) refl
-      by true false young few = stands n g s l
-      by false b young few = stands n g s l
+      by true true d young few short = comes (grind (arith, nat_tests))
+          (let le : later p.key number g.posts ≤ x.overtake = grind (arith, nat_tests) in inl (subst (λ m. m ≤ x.overtake) (sym as_few) le))
+      by true false true young few short = comes (grind (arith, nat_tests))
+          (let all : g.pieces p.key ≤ 256 = grind (arith, nat_tests) in let le = l.pieces p.key in inr (omega arith))
+      by true false false young few short = stands n g s l
+      by false b d young few short = stands n g s l
 
   -- Ticks.
 
@@ -208,7 +215,7 @@ module _ (W : ℕ) (x : Rules) (bound : IsBounded W x) (u : Reusing) where
     record n { served = with_node key.server n.served },
     g,
     served_stands W n s key.server,
-    record { posts = l.posts; entries = l.entries; logs = l.logs; orderly = l.orderly; unserved = unserved_more (over n g) l.unserved key.server },
+    record { posts = l.posts; entries = l.entries; logs = l.logs; orderly = l.orderly; pieces = l.pieces; unserved = unserved_more (over n g) l.unserved key.server },
     nothing_done,
   )
     where
@@ -219,7 +226,7 @@ module _ (W : ℕ) (x : Rules) (bound : IsBounded W x) (u : Reusing) where
           ≡ over (record n { served = with_node key.server n.served }) g
       nothing_done = ap (λ (v : server.Reaction). server_acts (over n g) key v)
           (gone_ticks (server_context x key (server_now n key)) (λ choice octets. Rejects 0) (g.entries key) gone.0)
-          ∙ (λ i. record (over n g) { served = with_node key.server n.served; entries = set_nothing g.entries key (g.entries key) refl i; posts = all_there g.posts i })
+          ∙ (λ i. record (over n g) { served = with_node key.server n.served; entries = set_nothing g.entries key (g.entries key) refl i; pieces = set_nothing g.pieces key (g.pieces key) refl i; posts = all_there g.posts i })
 
   -- Asks.
 
@@ -241,7 +248,7 @@ module _ (W : ℕ) (x : Rules) (bound : IsBounded W x) (u : Reusing) where
     sends = client.sends_of (client.asks asking ask)
 
     abbrev asked : Own
-    asked = record g { posts = g.posts ++ map (post_of key n.now) sends; log = fact ∷ g.log }
+    asked = record g { posts = g.posts ++ map (post_of key n.now) sends; log = fact ∷ g.log; pieces = set_at g.pieces key (length ask.pieces) }
 
     kept_ask : Stands W (asked_at x n key ask)
     kept_ask = ask_stands W x bound n s key choice whole front rest free
@@ -299,6 +306,7 @@ module _ (W : ℕ) (x : Rules) (bound : IsBounded W x) (u : Reusing) where
             (λ h. inl (gone_both u key (server_now n key) (n.tickets key) (g.entries key) (n.entries key) (gone (n.entries key) refl) h));
         logs = logs_both u g.log n.log l.logs fact;
         orderly = (right.0 ∙ sym l.logs.counted, l.orderly);
+        pieces = set_below key n.pieces g.pieces (length ask.pieces) (length ask.pieces) (omega arith) l.pieces;
         unserved = l.unserved;
       },
       refl,
@@ -338,6 +346,7 @@ module _ (W : ℕ) (x : Rules) (bound : IsBounded W x) (u : Reusing) where
             (n.entries k) (l.entries k);
         logs = l.logs;
         orderly = l.orderly;
+        pieces = l.pieces;
         unserved = l.unserved;
       },
       refl,
@@ -360,6 +369,7 @@ module _ (W : ℕ) (x : Rules) (bound : IsBounded W x) (u : Reusing) where
         entries = l.entries;
         logs = logs_both u g.log n.log l.logs (Changed node change);
         orderly = l.orderly;
+        pieces = l.pieces;
         unserved = l.unserved;
       },
       refl,
@@ -379,6 +389,7 @@ module _ (W : ℕ) (x : Rules) (bound : IsBounded W x) (u : Reusing) where
         entries = λ k. fits k (nat_eq k.server node);
         logs = logs_both u g.log n.log l.logs (Restarted node store);
         orderly = l.orderly;
+        pieces = l.pieces;
         unserved = unserved_restarts (over n g) l.unserved node ((clock_at n.pace exact).shows + KEEP + 1);
       },
       refl,
@@ -412,6 +423,7 @@ module _ (W : ℕ) (x : Rules) (bound : IsBounded W x) (u : Reusing) where
         entries = λ k. fits node k (nat_eq k.client node);
         logs = l.logs;
         orderly = l.orderly;
+        pieces = l.pieces;
         unserved = l.unserved;
       },
       refl,
@@ -448,6 +460,7 @@ module _ (W : ℕ) (x : Rules) (bound : IsBounded W x) (u : Reusing) where
         entries = fits_begun node exact (not_active n node off).1 n.tickets l.entries;
         logs = l.logs;
         orderly = l.orderly;
+        pieces = l.pieces;
         unserved = l.unserved;
       },
       refl,
@@ -465,6 +478,7 @@ module _ (W : ℕ) (x : Rules) (bound : IsBounded W x) (u : Reusing) where
         entries = λ k. entries (n.served node) refl k;
         logs = l.logs;
         orderly = l.orderly;
+        pieces = l.pieces;
         unserved = l.unserved;
       },
       refl,
@@ -494,6 +508,7 @@ module _ (W : ℕ) (x : Rules) (bound : IsBounded W x) (u : Reusing) where
         entries = l.entries;
         logs = logs_served u g.log n.log l.logs key (begin_of v.entry) v.effect;
         orderly = go v.effect;
+        pieces = l.pieces;
         unserved = unserved_acts_away (over n g) l.unserved key v.entry;
       },
       refl,
@@ -524,6 +539,7 @@ module _ (W : ℕ) (x : Rules) (bound : IsBounded W x) (u : Reusing) where
         entries = l.entries;
         logs = logs_ending_away u g.log n.log l.logs (n.far.numbers key) (client.ending_of r);
         orderly = go (client.ending_of r) (away_right W n s key t at r silent);
+        pieces = l.pieces;
         unserved = l.unserved;
       },
       refl,
@@ -571,6 +587,7 @@ module _ (W : ℕ) (x : Rules) (bound : IsBounded W x) (u : Reusing) where
         entries = l.entries;
         logs = logs_both u g.log n.log l.logs (AskedAway n.asks key.client key.server (request_of away));
         orderly = ((net_log W n s.net).counted ∙ sym l.logs.counted, l.orderly);
+        pieces = l.pieces;
         unserved = l.unserved;
       },
       refl,
@@ -623,7 +640,7 @@ module _ (W : ℕ) (x : Rules) (bound : IsBounded W x) (u : Reusing) where
     starts : Follows (net_start pace clocks)
     starts = (
       net_start pace clocks,
-      record { entries = λ key. None; posts = []; log = []; far_entries = λ key. None },
+      record { entries = λ key. None; posts = []; log = []; pieces = λ key. 0; far_entries = λ key. None },
       start_stands W pace clocks timely,
       record {
         posts = tt;
@@ -638,6 +655,7 @@ module _ (W : ℕ) (x : Rules) (bound : IsBounded W x) (u : Reusing) where
           unended_away = λ i h. h;
         };
         orderly = tt;
+        pieces = λ key. omega arith;
         unserved = λ node off. record { entries = λ key is. refl; away = λ key is. refl; opens = refl };
       },
       refl,

@@ -153,7 +153,7 @@ module _ (W : ℕ) (x : Rules) (bound : IsBounded W x) where
         × (o ≡ Some (record e { begin = server_now n key })) × IsSoon n key × (n.serves_from key.server ≤ server_now n key))
 
     module _ (time : IsInTime n key) (sends : List Apdu) where
-      sound_with : (o : Option ServerTransaction) → ((up : Up) (down : Down) → Sound W key (moments_of n key) n.asks (n.numbers key) t (n.entries key)
+      sound_with : (o : Option ServerTransaction) → ((up : Up) (down : Down) → Sound W (n.pieces key) key (moments_of n key) n.asks (n.numbers key) t (n.entries key)
           (one n key).copies n.log up down → ServerFits W (moments_of n key) (n.numbers key) t.ask o up down n.log)
           → IsSound W key (server_does (record (one n key) { ticket = Some t }) (server.rests o (aborts key.invoke_id sends)))
       sound_with o fits =
@@ -163,6 +163,8 @@ module _ (W : ℕ) (x : Rules) (bound : IsBounded W x) where
             f.1,
             record {
               clock = q.clock;
+              asked_within = q.asked_within;
+              given_within = q.given_within;
               numbers = q.numbers;
               counted = q.counted;
               orderly = q.orderly;
@@ -241,7 +243,7 @@ module _ (W : ℕ) (x : Rules) (bound : IsBounded W x) where
           now_since : Since n.pace n.now (server_now n key) n.now (n.server_clocks key.server)
           now_since = since_now n.pace n.now (n.server_clocks key.server) calm_at.server
 
-          fits : (up : Up) (down : Down) → Sound W key (moments_of n key) n.asks (n.numbers key) t (n.entries key)
+          fits : (up : Up) (down : Down) → Sound W (n.pieces key) key (moments_of n key) n.asks (n.numbers key) t (n.entries key)
               (one n key).copies n.log up down → ServerFits W (moments_of n key) (n.numbers key) t.ask (Some new) up down n.log
           fits up down q = go (subst (λ (o : Option ServerTransaction). ServerFits W (moments_of n key) (n.numbers key) t.ask o up down n.log) again.1 q.server)
             where
@@ -272,8 +274,8 @@ module _ (W : ℕ) (x : Rules) (bound : IsBounded W x) where
         ended_sound =
             let f = sound_at W n key (Some t) at s.net in
             subst (λ (r : client.Reaction). IsSound W key (client_does (one n key) t r)) is
-            (client_gets_kept W x.overtake bound.some bound.room (x.settings key.client) (bound.windows key.client) x.readable key
-            (one n key) t f.0 f.1 f.2 0 0 (omega arith) (Abort true key.invoke_id OTHER) (omega arith))
+            (client_gets_kept W bound.some (x.settings key.client) (bound.windows key.client) x.readable key
+            (one n key) t f.0 f.1 f.2 0 0 (inl (let room = bound.room in omega arith)) (Abort true key.invoke_id OTHER) (omega arith))
 
         in_time : n.now ≤ client_until (moments_of n key)
         in_time =
@@ -295,6 +297,8 @@ module _ (W : ℕ) (x : Rules) (bound : IsBounded W x) where
               f.1,
               record {
                 clock = q.clock;
+                asked_within = q.asked_within;
+                given_within = q.given_within;
                 numbers = q.numbers;
                 counted = q.counted;
                 orderly = q.orderly;

@@ -1,6 +1,6 @@
 -- A net in which servers let invoke IDs be used again is followed by a net of bac_protocol.
 use Rattle.std.proofs.Common.{◌≡◌, ℕ, ◌+◌, ◌-◌, ◌<◌, ◌≤◌, ◌⊎◌, Bool, true, false, List, [], ◌∷◌, ◌++◌, length, map, Option, Some, None}
-use Rattle.std.proofs.Common.{slice_get, nat_le, refl, ap, sym, subst, inl, inr, ◌∙◌, arith}
+use Rattle.std.proofs.Common.{slice_get, if◌then◌else◌, max, nat_le, refl, ap, sym, subst, inl, inr, ◌∙◌, arith}
 use Rattle.std.proofs.lemmas.Bool.Decides.{nat_tests}
 use Rattle.bac_apdu.specs.Apdu.{Apdu}
 use Rattle.bac_apdu.specs.Apdu.Apdu.{ConfirmedRequest, UnconfirmedRequest, SimpleAck, ComplexAck, SegmentAck, Error, Reject, Abort}
@@ -20,7 +20,7 @@ use Rattle.bac_protocol.specs.Log.{Fact, Has, IsOrderly, IsUnperformed, MayEnd}
 use Rattle.bac_protocol.specs.Log.Fact.{Asked, Ended}
 use Rattle.bac_protocol.specs.Reuse.{is_over, is_transfer_over, server_hears}
 use Rattle.bac_protocol.specs.Transaction.{Copy, Key, Rules, ended, performed, server_context}
-use Rattle.bac_protocol.specs.World.{Net, Post, client_acts, client_now, is_room, post_of, server_acts, server_now, set_at}
+use Rattle.bac_protocol.specs.World.{Net, Post, client_acts, client_now, is_room, post_of, same_key, server_acts, server_now, set_at, with_reply}
 use Rattle.bac_protocol.specs.Claims.{IsBounded, Moments, moments_of}
 use Rattle.bac_protocol.proofs.Alone.{one}
 use Rattle.bac_protocol.proofs.Facts.{all_map, grows_same}
@@ -32,7 +32,7 @@ use Rattle.bac_protocol.proofs.Standing.{Stands, entry_gets, entry_ticks}
 use Rattle.bac_protocol.proofs.Claimed.{piece_up_of}
 use Rattle.bac_protocol.proofs.Own.{server_sends_own}
 use Rattle.bac_protocol.proofs.Served.{ticks_quiet}
-use Rattle.bac_protocol.proofs.Sound.{ClientFits, Down, DownFits, IsBegunFor, IsPastFor, Says, SendsDown, ServerFits, Sound, StateFits, Up}
+use Rattle.bac_protocol.proofs.Sound.{ClientFits, IsClear, Down, DownFits, IsBegunFor, IsPastFor, Says, SendsDown, ServerFits, Sound, StateFits, Up}
 use Rattle.bac_protocol.proofs.Sound.Down.{Sent, Unsent}
 use Rattle.bac_reuse.specs.Moves.{IsOrderlySo, MayBePerformed}
 use Rattle.bac_reuse.specs.Runs.{Reusing}
@@ -100,6 +100,23 @@ finished_phase W ask (SegmentedConf inc) up (Sent ps tk sn) out is fits download
     absurd (omega arith)
 finished_phase W ask Idle up (Sent ps tk sn) out is fits download sends = refl
 
+-- where the one has at most the pieces of the other, it has so after both are set
+pub set_below : (key : Key) (f h : Key → ℕ) (a b : ℕ) → a ≤ b → ((k : Key) → f k ≤ h k) → (k : Key) → set_at f key a k ≤ set_at h key b k
+set_below key f h a b le below k = go (same_key key k)
+  where
+    go : (c : Bool) → (if c then a else f k) ≤ (if c then b else h k)
+    go true = le
+    go false = below k
+
+-- and after the same reply, or one of the other alone
+reply_below : (o : Option Effect) (e : Option ServerTransaction) (a b : ℕ) → a ≤ b → with_reply a o e ≤ with_reply b o e
+reply_below None e a b le = le
+reply_below (Some y) e a b le = omega arith
+
+reply_more : (o : Option Effect) (e : Option ServerTransaction) (a b : ℕ) → a ≤ b → a ≤ with_reply b o e
+reply_more None e a b le = le
+reply_more (Some y) e a b le = omega arith
+
 module _ (W : ℕ) (x : Rules) (bound : IsBounded W x) (u : Reusing) where
   -- what the net has of its own fits the other
   pub record Like (n : Net) (g : Own) : Type 0 where
@@ -107,6 +124,7 @@ module _ (W : ℕ) (x : Rules) (bound : IsBounded W x) (u : Reusing) where
     pub entries : (key : Key) → Fit u key (server_now n key) (n.tickets key) (g.entries key) (n.entries key)
     pub logs : AreLogs u g.log n.log
     pub orderly : IsOrderlySo u g.log
+    pub pieces : (key : Key) → n.pieces key ≤ g.pieces key
     pub unserved : Unserved (over n g)
 
   -- a net has another one beside it
@@ -176,6 +194,7 @@ module _ (W : ℕ) (x : Rules) (bound : IsBounded W x) (u : Reusing) where
             (subst (λ y. Fit u key (server_now n key) y (g.entries key) (n.entries key)) at h));
         logs = logs;
         orderly = orderly;
+        pieces = l.pieces;
         unserved = l.unserved;
       }
 
@@ -259,6 +278,7 @@ module _ (W : ℕ) (x : Rules) (bound : IsBounded W x) (u : Reusing) where
         entries = set_at g.entries key v.entry;
         posts = g.posts ++ map (post_of key n.now) v.sends;
         log = performed (n.numbers key) v.effect g.log;
+        pieces = set_at g.pieces key (with_reply (g.pieces key) v.effect v.entry);
         far_entries = g.far_entries;
       }
 
@@ -292,8 +312,9 @@ module _ (W : ℕ) (x : Rules) (bound : IsBounded W x) (u : Reusing) where
       server_goes : Stands W (server_acts n key v') → AreLike IsLikeNow (map (post_of key n.now) v.sends) (map (post_of key n.now) v'.sends)
           → Fit u key (server_now n key) (Some t) v.entry v'.entry
           → AreLogs u (performed (n.numbers key) v.effect g.log) (performed (n.numbers key) v'.effect n.log)
-          → IsOrderlySo u (performed (n.numbers key) v.effect g.log) → IsFollowed (server_acts (over n g) key v)
-      server_goes kept sends fit logs orderly = (
+          → IsOrderlySo u (performed (n.numbers key) v.effect g.log)
+          → with_reply (n.pieces key) v'.effect v'.entry ≤ with_reply (g.pieces key) v.effect v.entry → IsFollowed (server_acts (over n g) key v)
+      server_goes kept sends fit logs orderly more = (
         server_acts n key v',
         acts,
         kept,
@@ -303,6 +324,7 @@ module _ (W : ℕ) (x : Rules) (bound : IsBounded W x) (u : Reusing) where
           entries = entry_fits fit;
           logs = logs;
           orderly = orderly;
+          pieces = set_below key n.pieces g.pieces (with_reply (n.pieces key) v'.effect v'.entry) (with_reply (g.pieces key) v.effect v.entry) more l.pieces;
           unserved = unserved_acts (over n g) l.unserved key v.entry;
         },
         refl,
@@ -321,12 +343,13 @@ module _ (W : ℕ) (x : Rules) (bound : IsBounded W x) (u : Reusing) where
     server_same v kept from fit = server_goes v v kept (new_sends v v v.sends from) fit
         (logs_effect u g.log n.log l.logs (n.numbers key) v.effect)
         (orderly_effect v.effect (net_log W (server_acts n key v) kept.net).orderly)
+        (reply_below v.effect v.entry (n.pieces key) (g.pieces key) (l.pieces key))
 
     -- both keep what they have
     pub server_rests : (o p : Option ServerTransaction) (sends : List Apdu) → Stands W (server_acts n key (server.rests p sends)) → Each IsFromServer sends
         → AreGone (server_now n key) o p → IsFollowed (server_acts (over n g) key (server.rests o sends))
     server_rests o p sends kept from gone = server_goes (server.rests o sends) (server.rests p sends) kept
-        (new_sends (server.rests o sends) (server.rests p sends) sends from) (inl gone) l.logs l.orderly
+        (new_sends (server.rests o sends) (server.rests p sends) sends from) (inl gone) l.logs l.orderly (l.pieces key)
 
     -- the other sends Aborts
     foreign_sends : (v v' : server.Reaction) → Each (λ a. IsFromServer a × IsForeign (n.numbers key) (Some t) (performed (n.numbers key) v.effect g.log) a) v.sends
@@ -345,6 +368,7 @@ module _ (W : ℕ) (x : Rules) (bound : IsBounded W x) (u : Reusing) where
     server_alone service fresh v o kept each of fit = server_goes v (server.rests o (aborts key.invoke_id v.sends)) kept
         (foreign_sends v (server.rests o (aborts key.invoke_id v.sends)) each) fit
         (logs_read_effect u g.log n.log l.logs (n.numbers key) v.effect (was_read service fresh)) (orderly_read service fresh v.effect of)
+        (reply_more v.effect v.entry (n.pieces key) (g.pieces key) (l.pieces key))
 
     -- An entry that both have.
 
@@ -352,7 +376,8 @@ module _ (W : ℕ) (x : Rules) (bound : IsBounded W x) (u : Reusing) where
         → (out : Outgoing) (transfer : Transfer) (since : ℕ) → d.state ≡ State.SegmentedResponse out transfer since → is_finished out ≡ true → is_idle t.phase ≡ true
     finished_idle v kept d is live out transfer since of finished = go (subst Fits (set_same n.entries key v.entry ∙ is) (f.2).server)
       where
-        f : (up : Up) × (down : Down) × Sound W key (moments_of n key) n.asks (n.numbers key) t (set_at n.entries key v.entry key)
+        f : (up : Up) × (down : Down) × Sound W (set_at n.pieces key (with_reply (n.pieces key) v.effect v.entry) key) key (moments_of n key) n.asks
+            (n.numbers key) t (set_at n.entries key v.entry key)
             (one (server_acts n key v) key).copies (performed (n.numbers key) v.effect n.log) up down
         f = sound_at W (server_acts n key v) key (Some t) at kept.net
 
@@ -401,7 +426,7 @@ module _ (W : ℕ) (x : Rules) (bound : IsBounded W x) (u : Reusing) where
 
     -- A copy of the client's arrives.
 
-    module _ (k : ℕ) (few : k ≤ x.overtake) (p : Copy) (place : slice_get (one n key).copies k ≡ Some p) (young : n.now - p.moment ≤ n.pace.life)
+    module _ (k : ℕ) (clear : IsClear W (n.pieces key) k) (p : Copy) (place : slice_get (one n key).copies k ≡ Some p) (young : n.now - p.moment ≤ n.pace.life)
         (way : is_from_client p.apdu ≡ true) (gave_up : IsClientAbort p.apdu → is_idle t.phase ≡ true) (service : Service) (free : Bool) where
       abbrev told : Context
       told = server_context x key (server_now n key)
@@ -415,7 +440,7 @@ module _ (W : ℕ) (x : Rules) (bound : IsBounded W x) (u : Reusing) where
       kept_theirs : Stands W (server_acts n key theirs)
       kept_theirs =
           let f = sound_at W n key (Some t) at s.net in
-          entry_gets W x bound n s key t at k few p place young way ((f.2).arriving k p place young).1 service free
+          entry_gets W x bound n s key t at k clear p place young way ((f.2).arriving k p place young).1 service free
 
       of_ask : IsRequestOf t.ask p.apdu
       of_ask =

@@ -1,6 +1,6 @@
 -- What a right log says of writes and of answers.
-use Rattle.std.specs.Prelude.{◌≡◌, ℕ, false, ◌||◌, List, ◌∷◌, ◌++◌, nat_eq}
-use Rattle.bac_service.specs.declared.service.TheConstants.{ATOMIC_READ_FILE, READ_PROPERTY}
+use Rattle.std.specs.Prelude.{◌≡◌, ℕ, false, List, ◌∷◌, ◌++◌}
+use Rattle.bac_service.specs.Choices.{is_read_choice}
 use Rattle.bac_protocol.specs.Service.{Reply, Request}
 use Rattle.bac_protocol.specs.Service.Ending.{Answered}
 use Rattle.bac_protocol.specs.Service.Outcome.{Replies}
@@ -34,6 +34,6 @@ abbrev pub AnswersAreOfTheirTime : (S : Type 0) → StoreModel S → Reusing →
 AnswersAreOfTheirTime S model u opening log =
     (newer older : List Fact) (n : ℕ) (p : Reply) → log ≡ newer ++ Ended n (Answered p) ∷ older → WasGiven S model u opening n p older
 
--- the reads of the stack's own services: ReadProperty and AtomicReadFile
+-- the reads of the stack's own services
 abbrev pub is_stack_read : Reads
-is_stack_read choice = nat_eq choice READ_PROPERTY || nat_eq choice ATOMIC_READ_FILE
+is_stack_read choice = is_read_choice choice

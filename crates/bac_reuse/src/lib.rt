@@ -65,7 +65,7 @@ pub fn at_most_once_without_reads<S>()
         (run_so S model rules reusing events (start S pace clocks opening)).stores }
 {}
 
-/// The stack's own reads, ReadProperty and AtomicReadFile, change no store, which is what these laws assume of reads.
+/// The reads of the stack's own services change no store, which is what these laws assume of reads.
 #[tactic(auto, using(crate::proofs::StackReads::stack_reads))]
 pub fn stack_reads_change_nothing()
     ensures { (store : Store) (choice : ℕ) (octets : List ℕ) (request : Request) → IsBytes octets → request_at choice octets ≡ Ok request

@@ -1,3 +1,4 @@
+pub mod Choices
 pub mod Exact
 pub mod Heads
 pub mod Contents

@@ -17,6 +17,7 @@ pub mod Priorities
 pub mod WriteProperty
 pub mod Requests
 pub mod Replies
+pub mod MemberViews
 pub mod Services
 pub mod Spellings
 pub mod Views

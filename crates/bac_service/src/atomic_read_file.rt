@@ -7,11 +7,15 @@ ghost use Rattle.bac_service.specs.AtomicReadFile.{file_read_view, read_access_v
 ghost use Rattle.bac_service.specs.AtomicReadFile.{read_file_view};
 ghost use Rattle.bac_service.specs.Files.{extent_spelling};
 ghost use Rattle.bac_service.specs.Members.{enclosed_spelling};
+ghost use Rattle.bac_service.specs.Values.{members_asked, request_name};
+ghost use Rattle.bac_service.specs.MemberViews.{members_view};
+ghost use Rattle.bac_service.specs.Values.{read_start};
 ghost use Rattle.bac_service.specs.Writing.{Writes};
 
 use crate::file::{
     Content, content_len, extent_len, put_content, put_extent, take_content, take_extent,
 };
+use crate::member::{Member, Members};
 use crate::member_len::{OBJECT_LEN, PAIR_LEN};
 use crate::member_reading::object;
 use crate::member_writing::{put_closing, put_opening};
@@ -46,6 +50,43 @@ pub struct FileRead<C> {
     pub start: i64,
     /// The octets.
     pub content: C,
+}
+
+impl ReadAccess {
+    /// The position, or the record, from which on the file is read.
+    pub(crate) fn start(self) -> i64
+        ensures { result ≡ read_start (read_access_view self) }
+    {
+        match self {
+            ReadAccess::Stream { start, .. } => start,
+            ReadAccess::Records { start, .. } => start,
+        }
+    }
+}
+
+impl ReadFile {
+    pub(crate) fn name(self) -> &'static str
+        ensures { result.now ≡ request_name (read_file_view self) }
+    {
+        match self.access {
+            ReadAccess::Stream { .. } => "read-file",
+            ReadAccess::Records { .. } => "read-records",
+        }
+    }
+
+    pub(crate) fn members(self) -> Members<'static>
+        ensures { members_view result ≡ members_asked (read_file_view self) }
+    {
+        let file = Member::Object(self.file);
+        match self.access {
+            ReadAccess::Stream { start, count } => {
+                Members::three([file, Member::Position(start), Member::Count(count)])
+            }
+            ReadAccess::Records { start, count } => {
+                Members::three([file, Member::Record(start), Member::Count(count)])
+            }
+        }
+    }
 }
 
 /// Reads the members of a request, and returns them and the octets after them.

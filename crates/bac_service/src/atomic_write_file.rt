@@ -6,6 +6,9 @@ ghost use Rattle.bac_service.specs.AtomicWriteFile.{IsWriteFile, IsWritten, coun
 ghost use Rattle.bac_service.specs.AtomicWriteFile.{write_access_at, write_access_length, write_access_view, write_file_at, write_file_length};
 ghost use Rattle.bac_service.specs.AtomicWriteFile.{write_file_spelling, write_file_view};
 ghost use Rattle.bac_service.specs.Files.{IsExtent};
+ghost use Rattle.bac_service.specs.Values.{members_asked, request_name};
+ghost use Rattle.bac_service.specs.MemberViews.{members_view};
+ghost use Rattle.bac_service.specs.Values.{appends_octets, write_start};
 ghost use Rattle.bac_service.specs.Reading.{enclosed_at};
 ghost use Rattle.bac_service.specs.Runs.{AreStrings};
 ghost use Rattle.bac_service.specs.Sights.{left, lent, owned};
@@ -16,6 +19,7 @@ ghost use Rattle.bac_service.specs.Writing.{Writes};
 use crate::file::{
     Content, content_len, extent_len, put_content, put_extent, string_copy, take_content,
 };
+use crate::member::{Member, Members};
 use crate::member_len::{OBJECT_LEN, PAIR_LEN};
 use crate::member_reading::{object, signed, unsigned};
 use crate::member_writing::{put_closing, put_opening};
@@ -67,6 +71,68 @@ pub struct WriteFile<C, R> {
 pub enum FileWritten {
     Stream(i64),
     Records(i64),
+}
+
+impl<'a> WriteAccess<Content<'a>, Records<'a>> {
+    /// The position, or the record, from which on the file is written.
+    pub(crate) fn start(self) -> i64
+        ensures { result ≡ write_start (write_access_view lent self.entry) }
+    {
+        match self {
+            WriteAccess::Stream(stream) => stream.start,
+            WriteAccess::Records(records) => records.start,
+        }
+    }
+
+    /// The octets, or the records with their tags.
+    pub(crate) fn octets(self) -> &'a [u8]
+        ensures { result.now ≡ for_file (write_access_view lent self.entry) }
+    {
+        match self {
+            WriteAccess::Stream(stream) => stream.content.octets,
+            WriteAccess::Records(records) => records.records.run,
+        }
+    }
+
+    /// Whether these are octets for the end of the file.
+    pub(crate) fn appends_octets(self) -> bool
+        ensures { result ≡ appends_octets (write_access_view lent self.entry) }
+    {
+        match self {
+            WriteAccess::Stream(stream) => stream.start == -1,
+            WriteAccess::Records(_) => false,
+        }
+    }
+}
+
+impl<'a> WriteFile<Content<'a>, Records<'a>> {
+    pub(crate) fn name(self) -> &'static str
+        ensures { result.now ≡ request_name (write_file_view lent self.entry) }
+    {
+        match self.access {
+            WriteAccess::Stream(_) => "write-file",
+            WriteAccess::Records(_) => "write-records",
+        }
+    }
+
+    pub(crate) fn members(self) -> Members<'a>
+        ensures { members_view result ≡ members_asked (write_file_view lent self.entry) }
+    {
+        let file = Member::Object(self.file);
+        match self.access {
+            WriteAccess::Stream(stream) => Members::three([
+                file,
+                Member::Position(stream.start),
+                Member::Content(stream.content),
+            ]),
+            WriteAccess::Records(write) => Members::four([
+                file,
+                Member::Record(write.start),
+                Member::Count(write.records.count),
+                Member::Records(write.records),
+            ]),
+        }
+    }
 }
 
 /// Reads records to write: the first record, their count, and as many octet strings between tags with number 1.

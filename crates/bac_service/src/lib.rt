@@ -5,10 +5,10 @@
 
 mod atomic_read_file;
 mod atomic_write_file;
-mod comparing_replies;
-mod comparing_requests;
+mod comparing;
 mod file;
 mod laws;
+mod member;
 mod member_len;
 mod member_reading;
 mod member_writing;
@@ -28,10 +28,10 @@ mod write_property;
 
 pub use atomic_read_file::{FileRead, ReadAccess, ReadFile};
 pub use atomic_write_file::{FileWritten, WriteAccess, WriteFile, WriteRecords, WriteStream};
-pub use comparing_replies::same_reply;
-pub use comparing_requests::{same_object, same_request};
+pub use comparing::{same_object, same_reply, same_request};
 pub use file::Content;
 pub use laws::{one_reply_spelling, one_request_spelling, replies_are_read, requests_are_read};
+pub use member::{Member, Members};
 pub use owned_records::OwnedRecords;
 pub use priority::Priority;
 pub use property::PropertyReference;
@@ -47,5 +47,7 @@ pub use request::{
     AnyRequest, OwnedRequest, Request, RequestOver, read_request, read_request_parts, request_len,
     write_request,
 };
-pub use service::{ATOMIC_READ_FILE, ATOMIC_WRITE_FILE, READ_PROPERTY, Service, WRITE_PROPERTY};
+pub use service::{
+    ATOMIC_READ_FILE, ATOMIC_WRITE_FILE, READ_PROPERTY, Service, WRITE_PROPERTY, is_read_choice,
+};
 pub use write_property::WriteProperty;

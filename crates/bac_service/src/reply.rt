@@ -8,13 +8,20 @@ ghost use Rattle.bac_service.specs.Refusals.{Gives, GivesInMemory, IfNoMemory, I
 ghost use Rattle.bac_service.specs.Replies.{IsComplex, IsMadeOf, IsNoComplex, IsReply, ReplyNeedsMemory, SpellsComplex, complex_at};
 ghost use Rattle.bac_service.specs.Replies.{complex_length, complex_members, complex_over_view, complex_spelling, complex_view, held_by};
 ghost use Rattle.bac_service.specs.Replies.{owned_complex_view, owned_reply_view, reads_reply, reply_view};
+ghost use Rattle.std.specs.Option.{option_map};
+ghost use Rattle.bac_service.specs.Values.{complex_name, members_answered};
+ghost use Rattle.bac_service.specs.MemberViews.{members_view};
+ghost use Rattle.bac_service.specs.Values.{content_answered, property_answered, reaches_end, service_answered, start_answered, values_answered};
+ghost use Rattle.bac_service.specs.References.{property_reference_view};
 ghost use Rattle.bac_service.specs.Values.{complex_choice_of, held_in};
 ghost use Rattle.bac_service.specs.Writing.{Writes};
 
 use crate::atomic_read_file::{FileRead, file_read_len, put_file_read, take_file_read};
 use crate::atomic_write_file::{FileWritten, take_file_written};
 use crate::file::{Content, string_copy};
+use crate::member::{Member, Members};
 use crate::member_len::signed_member_len;
+use crate::property::PropertyReference;
 use crate::read_error::ReadError;
 use crate::read_property::{
     PropertyRead, property_read_len, put_property_read, take_property_read,
@@ -277,6 +284,127 @@ impl Complex<'_> {
                     values,
                 }))
             }
+        }
+    }
+}
+
+impl<'a> Complex<'a> {
+    /// The service whose ComplexACK has these service data.
+    pub fn service(self) -> Service
+        ensures { result ≡ service_answered (complex_view self.entry) }
+    {
+        match self {
+            AnyComplex::FileRead(_) => Service::AtomicReadFile,
+            AnyComplex::FileWritten(FileWritten::Stream(_) | FileWritten::Records(_)) => {
+                Service::AtomicWriteFile
+            }
+            AnyComplex::PropertyRead(_) => Service::ReadProperty,
+        }
+    }
+
+    /// The property whose values they are; None if they are of a file.
+    pub fn property(self) -> Option<PropertyReference>
+        ensures { option_map property_reference_view result ≡ property_answered (complex_view self.entry) }
+    {
+        match self {
+            AnyComplex::PropertyRead(read) => Some(read.reference),
+            AnyComplex::FileRead(_)
+            | AnyComplex::FileWritten(FileWritten::Stream(_) | FileWritten::Records(_)) => None,
+        }
+    }
+
+    /// The values of a property.
+    pub fn values(self) -> Option<Data<'a>>
+        ensures { option_map (λ d. d.octets.now) result ≡ values_answered (complex_view self.entry) }
+    {
+        match self {
+            AnyComplex::PropertyRead(read) => Some(read.values),
+            AnyComplex::FileRead(_)
+            | AnyComplex::FileWritten(FileWritten::Stream(_) | FileWritten::Records(_)) => None,
+        }
+    }
+
+    /// The octets of a file.
+    pub fn content(self) -> Option<Content<'a>>
+        ensures { option_map (λ c. c.octets.now) result ≡ content_answered (complex_view self.entry) }
+    {
+        match self {
+            AnyComplex::FileRead(read) => Some(read.content),
+            AnyComplex::FileWritten(FileWritten::Stream(_) | FileWritten::Records(_))
+            | AnyComplex::PropertyRead(_) => None,
+        }
+    }
+
+    /// The octets of values or of a file; none where a file was written.
+    pub fn octets(self) -> &'a [u8]
+        ensures { result.now ≡ held_in (complex_view self.entry) }
+    {
+        match self {
+            AnyComplex::FileRead(read) => read.content.octets,
+            AnyComplex::FileWritten(FileWritten::Stream(_) | FileWritten::Records(_)) => &[],
+            AnyComplex::PropertyRead(read) => read.values.octets,
+        }
+    }
+
+    /// Whether octets of a file reach its end.
+    pub fn reaches_end(self) -> bool
+        ensures { result ≡ reaches_end (complex_view self.entry) }
+    {
+        match self {
+            AnyComplex::FileRead(read) => read.end_of_file,
+            AnyComplex::FileWritten(FileWritten::Stream(_) | FileWritten::Records(_))
+            | AnyComplex::PropertyRead(_) => false,
+        }
+    }
+
+    /// The position, or the record, from which on a file was read or written; None for a property.
+    pub fn start(self) -> Option<i64>
+        ensures { result ≡ start_answered (complex_view self.entry) }
+    {
+        match self {
+            AnyComplex::FileRead(read) => Some(read.start),
+            AnyComplex::FileWritten(FileWritten::Stream(start) | FileWritten::Records(start)) => {
+                Some(start)
+            }
+            AnyComplex::PropertyRead(_) => None,
+        }
+    }
+
+    /// The name of the service data, as `bac decode` prints it.
+    pub fn name(self) -> &'static str
+        ensures { result.now ≡ complex_name (complex_view self.entry) }
+    {
+        match self {
+            AnyComplex::FileRead(_) => "read-file-ack",
+            AnyComplex::FileWritten(FileWritten::Stream(_) | FileWritten::Records(_)) => {
+                "write-file-ack"
+            }
+            AnyComplex::PropertyRead(_) => "read-property-ack",
+        }
+    }
+
+    /// The members of the service data by their names, in the order in which they are printed.
+    pub fn members(self) -> Members<'a>
+        ensures { members_view result ≡ members_answered (complex_view self.entry) }
+    {
+        match self {
+            AnyComplex::FileRead(read) => Members::three([
+                Member::EndOfFile(read.end_of_file),
+                Member::Position(read.start),
+                Member::Content(read.content),
+            ]),
+            AnyComplex::FileWritten(FileWritten::Stream(start)) => {
+                Members::one(Member::Position(start))
+            }
+            AnyComplex::FileWritten(FileWritten::Records(start)) => {
+                Members::one(Member::Record(start))
+            }
+            AnyComplex::PropertyRead(read) => Members::four([
+                Member::Object(read.reference.object),
+                Member::Property(read.reference.property),
+                Member::Index(read.reference.index),
+                Member::Values(read.values),
+            ]),
         }
     }
 }

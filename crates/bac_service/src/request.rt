@@ -2,7 +2,13 @@
 ghost use Rattle.std.specs.Prelude.{◌≡◌, ◌+◌, ◌++◌, ◌<◌, ◌≤◌, ◌↔◌, IfOk, IfErr, IsErrOf, OnOk, OnErr, length, vec_len, vec_capacity};
 ghost use Rattle.bac_value.specs.Appending.{Appends, Keeps, NeedsRoom};
 ghost use Rattle.bac_value.specs.Steps.{Reads};
-ghost use Rattle.bac_value.specs.Views.{parts_view};
+ghost use Rattle.std.specs.Option.{option_map};
+ghost use Rattle.bac_value.specs.Views.{object_identifier_view, parts_view};
+ghost use Rattle.bac_service.specs.Values.{members_asked, request_name};
+ghost use Rattle.bac_service.specs.MemberViews.{members_view};
+ghost use Rattle.bac_service.specs.Values.{is_append, object_asked, priority_asked, property_asked, service_asked, start_asked, verb_asked};
+ghost use Rattle.bac_service.specs.References.{property_reference_view};
+ghost use Rattle.bac_service.specs.WriteProperty.{priority_view};
 ghost use Rattle.bac_service.specs.Refusals.{Gives, GivesInMemory, IfNoMemory, IfRefused, reason_number};
 ghost use Rattle.bac_service.specs.Requests.{IsMade, IsNoRequest, IsRequest, IsUnknown, NeedsMemory, SpellsRequest, owned_request_view};
 ghost use Rattle.bac_service.specs.Requests.{request_at, request_length, request_members, request_over_view, request_spelling, request_view};
@@ -16,7 +22,9 @@ use crate::atomic_write_file::{
     take_write_file, write_file_len,
 };
 use crate::file::Content;
+use crate::member::{Member, Members};
 use crate::owned_records::OwnedRecords;
+use crate::priority::Priority;
 use crate::property::{PropertyReference, property_reference, put_reference, reference_len};
 use crate::read_error::ReadError;
 use crate::records::{Records, Run};
@@ -26,7 +34,7 @@ use crate::stop::{Stop, Why};
 use crate::write_property::{
     WriteProperty, put_write_property, take_write_property, write_property_len,
 };
-use bac_value::{Data, DataBuf, NoMemory, OctetString, Octets, Parts};
+use bac_value::{Data, DataBuf, NoMemory, ObjectIdentifier, OctetString, Octets, Parts};
 use std::alloc::Global;
 
 /// A request of one of the four services, with one type parameter for each service.
@@ -253,6 +261,140 @@ impl Request<'_> {
                     priority: write.priority,
                 }))
             }
+        }
+    }
+}
+
+impl<'a> Request<'a> {
+    /// The service of the request.
+    pub fn service(self) -> Service
+        ensures { result ≡ service_asked (request_view self.entry) }
+    {
+        match self {
+            AnyRequest::ReadFile(_) => Service::AtomicReadFile,
+            AnyRequest::WriteFile(_) => Service::AtomicWriteFile,
+            AnyRequest::ReadProperty(_) => Service::ReadProperty,
+            AnyRequest::WriteProperty(_) => Service::WriteProperty,
+        }
+    }
+
+    /// The service choice of the request.
+    #[tactic(auto, using(crate::proofs::Choices::choice_asked))]
+    pub fn choice(self) -> u8
+        ensures { result ≡ choice_of (request_view self.entry) }
+    {
+        self.service().choice()
+    }
+
+    /// The object that the request is for; of the file services the file.
+    pub fn object(self) -> ObjectIdentifier
+        ensures { object_identifier_view result ≡ object_asked (request_view self.entry) }
+    {
+        match self {
+            AnyRequest::ReadFile(read) => read.file,
+            AnyRequest::WriteFile(write) => write.file,
+            AnyRequest::ReadProperty(reference) => reference.object,
+            AnyRequest::WriteProperty(write) => write.reference.object,
+        }
+    }
+
+    /// The property that the request is for; None if it is for a file.
+    pub fn property(self) -> Option<PropertyReference>
+        ensures { option_map property_reference_view result ≡ property_asked (request_view self.entry) }
+    {
+        match self {
+            AnyRequest::ReadFile(_) | AnyRequest::WriteFile(_) => None,
+            AnyRequest::ReadProperty(reference) => Some(reference),
+            AnyRequest::WriteProperty(write) => Some(write.reference),
+        }
+    }
+
+    /// The position, or the record, from which on a file is read or written; None if the request is for a property.
+    pub fn start(self) -> Option<i64>
+        ensures { result ≡ start_asked (request_view self.entry) }
+    {
+        match self {
+            AnyRequest::ReadFile(read) => Some(read.access.start()),
+            AnyRequest::WriteFile(write) => Some(write.access.start()),
+            AnyRequest::ReadProperty(_) | AnyRequest::WriteProperty(_) => None,
+        }
+    }
+
+    /// The octets of the values, for the file or of the records that the request writes; none if it reads.
+    pub fn octets(self) -> &'a [u8]
+        ensures { result.now ≡ held (request_view self.entry) }
+    {
+        match self {
+            AnyRequest::WriteFile(write) => write.access.octets(),
+            AnyRequest::WriteProperty(write) => write.values.octets,
+            AnyRequest::ReadFile(_) | AnyRequest::ReadProperty(_) => &[],
+        }
+    }
+
+    /// The priority of a write, if it has one.
+    pub fn priority(self) -> Option<Priority>
+        ensures { priority_view result ≡ priority_asked (request_view self.entry) }
+    {
+        match self {
+            AnyRequest::WriteProperty(write) => write.priority,
+            AnyRequest::ReadFile(_) | AnyRequest::WriteFile(_) | AnyRequest::ReadProperty(_) =>
+                None,
+        }
+    }
+
+    /// Whether the request has octets for the end of a file.
+    pub fn is_append(self) -> bool
+        ensures { result ≡ is_append (request_view self.entry) }
+    {
+        match self {
+            AnyRequest::WriteFile(write) => write.access.appends_octets(),
+            AnyRequest::ReadFile(_) | AnyRequest::ReadProperty(_) | AnyRequest::WriteProperty(_) =>
+                false,
+        }
+    }
+
+    /// The first word of the request, as `bac ask` takes it.
+    pub fn verb(self) -> &'static str
+        ensures { result.now ≡ verb_asked (request_view self.entry) }
+    {
+        if self.is_append() {
+            "append"
+        } else {
+            self.service().verb()
+        }
+    }
+
+    /// The name of the request, as `bac decode` prints it.
+    pub fn name(self) -> &'static str
+        ensures { result.now ≡ request_name (request_view self.entry) }
+    {
+        match self {
+            AnyRequest::ReadFile(read) => read.name(),
+            AnyRequest::WriteFile(write) => write.name(),
+            AnyRequest::ReadProperty(_) => "read-property",
+            AnyRequest::WriteProperty(_) => "write-property",
+        }
+    }
+
+    /// The members of the request by their names, in the order in which they are printed.
+    pub fn members(self) -> Members<'a>
+        ensures { members_view result ≡ members_asked (request_view self.entry) }
+    {
+        match self {
+            AnyRequest::ReadFile(read) => read.members(),
+            AnyRequest::WriteFile(write) => write.members(),
+            AnyRequest::ReadProperty(reference) => Members::three([
+                Member::Object(reference.object),
+                Member::Property(reference.property),
+                Member::Index(reference.index),
+            ]),
+            AnyRequest::WriteProperty(write) => Members::five([
+                Member::Object(write.reference.object),
+                Member::Property(write.reference.property),
+                Member::Index(write.reference.index),
+                Member::Values(write.values),
+                Member::Priority(write.priority),
+            ]),
         }
     }
 }

@@ -1,6 +1,6 @@
 //! The four services and their choices (clause 21, BACnetConfirmedServiceChoice).
 ghost use Rattle.std.specs.Prelude.{◌≡◌};
-ghost use Rattle.bac_service.specs.Choices.{choice_number, has_complex_ack, has_simple_ack, service_at};
+ghost use Rattle.bac_service.specs.Choices.{choice_number, has_complex_ack, has_simple_ack, is_read_choice, is_read_service, service_at, service_verb};
 
 /// The service choice of AtomicReadFile (clause 21).
 pub const ATOMIC_READ_FILE: u8 = 6;
@@ -62,4 +62,35 @@ impl Service {
     {
         !self.has_simple_ack()
     }
+
+    /// Whether its requests change no store (clauses 14.1 and 15.5).
+    #[tactic(auto, using(crate::proofs::Choices::read_choice))]
+    pub fn is_read(self) -> bool
+        ensures is { result ≡ is_read_service self }
+        ensures choice { result ≡ is_read_choice (choice_number self) }
+    {
+        match self {
+            Service::AtomicReadFile | Service::ReadProperty => true,
+            Service::AtomicWriteFile | Service::WriteProperty => false,
+        }
+    }
+
+    /// The first word of its requests, as `bac ask` takes them.
+    pub fn verb(self) -> &'static str
+        ensures { result.now ≡ service_verb self }
+    {
+        match self {
+            Service::AtomicReadFile => "get",
+            Service::AtomicWriteFile => "put",
+            Service::ReadProperty => "read",
+            Service::WriteProperty => "write",
+        }
+    }
+}
+
+/// Whether requests with this choice change no store (clauses 14.1 and 15.5): the choice of a service that [`Service::is_read`].
+pub fn is_read_choice(choice: u8) -> bool
+    ensures { result ≡ is_read_choice choice }
+{
+    choice == READ_PROPERTY || choice == ATOMIC_READ_FILE
 }

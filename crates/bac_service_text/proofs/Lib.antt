@@ -1,2 +1,3 @@
 pub mod Appending
 pub mod TakenStrings
+pub mod Listed

@@ -7,7 +7,8 @@ use Rattle.std.proofs.lemmas.Bool.{false≢true}
 use Rattle.std.proofs.KnownBytes.{Appends-nil, Appends-trans}
 use Rattle.std.specs.Io.KnownBytes.{Appends}
 use Rattle.hex.specs.Hex.{encode_upper}
-use Rattle.bac_service_text.specs.AtomicWriteFile.{AreTheStrings, more_strings_text, strings_text}
+use Rattle.bac_service_text.specs.Members.{AppendsText, IsRecordsMember}
+use Rattle.bac_service_text.specs.Strings.{AreTheStrings, more_strings_text, strings_text}
 use Rattle.bac_value.specs.declared.tag.Class.TheVariants.{Application}
 use Rattle.bac_value.specs.declared.tag.Form.{Form}
 use Rattle.bac_value.specs.declared.tag.Form.TheVariants as form
@@ -112,9 +113,10 @@ all_printed (Ok t) run rest string front a b c d head s is first more = (
 )
 all_printed (Err e) run rest string front a b c d head s is first more = tt
 
--- a text, and then that of some strings
-pub strings_before : {T E : Type 0} (r : Result T E) (run : List ℕ) (a b c : Option (List ℕ)) (head : List ℕ) (text : List (List ℕ) → List ℕ) → Appends a b head
-    → OnOk r ((strings : List (List ℕ)) × (AreTheStrings strings run × Appends b c (text strings)))
-    → OnOk r ((strings : List (List ℕ)) × (AreTheStrings strings run × Appends a c (head ++ text strings)))
-strings_before (Ok t) run a b c head text first more = (more.0, (more.1.0, Appends-trans a b c _ _ first more.1.1))
-strings_before (Err e) run a b c head text first more = tt
+-- they are the member of some records
+pub records_of : {T E : Type 0} (r : Result T E) (run : List ℕ) (a b : Option (List ℕ))
+    → OnOk r ((strings : List (List ℕ)) × (AreTheStrings strings run × Appends a b (codes " octets=" ++ strings_text strings)))
+    → OnOk r (AppendsText a b (IsRecordsMember run))
+records_of (Ok t) run a b p =
+    (codes " octets=" ++ strings_text p.0, (record { strings = p.0; are = p.1.0; is = refl }, p.1.1))
+records_of (Err e) run a b p = tt

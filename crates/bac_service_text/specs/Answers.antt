@@ -3,7 +3,8 @@ use Rattle.std.specs.Prelude.{◌≡◌, ℕ, Bool, true, false, List, ◌++◌,
 use Rattle.bac_service.specs.Values.{Complex, Reference}
 use Rattle.bac_service.specs.Replies as plain
 use Rattle.bac_service_text.specs.Asked.{is_asked}
-use Rattle.bac_service_text.specs.Dispatch.{AreComplexWords, complex_text, file_octets, property_named}
+use Rattle.bac_service.specs.Values.{content_answered, property_answered}
+use Rattle.bac_service_text.specs.Dispatch.{AreComplexWords, complex_text}
 use Rattle.bac_service_text.specs.Reasons.{error_words, rejected_words}
 use Rattle.bac_service_text.specs.References.{reference_text}
 
@@ -28,7 +29,7 @@ front_of asked (Some named) = front_by (is_asked asked named) named
 pub record AreComplexAnswer (asked : Option Reference) (c : Complex) (words : List ℕ) : Type 0 where
   pub text : List ℕ
   pub text_of : AreComplexWords c text
-  pub is : words ≡ front_of asked (property_named c) ++ text
+  pub is : words ≡ front_of asked (property_answered c) ++ text
 
 abbrev pub AreAnswerWords : (asked : Option Reference) → plain.Reply → List ℕ → Type 0
 AreAnswerWords asked plain.Reply.Simple words = words ≡ codes "answered written"
@@ -44,6 +45,6 @@ AreReplyWords r words = AreAnswerWords None r words
 
 abbrev pub octets_of_reply : plain.Reply → Option (List ℕ)
 octets_of_reply plain.Reply.Simple = None
-octets_of_reply (plain.Reply.Complex c) = file_octets c
+octets_of_reply (plain.Reply.Complex c) = content_answered c
 octets_of_reply (plain.Reply.Error class code) = None
 octets_of_reply (plain.Reply.Reject reason) = None

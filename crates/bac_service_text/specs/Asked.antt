@@ -3,7 +3,8 @@ use Rattle.std.specs.Prelude.{ℕ, ◌==◌, Bool, true, false, ◌&&◌, ◌||�
 use Rattle.bac_value.specs.Value.{ObjectId}
 use Rattle.bac_service.specs.Values.{Reference, Request}
 use Rattle.bac_service.specs.Replies as plain
-use Rattle.bac_service_text.specs.Dispatch.{property_named, property_read}
+use Rattle.bac_service.specs.Values.{property_answered}
+use Rattle.bac_service_text.specs.Dispatch.{property_read}
 
 -- device 4,194,303 stands for any (clause 15.5.2)
 abbrev pub is_any_device : ObjectId → Bool
@@ -35,6 +36,6 @@ is_other asked (Some named) = not (is_asked asked named)
 -- the reply to a request names another object, property or index
 abbrev pub names_other : Request → plain.Reply → Bool
 names_other request plain.Reply.Simple = false
-names_other request (plain.Reply.Complex c) = is_other (property_read request) (property_named c)
+names_other request (plain.Reply.Complex c) = is_other (property_read request) (property_answered c)
 names_other request (plain.Reply.Error class code) = false
 names_other request (plain.Reply.Reject reason) = false

@@ -8,7 +8,7 @@ use Rattle.bac_service.specs.Values.Request.{ReadFile}
 use Rattle.bac_value.specs.Value.{ObjectId}
 use Rattle.bac_value_text.specs.Numbers.{◌>>=◌, number_of, signed_of}
 use Rattle.bac_value_text.specs.Texts.{object_text}
-use Rattle.bac_service_text.specs.Members.{bit_text, count_member, object_member, position_member, record_member}
+use Rattle.bac_service_text.specs.Members.{bit_text}
 
 -- ---- the request
 
@@ -23,17 +23,6 @@ get_words file (ReadStream start count) =
 get_words file (ReadRecords start count) =
     get_label file ++ (codes " record " ++ (signed_decimal start ++ (codes " count " ++ decimal count)))
 
-abbrev pub read_name : ReadAccess → List ℕ
-read_name (ReadStream start count) = codes "read-file"
-read_name (ReadRecords start count) = codes "read-records"
-
-abbrev pub read_access_text : ReadAccess → List ℕ
-read_access_text (ReadStream start count) = position_member start ++ count_member count
-read_access_text (ReadRecords start count) = record_member start ++ count_member count
-
-abbrev pub read_file_line : (in_words : Bool) → ObjectId → ReadAccess → List ℕ
-read_file_line in_words file access = read_name access ++ (object_member in_words file ++ read_access_text access)
-
 -- the request that `get OBJECT POSITION COUNT` means
 unfoldable pub get_of : ObjectId → (start count : List ℕ) → Option Request
 get_of file start count = do
@@ -46,7 +35,3 @@ get_of file start count = do
 -- whether the octets reach the end of the file, their position, and they
 abbrev pub file_text : Bool → ℤ → List ℕ → List ℕ
 file_text end start octets = codes "file " ++ (bit_text end ++ (codes " " ++ (signed_decimal start ++ (codes " " ++ encode_upper octets))))
-
-abbrev pub file_read_line : Bool → ℤ → List ℕ → List ℕ
-file_read_line end start octets =
-    codes "read-file-ack end=" ++ (bit_text end ++ (codes " position=" ++ (signed_decimal start ++ (codes " octets=" ++ encode_upper octets))))

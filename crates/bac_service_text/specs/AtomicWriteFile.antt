@@ -1,8 +1,8 @@
 -- AtomicWriteFile as text (clause 14.2).
-use Rattle.std.specs.Prelude.{◌≡◌, ℕ, zero, suc, ℤ, pos, negsuc, ◌^◌, nat_lt, Bool, true, false, if◌then◌else◌, List, [], ◌∷◌, ◌++◌, length, codes, decimal, Option, Some, None}
+use Rattle.std.specs.Prelude.{ℕ, ℤ, negsuc, ◌^◌, nat_lt, if◌then◌else◌, List, ◌++◌, length, codes, decimal, Option, Some, None}
 use Rattle.std.specs.Fmt.{signed_decimal}
 use Rattle.hex.specs.Hex.{encode_upper}
-use Rattle.bac_service.specs.Members.{◌⨾◌, ApplicationString}
+use Rattle.bac_service.specs.Values.{is_end}
 use Rattle.bac_service.specs.Values.{Request, WriteAccess}
 use Rattle.bac_service.specs.Values.WriteAccess.{WriteStream, WriteRecords}
 use Rattle.bac_service.specs.Values.Request.{WriteFile}
@@ -11,7 +11,6 @@ use Rattle.bac_service.specs.declared.atomic_write_file.FileWritten.TheVariants 
 use Rattle.bac_value.specs.Value.{ObjectId}
 use Rattle.bac_value_text.specs.Numbers.{◌>>=◌, octets_of, signed_of}
 use Rattle.bac_value_text.specs.Texts.{object_text}
-use Rattle.bac_service_text.specs.Members.{count_member, object_member, octets_text, position_member, record_member}
 
 -- ---- the request in words
 
@@ -21,12 +20,6 @@ append_words file octets = codes "append " ++ (object_text file ++ (codes " " ++
 abbrev pub put_words : ObjectId → ℤ → (octets : List ℕ) → List ℕ
 put_words file start octets =
     codes "put " ++ (object_text file ++ (codes " " ++ (signed_decimal start ++ (codes " " ++ encode_upper octets))))
-
--- -1 is the end of a file
-abbrev pub is_end : ℤ → Bool
-is_end (pos n) = false
-is_end (negsuc zero) = true
-is_end (negsuc (suc n)) = false
 
 abbrev pub stream_words : ObjectId → ℤ → (octets : List ℕ) → List ℕ
 stream_words file start octets = if is_end start then append_words file octets else put_words file start octets
@@ -44,39 +37,6 @@ write_file_words file (WriteRecords start count run) = put_records_words file st
 abbrev pub write_file_label : ObjectId → WriteAccess → List ℕ
 write_file_label file (WriteStream start octets) = stream_words file start octets
 write_file_label file (WriteRecords start count run) = codes "put records " ++ object_text file
-
--- ---- the request as a line
-
-abbrev pub write_stream_line : (in_words : Bool) → ObjectId → ℤ → List ℕ → List ℕ
-write_stream_line in_words file start octets =
-    codes "write-file" ++ (object_member in_words file ++ (position_member start ++ octets_text (codes "octets") octets))
-
--- octet strings in hexadecimal, each after a comma
-abbrev pub more_strings_text : List (List ℕ) → List ℕ
-more_strings_text [] = []
-more_strings_text (string ∷ strings) = (codes "," ++ encode_upper string) ++ more_strings_text strings
-
--- octet strings in hexadecimal, with commas between them
-abbrev pub strings_text : List (List ℕ) → List ℕ
-strings_text [] = []
-strings_text (string ∷ strings) = encode_upper string ++ more_strings_text strings
-
-abbrev pub records_start_text : ℤ → ℕ → List ℕ
-records_start_text start count = record_member start ++ count_member count
-
-abbrev pub write_records_line : (in_words : Bool) → ObjectId → ℤ → ℕ → List (List ℕ) → List ℕ
-write_records_line in_words file start count strings =
-    codes "write-records" ++ (object_member in_words file ++ (records_start_text start count ++ (codes " octets=" ++ strings_text strings)))
-
--- these octets are the spellings of these octet strings, each with its application tag, one after the other (clause 20.2.8)
-abbrev pub AreTheStrings : List (List ℕ) → List ℕ → Type 0
-AreTheStrings [] run = run ≡ []
-AreTheStrings (string ∷ strings) run = (ApplicationString string ⨾ AreTheStrings strings) run
-
-abbrev pub IsWriteFileLine : (in_words : Bool) → ObjectId → WriteAccess → List ℕ → Type 0
-IsWriteFileLine in_words file (WriteStream start octets) text = text ≡ write_stream_line in_words file start octets
-IsWriteFileLine in_words file (WriteRecords start count run) text =
-    (strings : List (List ℕ)) × (AreTheStrings strings run × (text ≡ write_records_line in_words file start count strings))
 
 -- ---- the request, read
 
@@ -109,9 +69,3 @@ record_text start = codes "record " ++ signed_decimal start
 abbrev pub written_text : FileWritten → List ℕ
 written_text (place.Stream start) = position_text start
 written_text (place.Records start) = record_text start
-
-abbrev pub stream_written_line : ℤ → List ℕ
-stream_written_line start = codes "write-file-ack" ++ position_member start
-
-abbrev pub records_written_line : ℤ → List ℕ
-records_written_line start = codes "write-file-ack" ++ record_member start

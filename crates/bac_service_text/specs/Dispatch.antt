@@ -1,6 +1,9 @@
 -- The texts of requests and of the service data of ComplexACKs, service by service: each is defined in its service's file.
-use Rattle.std.specs.Prelude.{◌≡◌, ℕ, Bool, true, false, List, [], ◌∷◌, codes, if◌then◌else◌, Option, Some, None}
+use Rattle.std.specs.Prelude.{◌≡◌, ℕ, Bool, ◌&&◌, List, [], ◌∷◌, codes, if◌then◌else◌, Option, Some, None, is_some}
 use Rattle.std.specs.Str.{bytes_eq}
+use Rattle.bac_service.specs.Choices.{is_read_service}
+use Rattle.bac_service.specs.Values.{complex_name, members_answered, members_asked, request_name}
+use Rattle.bac_service.specs.Values.{property_asked, service_asked, start_asked}
 use Rattle.bac_service.specs.Values.{Complex, Reference, Request}
 use Rattle.bac_service.specs.Values.Complex.{FileRead, StreamWritten, RecordsWritten, PropertyRead}
 use Rattle.bac_service.specs.Values.Request.{ReadFile, WriteFile, ReadProperty, WriteProperty}
@@ -8,11 +11,11 @@ use Rattle.bac_value.specs.Value.{ObjectId}
 use Rattle.bac_value_text.specs.DataTexts.{IsDataText}
 use Rattle.bac_value_text.specs.Numbers.{◌>>=◌}
 use Rattle.bac_value_text.specs.Reading.{object_of}
-use Rattle.bac_service_text.specs.AtomicReadFile.{file_read_line, file_text, get_label, get_of, get_words, read_file_line}
-use Rattle.bac_service_text.specs.AtomicWriteFile.{IsWriteFileLine, append_of, position_text, put_of, record_text, records_written_line, stream_written_line}
-use Rattle.bac_service_text.specs.AtomicWriteFile.{write_file_label, write_file_words}
-use Rattle.bac_service_text.specs.ReadProperty.{IsPropertyReadLine, read_of, read_property_line, read_words, values_text}
-use Rattle.bac_service_text.specs.WriteProperty.{AreWriteWords, IsWritePropertyLine, write_label, write_of}
+use Rattle.bac_service_text.specs.AtomicReadFile.{file_text, get_label, get_of, get_words}
+use Rattle.bac_service_text.specs.AtomicWriteFile.{append_of, position_text, put_of, record_text, write_file_label, write_file_words}
+use Rattle.bac_service_text.specs.ReadProperty.{read_of, read_words, values_text}
+use Rattle.bac_service_text.specs.WriteProperty.{AreWriteWords, write_label, write_of}
+use Rattle.bac_service_text.specs.Members.{IsNamed}
 use Rattle.bac_service_text.specs.declared.bad_words.Wanted.{Wanted}
 use Rattle.bac_service_text.specs.declared.bad_words.Wanted.TheVariants as wanted
 
@@ -34,26 +37,17 @@ request_label (WriteProperty r values priority) = write_label r
 
 -- as a decoded line, without its end
 abbrev pub IsRequestText : (in_words : Bool) → Request → List ℕ → Type 0
-IsRequestText in_words (ReadFile file access) text = text ≡ read_file_line in_words file access
-IsRequestText in_words (WriteFile file access) text = IsWriteFileLine in_words file access text
-IsRequestText in_words (ReadProperty r) text = text ≡ read_property_line in_words r
-IsRequestText in_words (WriteProperty r values priority) text = IsWritePropertyLine in_words r values priority text
+IsRequestText in_words r = IsNamed in_words (request_name r) (members_asked r)
 
 -- ---- what requests ask for
 
 -- the property that a request reads
 abbrev pub property_read : Request → Option Reference
-property_read (ReadFile file access) = None
-property_read (WriteFile file access) = None
-property_read (ReadProperty reference) = Some reference
-property_read (WriteProperty reference values priority) = None
+property_read r = if is_read_service (service_asked r) then property_asked r else None
 
 -- a request reads a file
 abbrev pub reads_file : Request → Bool
-reads_file (ReadFile file access) = true
-reads_file (WriteFile file access) = false
-reads_file (ReadProperty reference) = false
-reads_file (WriteProperty reference values priority) = false
+reads_file r = is_read_service (service_asked r) && is_some (start_asked r)
 
 -- ---- requests, read: read T:I P, write T:I P VALUE .. [priority N], append T:I HEX, put T:I POSITION HEX, get T:I POSITION COUNT.
 -- ---- T and P are numbers or names; P may have an index in brackets.
@@ -119,23 +113,4 @@ complex_text (PropertyRead reference values) = values_text values
 
 -- as a decoded line, without its end
 abbrev pub IsComplexText : (in_words : Bool) → Complex → List ℕ → Type 0
-IsComplexText in_words (FileRead end start octets) text = text ≡ file_read_line end start octets
-IsComplexText in_words (StreamWritten start) text = text ≡ stream_written_line start
-IsComplexText in_words (RecordsWritten start) text = text ≡ records_written_line start
-IsComplexText in_words (PropertyRead r values) text = IsPropertyReadLine in_words r values text
-
--- ---- what they name and carry
-
--- the property whose values they are
-abbrev pub property_named : Complex → Option Reference
-property_named (FileRead end start octets) = None
-property_named (StreamWritten start) = None
-property_named (RecordsWritten start) = None
-property_named (PropertyRead reference values) = Some reference
-
--- the octets of a file
-abbrev pub file_octets : Complex → Option (List ℕ)
-file_octets (FileRead end start octets) = Some octets
-file_octets (StreamWritten start) = None
-file_octets (RecordsWritten start) = None
-file_octets (PropertyRead reference values) = None
+IsComplexText in_words c = IsNamed in_words (complex_name c) (members_answered c)

@@ -1,4 +1,5 @@
 pub mod Reading
+pub mod Strings
 pub mod Members
 pub mod References
 pub mod ReadProperty

@@ -1,8 +1,7 @@
 -- WriteProperty as text (clause 15.9).
-use Rattle.std.specs.Prelude.{◌≡◌, ℕ, nat_lt, Bool, List, [], ◌∷◌, ◌++◌, codes, decimal, if◌then◌else◌, Option, Some, None, Result, Ok, Err}
+use Rattle.std.specs.Prelude.{◌≡◌, ℕ, nat_lt, List, [], ◌∷◌, ◌++◌, codes, decimal, if◌then◌else◌, Option, Some, None, Result, Ok, Err}
 use Rattle.std.specs.Option.{option_map, option_or}
 use Rattle.std.specs.Str.{bytes_eq}
-use Rattle.bac_service.specs.Members.{◌⨾◌}
 use Rattle.bac_service.specs.Values.{Reference, Request}
 use Rattle.bac_service.specs.Values.Request.{WriteProperty}
 use Rattle.bac_value.specs.Reading.{data_of}
@@ -12,7 +11,6 @@ use Rattle.bac_value.specs.declared.fault.FaultKind.{FaultKind}
 use Rattle.bac_value_text.specs.DataTexts.{IsDataText}
 use Rattle.bac_value_text.specs.Numbers.{◌>>=◌, number_up_to, octets_of}
 use Rattle.bac_value_text.specs.Reading.{value_in}
-use Rattle.bac_service_text.specs.Members.{Is, IsValuesMember, number_text, optional, reference_line}
 use Rattle.bac_service_text.specs.References.{reference_of, reference_text}
 
 -- ---- the request, printed
@@ -30,11 +28,6 @@ pub record AreWriteWords (r : Reference) (values : List ℕ) (priority : Option 
   pub text : List ℕ
   pub text_of : IsDataText values text
   pub is : words ≡ (write_label r ++ codes " ") ++ (text ++ priority_text priority)
-
-abbrev pub IsWritePropertyLine : (in_words : Bool) → Reference → List ℕ → Option ℕ → List ℕ → Type 0
-IsWritePropertyLine in_words r values priority =
-    Is (reference_line in_words (codes "write-property") r)
-    ⨾ (IsValuesMember in_words values ⨾ Is (optional (number_text (codes "priority")) priority))
 
 -- ---- the request, read: write OBJECT PROPERTY VALUE .. [priority N]
 

@@ -2,13 +2,14 @@
 ghost use Rattle.std.specs.Prelude.{◌≡◌, ◌++◌, codes, IfOk, OnOk};
 ghost use Rattle.std.specs.Io.KnownBytes.{Appends};
 ghost use Rattle.std.specs.Option.{option_map};
+ghost use Rattle.bac_service.specs.Values.{content_answered};
 ghost use Rattle.bac_service.specs.Views.{complex_view, property_reference_view, reply_view};
 ghost use Rattle.bac_service_text.specs.Answers.{AreAnswerWords, AreComplexAnswer, AreReplyWords, front_of, octets_of_reply, reply_text};
 ghost use Rattle.bac_service_text.specs.Dispatch.{complex_text};
 ghost use Rattle.bac_service_text.specs.Reasons.{error_words};
 
 use crate::asked::is_asked;
-use crate::dispatch::{complex_text, complex_words, file_octets, property_named};
+use crate::dispatch::{complex_text, complex_words};
 use crate::reasons::{error_words, rejected_words};
 use crate::reference::reference_words;
 use bac_service::{AnyReply, Complex, PropertyReference, Reply};
@@ -69,7 +70,7 @@ fn complex_answer(
     ensures { IfOk result (λ t. AreComplexAnswer (option_map property_reference_view asked) (complex_view complex.entry) t.items) }
 {
     let text = complex_words(alloc, complex)?;
-    let mut words = front_of(alloc, asked, property_named(complex))?;
+    let mut words = front_of(alloc, asked, complex.property())?;
     words.extend_from_slice(&text)?;
     Ok(words)
 }
@@ -108,6 +109,15 @@ pub fn reply_words(alloc: Global, reply: Reply<'_>) -> Result<Vec<u8>, NoMemory>
 }
 
 // ---- the octets of a file
+
+fn file_octets<'a>(complex: Complex<'a>) -> Option<&'a [u8]>
+    ensures { option_map (λ o. o.now) result ≡ content_answered (complex_view complex.entry) }
+{
+    match complex.content() {
+        Some(content) => Some(content.octets),
+        None => None,
+    }
+}
 
 /// The octets of a file that a reply carries; None of any other reply.
 pub fn octets_of_reply<'a>(reply: Reply<'a>) -> Option<&'a [u8]>

@@ -5,7 +5,7 @@ ghost use Rattle.bac_service.specs.Views.{property_reference_view, reply_view, r
 ghost use Rattle.bac_service_text.specs.Asked.{is_any_device, is_asked, is_asked_object, is_asked_property, is_other, names_other};
 ghost use Rattle.bac_value.specs.Views.{object_identifier_view};
 
-use crate::dispatch::{property_named, property_read};
+use crate::dispatch::property_read;
 use bac_service::{AnyReply, PropertyReference, Reply, Request};
 use bac_value::ObjectIdentifier;
 
@@ -61,7 +61,7 @@ pub fn names_other(request: Request<'_>, reply: Reply<'_>) -> bool
 {
     match reply {
         AnyReply::Simple => false,
-        AnyReply::Complex(complex) => is_other(property_read(request), property_named(complex)),
+        AnyReply::Complex(complex) => is_other(property_read(request), complex.property()),
         AnyReply::Error { .. } => false,
         AnyReply::Reject(_) => false,
     }

@@ -1,19 +1,13 @@
 //! AtomicWriteFile as text (clause 14.2).
-ghost use Rattle.std.specs.Prelude.{◌≡◌, ℕ, List, IfOk, OnOk};
-ghost use Rattle.std.specs.Io.KnownBytes.{Appends};
-ghost use Rattle.bac_service.specs.Views.{file_written_view, lent, owned_request_view, write_access_view};
-ghost use Rattle.bac_service_text.specs.AtomicWriteFile.{AreTheStrings, IsWriteFileLine, append_of, append_words, content_in, put_of};
-ghost use Rattle.bac_service_text.specs.AtomicWriteFile.{put_records_words, put_words, records_start_text, stream_words, write_file_label};
-ghost use Rattle.bac_service_text.specs.AtomicWriteFile.{write_file_words, write_records_line, write_stream_line, written_at, written_text};
-ghost use Rattle.bac_service_text.specs.Dispatch.{IsComplexText};
-ghost use Rattle.bac_service_text.specs.Members.{AppendsText, position_member};
+ghost use Rattle.std.specs.Prelude.{◌≡◌, IfOk};
+ghost use Rattle.bac_service.specs.Views.{lent, owned_request_view, write_access_view};
+ghost use Rattle.bac_service_text.specs.AtomicWriteFile.{append_of, append_words, content_in, put_of, put_records_words, put_words};
+ghost use Rattle.bac_service_text.specs.AtomicWriteFile.{stream_words, write_file_label, write_file_words, written_at, written_text};
 ghost use Rattle.bac_service_text.specs.Reading.{Reads};
 ghost use Rattle.bac_value.specs.Views.{object_identifier_view};
 
 use crate::form_fault::FormFault;
-use crate::members::{print_object, print_octets};
 use crate::reference::{object_words, octets_or_fault};
-use crate::strings::print_strings;
 use bac_service::{
     AnyRequest, Content, FileWritten, OwnedRequest, Records, WriteAccess, WriteFile, WriteRecords,
     WriteStream,
@@ -21,8 +15,6 @@ use bac_service::{
 use bac_value::{ObjectIdentifier, OctetString};
 use bac_value_text::signed_in;
 use std::alloc::{AllocError, Global};
-use std::io;
-use std::io::Write;
 
 // ---- the request in words
 
@@ -107,73 +99,6 @@ pub(crate) fn write_file_label(
     }
 }
 
-// ---- the request as a line
-
-fn print_stream_start<W: Write>(stream: WriteStream<Content<'_>>, out: &mut W) -> io::Result<()>
-    ensures { OnOk result (Appends (W.contents out.old) (W.contents out.new) (position_member stream.entry.start)) }
-{
-    let start = stream.start;
-    write!(out, " position={start}")
-}
-
-fn print_write_stream<W: Write>(
-    alloc: Global,
-    in_words: bool,
-    file: ObjectIdentifier,
-    stream: WriteStream<Content<'_>>,
-    out: &mut W,
-) -> io::Result<()>
-    ensures { OnOk result (Appends (W.contents out.old) (W.contents out.new)
-        (write_stream_line in_words (object_identifier_view file) stream.entry.start stream.entry.content.octets.now)) }
-{
-    out.write_all(b"write-file")?;
-    print_object(alloc, in_words, file, out)?;
-    print_stream_start(stream, out)?;
-    print_octets(alloc, "octets", stream.content.octets, out)
-}
-
-fn print_records_start<W: Write>(write: WriteRecords<Records<'_>>, out: &mut W) -> io::Result<()>
-    ensures { OnOk result (Appends (W.contents out.old) (W.contents out.new) (records_start_text write.entry.start write.entry.records.count)) }
-{
-    let start = write.start;
-    let count = write.records.count;
-    write!(out, " record={start} count={count}")
-}
-
-fn print_write_records<W: Write>(
-    alloc: Global,
-    in_words: bool,
-    file: ObjectIdentifier,
-    write: WriteRecords<Records<'_>>,
-    out: &mut W,
-) -> io::Result<()>
-    ensures { OnOk result ((strings : List (List ℕ)) × (AreTheStrings strings write.entry.records.run.now
-        × Appends (W.contents out.old) (W.contents out.new)
-        (write_records_line in_words (object_identifier_view file) write.entry.start write.entry.records.count strings))) }
-{
-    out.write_all(b"write-records")?;
-    print_object(alloc, in_words, file, out)?;
-    print_records_start(write, out)?;
-    print_strings(alloc, write.records.run, out)
-}
-
-pub(crate) fn print_write_file<W: Write>(
-    alloc: Global,
-    in_words: bool,
-    write: WriteFile<Content<'_>, Records<'_>>,
-    out: &mut W,
-) -> io::Result<()>
-    ensures { OnOk result (AppendsText (W.contents out.old) (W.contents out.new)
-        (IsWriteFileLine in_words (object_identifier_view write.entry.file) (write_access_view lent write.entry.access))) }
-{
-    match write.access {
-        WriteAccess::Stream(stream) => print_write_stream(alloc, in_words, write.file, stream, out),
-        WriteAccess::Records(records) => {
-            print_write_records(alloc, in_words, write.file, records, out)
-        }
-    }
-}
-
 // ---- the request, read
 
 /// Octets for a file.
@@ -239,17 +164,4 @@ pub(crate) fn written_text(alloc: Global, written: FileWritten) -> Result<Vec<u8
         FileWritten::Records(start) => format!(in alloc; "record {start}")?,
     };
     Ok(text.into_bytes())
-}
-
-pub(crate) fn print_file_written<W: Write>(
-    in_words: bool,
-    written: FileWritten,
-    out: &mut W,
-) -> io::Result<()>
-    ensures { OnOk result (AppendsText (W.contents out.old) (W.contents out.new) (IsComplexText in_words (file_written_view written))) }
-{
-    match written {
-        FileWritten::Stream(start) => write!(out, "write-file-ack position={start}"),
-        FileWritten::Records(start) => write!(out, "write-file-ack record={start}"),
-    }
 }

@@ -1,30 +1,25 @@
-//! Every `match` over the services: which file prints a request or the service data of a ComplexACK, and which reads the words of a request.
+//! Every `match` over the services: which file has the words of a request or of the service data of a ComplexACK, and which reads the words of a request.
 ghost use Rattle.std.specs.Prelude.{◌≡◌, IfOk, OnOk, map};
 ghost use Rattle.std.specs.Option.{option_map};
 ghost use Rattle.bac_service.specs.Views.{complex_view, owned_request_view, property_reference_view, request_view};
-ghost use Rattle.bac_service_text.specs.Dispatch.{AreComplexWords, AreRequestWords, IsComplexText, IsRequestText, complex_text, file_octets};
-ghost use Rattle.bac_service_text.specs.Dispatch.{more_of, no_verb, one_more, property_named, property_read, reads_file, request_label, request_of};
+ghost use Rattle.bac_service_text.specs.Dispatch.{AreComplexWords, AreRequestWords, IsComplexText, IsRequestText, complex_text};
+ghost use Rattle.bac_service_text.specs.Dispatch.{more_of, no_verb, one_more, property_read, reads_file, request_label, request_of};
 ghost use Rattle.bac_service_text.specs.Dispatch.{roles_of, takes_values, two_more};
-ghost use Rattle.bac_service_text.specs.Members.{AppendsLine, AppendsText};
+ghost use Rattle.bac_service_text.specs.Members.{AppendsLine};
 ghost use Rattle.bac_service_text.specs.Reading.{Reads};
 ghost use Rattle.bac_value.specs.Views.{object_identifier_view};
 
-use crate::atomic_read_file::{
-    file_text, get_label, get_words, print_file_read, print_read_file, read_file_in,
-};
+use crate::atomic_read_file::{file_text, get_label, get_words, read_file_in};
 use crate::atomic_write_file::{
-    append_in, print_file_written, print_write_file, put_in, write_file_label, write_file_words,
-    written_text,
+    append_in, put_in, write_file_label, write_file_words, written_text,
 };
 use crate::bad_words::Wanted;
 use crate::form_fault::FormFault;
-use crate::members::print_reference;
-use crate::read_property::{print_property_read, read_property_in, read_words, values_text};
+use crate::members::print_line;
+use crate::read_property::{read_property_in, read_words, values_text};
 use crate::reference::object_or_fault;
-use crate::write_property::{print_write_property, write_label, write_property_in, write_words};
-use bac_service::{
-    AnyComplex, AnyRequest, Complex, FileWritten, OwnedRequest, PropertyReference, Request,
-};
+use crate::write_property::{write_label, write_property_in, write_words};
+use bac_service::{AnyComplex, AnyRequest, Complex, OwnedRequest, PropertyReference, Request};
 use bac_value::{NoMemory, ObjectIdentifier};
 use bac_value_text::data_text;
 use std::alloc::{AllocError, Global};
@@ -58,24 +53,6 @@ pub(crate) fn request_label(alloc: Global, request: Request<'_>) -> Result<Vec<u
     }
 }
 
-fn print_request_members<W: Write>(
-    alloc: Global,
-    in_words: bool,
-    request: Request<'_>,
-    out: &mut W,
-) -> io::Result<()>
-    ensures { OnOk result (AppendsText (W.contents out.old) (W.contents out.new) (IsRequestText in_words (request_view request.entry))) }
-{
-    match request {
-        AnyRequest::ReadFile(read) => print_read_file(alloc, in_words, read, out),
-        AnyRequest::WriteFile(write) => print_write_file(alloc, in_words, write, out),
-        AnyRequest::ReadProperty(reference) => {
-            print_reference(alloc, in_words, "read-property", reference, out)
-        }
-        AnyRequest::WriteProperty(write) => print_write_property(alloc, in_words, write, out),
-    }
-}
-
 /// Prints the line of a request, as `bac decode` does: `read-property object=0:5 property=85`. In words, the object and the property stand by their
 /// names and each value by its kind. An Err is the writer's, or out of memory.
 pub fn print_request<W: Write>(
@@ -86,8 +63,7 @@ pub fn print_request<W: Write>(
 ) -> io::Result<()>
     ensures { OnOk result (AppendsLine (W.contents out.old) (W.contents out.new) (IsRequestText in_words (request_view request.entry))) }
 {
-    print_request_members(alloc, in_words, request, out)?;
-    out.write_all(b"\n")
+    print_line(alloc, in_words, request.name(), &request.members(), out)
 }
 
 // ---- what requests ask for
@@ -96,11 +72,10 @@ pub fn print_request<W: Write>(
 pub fn property_read(request: Request<'_>) -> Option<PropertyReference>
     ensures { option_map property_reference_view result ≡ property_read (request_view request.entry) }
 {
-    match request {
-        AnyRequest::ReadFile(_) => None,
-        AnyRequest::WriteFile(_) => None,
-        AnyRequest::ReadProperty(reference) => Some(reference),
-        AnyRequest::WriteProperty(_) => None,
+    if request.service().is_read() {
+        request.property()
+    } else {
+        None
     }
 }
 
@@ -108,12 +83,7 @@ pub fn property_read(request: Request<'_>) -> Option<PropertyReference>
 pub fn reads_file(request: Request<'_>) -> bool
     ensures { result ≡ reads_file (request_view request.entry) }
 {
-    match request {
-        AnyRequest::ReadFile(_) => true,
-        AnyRequest::WriteFile(_) => false,
-        AnyRequest::ReadProperty(_) => false,
-        AnyRequest::WriteProperty(_) => false,
-    }
+    request.service().is_read() && request.start().is_some()
 }
 
 // ---- requests, read
@@ -258,21 +228,6 @@ pub(crate) fn complex_text(alloc: Global, complex: Complex<'_>) -> Result<Vec<u8
     }
 }
 
-fn print_complex_members<W: Write>(
-    alloc: Global,
-    in_words: bool,
-    complex: Complex<'_>,
-    out: &mut W,
-) -> io::Result<()>
-    ensures { OnOk result (AppendsText (W.contents out.old) (W.contents out.new) (IsComplexText in_words (complex_view complex.entry))) }
-{
-    match complex {
-        AnyComplex::FileRead(read) => print_file_read(alloc, read, out),
-        AnyComplex::FileWritten(written) => print_file_written(in_words, written, out),
-        AnyComplex::PropertyRead(read) => print_property_read(alloc, in_words, read, out),
-    }
-}
-
 /// Prints the line of the service data of a ComplexACK, as `bac decode` does: `read-property-ack object=0:5 property=85 values=44428C0000`, in words or
 /// not, as [`print_request`]. An Err is the writer's, or out of memory.
 pub fn print_complex<W: Write>(
@@ -283,32 +238,5 @@ pub fn print_complex<W: Write>(
 ) -> io::Result<()>
     ensures { OnOk result (AppendsLine (W.contents out.old) (W.contents out.new) (IsComplexText in_words (complex_view complex.entry))) }
 {
-    print_complex_members(alloc, in_words, complex, out)?;
-    out.write_all(b"\n")
-}
-
-// ---- what they name and carry
-
-/// The property whose values they are; None of the data of any other service.
-pub(crate) fn property_named(complex: Complex<'_>) -> Option<PropertyReference>
-    ensures { option_map property_reference_view result ≡ property_named (complex_view complex.entry) }
-{
-    match complex {
-        AnyComplex::FileRead(_) => None,
-        AnyComplex::FileWritten(FileWritten::Stream(_)) => None,
-        AnyComplex::FileWritten(FileWritten::Records(_)) => None,
-        AnyComplex::PropertyRead(read) => Some(read.reference),
-    }
-}
-
-/// The octets of a file that they carry.
-pub(crate) fn file_octets<'a>(complex: Complex<'a>) -> Option<&'a [u8]>
-    ensures { option_map (λ o. o.now) result ≡ file_octets (complex_view complex.entry) }
-{
-    match complex {
-        AnyComplex::FileRead(read) => Some(read.content.octets),
-        AnyComplex::FileWritten(FileWritten::Stream(_)) => None,
-        AnyComplex::FileWritten(FileWritten::Records(_)) => None,
-        AnyComplex::PropertyRead(_) => None,
-    }
+    print_line(alloc, in_words, complex.name(), &complex.members(), out)
 }

@@ -1,12 +1,15 @@
 //! Members of decoded lines: a name and a value, as ` name=value`.
-ghost use Rattle.std.specs.Prelude.{OnOk, true};
-ghost use Rattle.std.specs.Option.{option_map};
+ghost use Rattle.std.specs.Prelude.{◌≡◌, ◌++◌, codes, OnOk, true};
 ghost use Rattle.bac_value.specs.Views.{object_identifier_view};
 ghost use Rattle.std.specs.Io.KnownBytes.{Appends};
-ghost use Rattle.bac_service.specs.Views.{property_reference_view};
-ghost use Rattle.bac_service_text.specs.Members.{AppendsText, IsValuesMember, number_text, object_member, octets_text, optional, property_member, reference_line};
+ghost use Rattle.bac_service.specs.MemberViews.{member_view, members_view};
+ghost use Rattle.bac_service.specs.Views.{priority_view};
+ghost use Rattle.bac_service_text.specs.Members.{AppendsLine, AppendsText, AreMembers, IsListed, IsMember, IsNamed, IsRecordsMember, IsValuesMember};
+ghost use Rattle.bac_service_text.specs.Members.{bit_text, count_member, number_text, object_member, octets_text, optional, position_member};
+ghost use Rattle.bac_service_text.specs.Members.{property_member, record_member};
 
-use bac_service::PropertyReference;
+use crate::strings::print_strings;
+use bac_service::{Member, Members, Priority, Records};
 use bac_value::{Data, ObjectIdentifier};
 use bac_value_text::{data_text, object_text, property_text};
 use std::alloc::Global;
@@ -14,12 +17,7 @@ use std::io;
 use std::io::{ErrorKind, Write};
 
 /// Prints octets in hexadecimal, in capitals, after a name: ` name=0A1B`.
-pub(crate) fn print_octets<W: Write>(
-    alloc: Global,
-    name: &str,
-    octets: &[u8],
-    out: &mut W,
-) -> io::Result<()>
+fn print_octets<W: Write>(alloc: Global, name: &str, octets: &[u8], out: &mut W) -> io::Result<()>
     ensures { OnOk result (Appends (W.contents out.old) (W.contents out.new) (octets_text name.now octets.now)) }
 {
     let text = hex::encode_upper(alloc, octets)?;
@@ -27,11 +25,7 @@ pub(crate) fn print_octets<W: Write>(
 }
 
 /// A word that is left out where there is no number.
-pub(crate) fn print_optional<W: Write>(
-    name: &str,
-    number: Option<u32>,
-    out: &mut W,
-) -> io::Result<()>
+fn print_optional<W: Write>(name: &str, number: Option<u32>, out: &mut W) -> io::Result<()>
     ensures { OnOk result (Appends (W.contents out.old) (W.contents out.new) (optional (number_text name.now) number)) }
 {
     match number {
@@ -41,7 +35,7 @@ pub(crate) fn print_optional<W: Write>(
 }
 
 /// An object, by its type and its instance: by number, or in words.
-pub(crate) fn print_object<W: Write>(
+fn print_object<W: Write>(
     alloc: Global,
     in_words: bool,
     object: ObjectIdentifier,
@@ -60,7 +54,7 @@ pub(crate) fn print_object<W: Write>(
 }
 
 /// A property, by number or in words.
-pub(crate) fn print_property<W: Write>(
+fn print_property<W: Write>(
     alloc: Global,
     in_words: bool,
     property: u32,
@@ -87,7 +81,7 @@ fn print_values_by_kind<W: Write>(alloc: Global, values: Data<'_>, out: &mut W) 
 }
 
 /// Values, in hexadecimal or in words.
-pub(crate) fn print_values<W: Write>(
+fn print_values<W: Write>(
     alloc: Global,
     in_words: bool,
     values: Data<'_>,
@@ -102,18 +96,118 @@ pub(crate) fn print_values<W: Write>(
     }
 }
 
-/// A property of an object, after the name of the line.
-pub(crate) fn print_reference<W: Write>(
+/// The number of a priority.
+fn number_of(priority: Option<Priority>) -> Option<u32>
+    ensures { result ≡ priority_view priority }
+{
+    match priority {
+        None => None,
+        Some(priority) => Some(u32::from(priority.number)),
+    }
+}
+
+/// Whether octets reach the end of a file.
+fn print_end<W: Write>(is_end: bool, out: &mut W) -> io::Result<()>
+    ensures { OnOk result (Appends (W.contents out.old) (W.contents out.new) (codes " end=" ++ bit_text is_end)) }
+{
+    let end = u8::from(is_end);
+    write!(out, " end={end}")
+}
+
+fn print_position<W: Write>(position: i64, out: &mut W) -> io::Result<()>
+    ensures { OnOk result (Appends (W.contents out.old) (W.contents out.new) (position_member position)) }
+{
+    write!(out, " position={position}")
+}
+
+fn print_record<W: Write>(first: i64, out: &mut W) -> io::Result<()>
+    ensures { OnOk result (Appends (W.contents out.old) (W.contents out.new) (record_member first)) }
+{
+    write!(out, " record={first}")
+}
+
+fn print_count<W: Write>(count: u64, out: &mut W) -> io::Result<()>
+    ensures { OnOk result (Appends (W.contents out.old) (W.contents out.new) (count_member count)) }
+{
+    write!(out, " count={count}")
+}
+
+fn print_priority<W: Write>(priority: Option<Priority>, out: &mut W) -> io::Result<()>
+    ensures { OnOk result (Appends (W.contents out.old) (W.contents out.new) (optional (number_text (codes "priority")) (priority_view priority))) }
+{
+    print_optional("priority", number_of(priority), out)
+}
+
+fn print_records<W: Write>(alloc: Global, records: Records<'_>, out: &mut W) -> io::Result<()>
+    ensures { OnOk result (AppendsText (W.contents out.old) (W.contents out.new) (IsRecordsMember records.entry.run.now)) }
+{
+    print_strings(alloc, records.run, out)
+}
+
+fn print_member<W: Write>(
+    alloc: Global,
+    in_words: bool,
+    member: Member<'_>,
+    out: &mut W,
+) -> io::Result<()>
+    ensures { OnOk result (AppendsText (W.contents out.old) (W.contents out.new) (IsMember in_words (member_view member.entry))) }
+{
+    match member {
+        Member::EndOfFile(is_end) => print_end(is_end, out),
+        Member::Object(object) => print_object(alloc, in_words, object, out),
+        Member::Property(property) => print_property(alloc, in_words, property, out),
+        Member::Index(index) => print_optional("index", index, out),
+        Member::Position(position) => print_position(position, out),
+        Member::Record(first) => print_record(first, out),
+        Member::Count(count) => print_count(count, out),
+        Member::Content(content) => print_octets(alloc, "octets", content.octets, out),
+        Member::Records(records) => print_records(alloc, records, out),
+        Member::Values(values) => print_values(alloc, in_words, values, out),
+        Member::Priority(priority) => print_priority(priority, out),
+    }
+}
+
+fn print_listed<W: Write>(
+    alloc: Global,
+    in_words: bool,
+    listed: Option<Member<'_>>,
+    out: &mut W,
+) -> io::Result<()>
+    ensures { OnOk result (AppendsText (W.contents out.old) (W.contents out.new) (IsListed in_words listed.entry)) }
+{
+    match listed {
+        None => Ok(()),
+        Some(member) => print_member(alloc, in_words, member, out),
+    }
+}
+
+fn print_members<W: Write>(
+    alloc: Global,
+    in_words: bool,
+    members: &Members<'_>,
+    out: &mut W,
+) -> io::Result<()>
+    ensures { OnOk result (AppendsText (W.contents out.old) (W.contents out.new) (AreMembers in_words (members_view members.now))) }
+{
+    let mut rest: &[Option<Member<'_>>] = &members.all;
+    while let [listed, more @ ..] = rest {
+        print_listed(alloc, in_words, *listed, out)?;
+        rest = more;
+    }
+    Ok(())
+}
+
+/// A line: a name, and each member as ` name=value`.
+pub(crate) fn print_line<W: Write>(
     alloc: Global,
     in_words: bool,
     name: &str,
-    reference: PropertyReference,
+    members: &Members<'_>,
     out: &mut W,
 ) -> io::Result<()>
-    ensures { OnOk result (Appends (W.contents out.old) (W.contents out.new) (reference_line in_words name.now (property_reference_view reference))) }
+    ensures { OnOk result (AppendsLine (W.contents out.old) (W.contents out.new) (IsNamed in_words name.now (members_view members.now))) }
 {
-    write!(out, "{name}")?;
-    print_object(alloc, in_words, reference.object, out)?;
-    print_property(alloc, in_words, reference.property, out)?;
-    print_optional("index", reference.index, out)
+    out.write_all(name.as_bytes())?;
+    print_members(alloc, in_words, members, out)?;
+    out.write_all(b"\n")
 }

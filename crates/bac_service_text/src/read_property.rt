@@ -1,19 +1,15 @@
 //! ReadProperty as text (clause 15.5).
-ghost use Rattle.std.specs.Prelude.{◌≡◌, IfOk, OnOk};
+ghost use Rattle.std.specs.Prelude.{◌≡◌, IfOk};
 ghost use Rattle.bac_service.specs.Views.{owned_request_view, property_reference_view};
-ghost use Rattle.bac_service_text.specs.Members.{AppendsText};
 ghost use Rattle.bac_service_text.specs.Reading.{Reads};
-ghost use Rattle.bac_service_text.specs.ReadProperty.{IsPropertyReadLine, read_of, read_words, values_text};
+ghost use Rattle.bac_service_text.specs.ReadProperty.{read_of, read_words, values_text};
 ghost use Rattle.bac_value.specs.Views.{object_identifier_view};
 
 use crate::form_fault::FormFault;
-use crate::members::{print_reference, print_values};
 use crate::reference::{reference_in, reference_words};
 use bac_service::{AnyRequest, OwnedRequest, PropertyRead, PropertyReference};
 use bac_value::{Data, ObjectIdentifier};
 use std::alloc::{AllocError, Global};
-use std::io;
-use std::io::Write;
 
 // ---- the request
 
@@ -48,17 +44,4 @@ pub(crate) fn values_text(
     let values = hex::encode_upper(alloc, read.values.octets)?;
     let text = format!(in alloc; "read {values}")?;
     Ok(text.into_bytes())
-}
-
-pub(crate) fn print_property_read<W: Write>(
-    alloc: Global,
-    in_words: bool,
-    read: PropertyRead<Data<'_>>,
-    out: &mut W,
-) -> io::Result<()>
-    ensures { OnOk result (AppendsText (W.contents out.old) (W.contents out.new) (IsPropertyReadLine in_words
-        (property_reference_view read.entry.reference) read.entry.values.octets.now)) }
-{
-    print_reference(alloc, in_words, "read-property-ack", read.reference, out)?;
-    print_values(alloc, in_words, read.values, out)
 }

@@ -4,7 +4,7 @@ ghost use Rattle.std.specs.Io.KnownBytes.{Appends};
 ghost use Rattle.bac_service.specs.Members.{ApplicationString};
 ghost use Rattle.hex.specs.Hex.{encode_upper};
 ghost use Rattle.std.specs.Prelude.{codes};
-ghost use Rattle.bac_service_text.specs.AtomicWriteFile.{AreTheStrings, more_strings_text, strings_text};
+ghost use Rattle.bac_service_text.specs.Strings.{AreTheStrings, more_strings_text, strings_text};
 
 use bac_value::{Class, kinds, read_element};
 use std::alloc::Global;

@@ -1,24 +1,20 @@
 //! WriteProperty as text (clause 15.9).
-ghost use Rattle.std.specs.Prelude.{◌≡◌, IfOk, OnOk, Some, map};
+ghost use Rattle.std.specs.Prelude.{◌≡◌, IfOk, Some, map};
 ghost use Rattle.std.specs.Option.{option_map};
 ghost use Rattle.bac_service.specs.Views.{owned_request_view, priority_view, property_reference_view};
-ghost use Rattle.bac_service_text.specs.Members.{AppendsText};
 ghost use Rattle.bac_service_text.specs.Reading.{Reads};
 ghost use Rattle.bac_service_text.specs.Views.{written_view};
-ghost use Rattle.bac_service_text.specs.WriteProperty.{AreWriteWords, IsWritePropertyLine, data_in, prioritized, priority_of, priority_text};
+ghost use Rattle.bac_service_text.specs.WriteProperty.{AreWriteWords, data_in, prioritized, priority_of, priority_text};
 ghost use Rattle.bac_service_text.specs.WriteProperty.{priority_word, values_in_word, write_label, write_of, written_on};
 ghost use Rattle.bac_value.specs.Views.{object_identifier_view, value_view};
 ghost use Rattle.bac_value.specs.Writing.{value_spelling};
 
 use crate::form_fault::FormFault;
-use crate::members::{print_optional, print_reference, print_values};
 use crate::reference::{octets_or_fault, reference_in, reference_words};
 use bac_service::{AnyRequest, OwnedRequest, Priority, PropertyReference, WriteProperty};
 use bac_value::{Data, DataBuf, NoMemory, ObjectIdentifier, Value, take_data, write_value};
 use bac_value_text::{Separator, ValueFault, data_text, number_up_to, read_value};
 use std::alloc::{AllocError, Global};
-use std::io;
-use std::io::Write;
 
 // ---- the request, printed
 
@@ -59,29 +55,6 @@ pub(crate) fn write_words(
     text.extend_from_slice(values.as_slice())?;
     text.extend_from_slice(priority.as_slice())?;
     Ok(text)
-}
-
-fn number_of(priority: Option<Priority>) -> Option<u32>
-    ensures { result ≡ priority_view priority }
-{
-    match priority {
-        None => None,
-        Some(priority) => Some(u32::from(priority.number)),
-    }
-}
-
-pub(crate) fn print_write_property<W: Write>(
-    alloc: Global,
-    in_words: bool,
-    write: WriteProperty<Data<'_>>,
-    out: &mut W,
-) -> io::Result<()>
-    ensures { OnOk result (AppendsText (W.contents out.old) (W.contents out.new) (IsWritePropertyLine in_words
-        (property_reference_view write.entry.reference) write.entry.values.octets.now (priority_view write.entry.priority))) }
-{
-    print_reference(alloc, in_words, "write-property", write.reference, out)?;
-    print_values(alloc, in_words, write.values, out)?;
-    print_optional("priority", number_of(write.priority), out)
 }
 
 // ---- the request, read

@@ -3,7 +3,8 @@ use Rattle.std.proofs.Common.{◌≡◌, ◌≢◌, ◌∙◌, ℕ, ℤ, Bool, t
 use Rattle.std.specs.Option.{option_map}
 use Rattle.std.proofs.lemmas.Bool.Decides.{nat_tests}
 use Rattle.bac_value.specs.Value.{ObjectId}
-use Rattle.bac_service.specs.Values.{Reference, ReadAccess, Request}
+use Rattle.bac_service.specs.Choices.{is_read_choice}
+use Rattle.bac_service.specs.Values.{Reference, Request, choice_of}
 use Rattle.bac_service.specs.Values.WriteAccess.{WriteStream}
 use Rattle.bac_service.specs.Values.Request.{ReadFile, WriteFile, ReadProperty, WriteProperty}
 use Rattle.bac_store.specs.Changes.{IsGranted, after, done, is_done, with_contents, with_object, with_octets, with_own_values, with_values}
@@ -129,11 +130,11 @@ write_octets s id start octets granted =
 pub error_changes_nothing : (s : Store) (r : Request) → is_done (reply_to s r) ≡ false → after s r ≡ s
 error_changes_nothing s r e = where_not_done (is_done (reply_to s r)) (done r s) s e
 
-pub read_changes_nothing : (s : Store) (r : Reference) → after s (ReadProperty r) ≡ s
-read_changes_nothing s r = where_same (is_done (reply_to s (ReadProperty r))) s
-
-pub file_read_changes_nothing : (s : Store) (id : ObjectId) (access : ReadAccess) → after s (ReadFile id access) ≡ s
-file_read_changes_nothing s id access = where_same (is_done (reply_to s (ReadFile id access))) s
+pub reads_change_nothing : (s : Store) (r : Request) → is_read_choice (choice_of r) ≡ true → after s r ≡ s
+reads_change_nothing s (ReadFile id access) read = where_same (is_done (reply_to s (ReadFile id access))) s
+reads_change_nothing s (WriteFile id access) read = absurd (let never : false ≡ true = read in cc)
+reads_change_nothing s (ReadProperty r) read = where_same (is_done (reply_to s (ReadProperty r))) s
+reads_change_nothing s (WriteProperty r values priority) read = absurd (let never : false ≡ true = read in cc)
 
 -- ---- changes at the node itself
 

@@ -43,6 +43,7 @@ impl Allowed {
     }
 }
 
+/// Copies a list of values, in their order.
 fn copied_list(alloc: Global, listed: &[DataBuf]) -> Result<Vec<DataBuf>, NoMemory>
     ensures { IfOk result (λ v. map data_view v.items ≡ map data_view listed.now) }
 {

@@ -54,9 +54,9 @@ pub(crate) fn is_right_name(name: &str) -> bool
     name.len() <= VALUE_LIMIT - NAME_OVERHEAD
 }
 
-/// Whether an object of this type may have these values of a property: for a description (28) one CharacterString, for a present-value (85)
-/// one Real for the analog types (0, 1, 2), Enumerated 0 or 1 for the binary types (3, 4, 5), or one Unsigned from 1 on for the multi-state types
-/// (13, 14, 19), and otherwise any data.
+/// Whether an object of this type may have these values of a property. A description (28) is one CharacterString. A present-value (85) is one Real
+/// for the analog types (0, 1, 2), and Enumerated 0 or 1 for the binary types (3, 4, 5). For the multi-state types (13, 14, 19) it is one Unsigned
+/// from 1 on. All else is any data.
 pub fn are_right_values(kind: u16, number: u32, values: &[u8]) -> bool
     ensures { result ≡ values_in kind number values.now }
 {

@@ -8,6 +8,7 @@ use crate::entry::{StoredObject, StoredProperty};
 use crate::object::File;
 use bac_value::DataBuf;
 
+/// Whether both are equal properties in the same order.
 fn are_same_slots(slots: &[StoredProperty], others: &[StoredProperty]) -> bool
     ensures { MatchBool result (map slot_view slots.now ≡ map slot_view others.now) (map slot_view slots.now ≡ map slot_view others.now → ⊥) }
 {
@@ -22,12 +23,14 @@ fn are_same_slots(slots: &[StoredProperty], others: &[StoredProperty]) -> bool
     true
 }
 
+/// Whether both are the same octets.
 fn are_same_data(values: &DataBuf, other: &DataBuf) -> bool
     ensures { MatchBool result (data_view values.now ≡ data_view other.now) (data_view values.now ≡ data_view other.now → ⊥) }
 {
     values.octets == other.octets
 }
 
+/// Whether both are the same data in the same order.
 fn are_same_lists(listed: &[DataBuf], others: &[DataBuf]) -> bool
     ensures { MatchBool result (map data_view listed.now ≡ map data_view others.now) (map data_view listed.now ≡ map data_view others.now → ⊥) }
 {
@@ -42,6 +45,7 @@ fn are_same_lists(listed: &[DataBuf], others: &[DataBuf]) -> bool
     true
 }
 
+/// Whether both are the same limits, octet by octet.
 fn are_same_limits(allowed: &Allowed, other: &Allowed) -> bool
     ensures { MatchBool result (allowed_view allowed.now ≡ allowed_view other.now) (allowed_view allowed.now ≡ allowed_view other.now → ⊥) }
 {
@@ -64,6 +68,7 @@ fn are_same_limits(allowed: &Allowed, other: &Allowed) -> bool
     }
 }
 
+/// Whether both are the same property, with equal flag, kind, limits and values.
 fn is_same_slot(slot: &StoredProperty, other: &StoredProperty) -> bool
     ensures { MatchBool result (slot_view slot.now ≡ slot_view other.now) (slot_view slot.now ≡ slot_view other.now → ⊥) }
 {
@@ -82,6 +87,7 @@ fn is_same_slot(slot: &StoredProperty, other: &StoredProperty) -> bool
     slot.values.octets == other.values.octets
 }
 
+/// Whether both have equal contents and flags.
 fn is_same_file(file: &File, other: &File) -> bool
     ensures { MatchBool result (file_view file.now ≡ file_view other.now) (file_view file.now ≡ file_view other.now → ⊥) }
 {
@@ -105,6 +111,7 @@ fn are_same_files(file: &Option<File>, other: &Option<File>) -> bool
     }
 }
 
+/// Whether both are the same object, with equal name, properties and file.
 fn is_same_object(entry: &StoredObject, other: &StoredObject) -> bool
     ensures { MatchBool result (entry_view entry.now ≡ entry_view other.now) (entry_view entry.now ≡ entry_view other.now → ⊥) }
 {

@@ -18,6 +18,7 @@ pub(crate) fn copied_octets(alloc: Global, octets: &[u8]) -> Result<Vec<u8>, NoM
     Ok(copy)
 }
 
+/// Copies a listed property.
 fn copied_slot(alloc: Global, slot: &StoredProperty) -> Result<StoredProperty, NoMemory>
     ensures { IfOk result (λ s. slot_view s ≡ slot_view slot.now) }
 {
@@ -32,6 +33,7 @@ fn copied_slot(alloc: Global, slot: &StoredProperty) -> Result<StoredProperty, N
     })
 }
 
+/// Copies listed properties, in their order.
 fn copied_slots(alloc: Global, slots: &[StoredProperty]) -> Result<Vec<StoredProperty>, NoMemory>
     ensures { IfOk result (λ v. map slot_view v.items ≡ map slot_view slots.now) }
 {
@@ -42,6 +44,7 @@ fn copied_slots(alloc: Global, slots: &[StoredProperty]) -> Result<Vec<StoredPro
     Ok(copies)
 }
 
+/// Copies the contents of a file and its flag, if the object is a file.
 fn copied_file(alloc: Global, file: Option<&File>) -> Result<Option<File>, NoMemory>
     ensures { IfOk result (λ f. option_map file_view f ≡ option_map (λ g. file_view g.now) file.entry) }
 {
@@ -55,6 +58,7 @@ fn copied_file(alloc: Global, file: Option<&File>) -> Result<Option<File>, NoMem
     }
 }
 
+/// Copies an object.
 fn copied_entry(alloc: Global, entry: &StoredObject) -> Result<StoredObject, NoMemory>
     ensures { IfOk result (λ e. entry_view e ≡ entry_view entry.now) }
 {
@@ -75,6 +79,7 @@ pub(crate) fn copied(alloc: Global, objects: &[StoredObject]) -> Result<Vec<Stor
     ensures same { IfOk result (λ v. map entry_view v.items ≡ map entry_view objects.now) }
     ensures some { OnErr result (1 ≤ length objects.now) }
 {
+    // without an allocation, so that copying a store without objects can't fail
     if objects.is_empty() {
         return Ok(Vec::new(alloc));
     }

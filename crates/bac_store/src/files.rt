@@ -33,6 +33,7 @@ fn stream_reply(
 {
     let left = octets.len() - start;
     let end_of_file = left as u64 <= count;
+    // `count` is less than what is left here, so no bit is lost
     let len = if end_of_file { left } else { count as usize };
     let octets = copied_octets(alloc, &octets[start..start + len])?;
     let read = FileRead {
@@ -70,6 +71,7 @@ fn start_place(octets: &[u8], start: i64) -> Option<usize>
     ensures { MatchOption result (is_no_write_start start octets.now ≡ true)
         (λ at. (is_no_write_start start octets.now ≡ false) × (at ≡ write_start start octets.now) × (at ≤ length octets.now)) }
 {
+    // -1 appends (clause 14.2)
     if start == -1 {
         return Some(octets.len());
     }

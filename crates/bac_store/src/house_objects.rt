@@ -38,6 +38,7 @@ fn listed(alloc: Global, number: u32, value: &Value, writable: bool) -> Result<P
     })
 }
 
+/// Analog-input 5, a reading of 72.3 that no request can set.
 fn flow(alloc: Global) -> Result<Object, NoMemory>
     ensures { IfOk result (λ o. object_view o ≡ flow_view) }
 {
@@ -55,6 +56,7 @@ fn flow(alloc: Global) -> Result<Object, NoMemory>
     })
 }
 
+/// Analog-value 1, at 0.0, with an empty description; requests can set both.
 fn setpoint(alloc: Global) -> Result<Object, NoMemory>
     ensures { IfOk result (λ o. object_view o ≡ setpoint_view) }
 {
@@ -75,6 +77,7 @@ fn setpoint(alloc: Global) -> Result<Object, NoMemory>
     })
 }
 
+/// Binary-value 1, inactive (0); requests can set it.
 fn pump(alloc: Global) -> Result<Object, NoMemory>
     ensures { IfOk result (λ o. object_view o ≡ pump_view) }
 {
@@ -92,6 +95,7 @@ fn pump(alloc: Global) -> Result<Object, NoMemory>
     })
 }
 
+/// Device 1, the house itself.
 fn device(alloc: Global) -> Result<Object, NoMemory>
     ensures { IfOk result (λ o. object_view o ≡ house_device) }
 {
@@ -106,6 +110,7 @@ fn device(alloc: Global) -> Result<Object, NoMemory>
     })
 }
 
+/// File 1, with two octets; requests can write it.
 fn log(alloc: Global) -> Result<Object, NoMemory>
     ensures { IfOk result (λ o. object_view o ≡ log_view) }
 {

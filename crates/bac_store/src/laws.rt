@@ -1,7 +1,8 @@
 //! Laws of the definitions: empty functions whose contracts are the laws.
-ghost use Rattle.std.specs.Prelude.{◌≡◌, ◌≤◌, ℕ, ℤ, false, List, None, Option, Some};
-ghost use Rattle.bac_service.specs.Values.{choice_of, ReadAccess, Reference, Request};
-ghost use Rattle.bac_service.specs.Values.Request.{ReadFile, ReadProperty, WriteFile, WriteProperty};
+ghost use Rattle.std.specs.Prelude.{◌≡◌, ◌≤◌, ℕ, ℤ, false, true, List, None, Option, Some};
+ghost use Rattle.bac_service.specs.Choices.{is_read_choice};
+ghost use Rattle.bac_service.specs.Values.{choice_of, Reference, Request};
+ghost use Rattle.bac_service.specs.Values.Request.{WriteFile, WriteProperty};
 ghost use Rattle.bac_service.specs.Values.WriteAccess.{WriteStream};
 ghost use Rattle.bac_value.specs.Data.{IsData};
 ghost use Rattle.bac_value.specs.Value.{ObjectId};
@@ -39,8 +40,7 @@ pub fn writes_change_one_thing()
     ensures octets { (s : Objects) (id : ObjectId) (start : ℤ) (octets : List ℕ) → IsGranted s (WriteFile id (WriteStream start octets))
         → IsFileWrite id start octets s (after s (WriteFile id (WriteStream start octets))) }
     ensures refused { (s : Objects) (r : Request) → is_done (reply_to s r) ≡ false → after s r ≡ s }
-    ensures read { (s : Objects) (r : Reference) → after s (ReadProperty r) ≡ s }
-    ensures file_read { (s : Objects) (id : ObjectId) (access : ReadAccess) → after s (ReadFile id access) ≡ s }
+    ensures read { (s : Objects) (r : Request) → is_read_choice (choice_of r) ≡ true → after s r ≡ s }
 {}
 
 /// A local change gives one listed property new values, or one file new octets, and changes nothing else: flags and kinds stay.
@@ -55,8 +55,8 @@ pub fn changes_change_one_thing()
         → after s (WriteProperty r values priority) ≡ changed (Change.Value r.object r.property values) s }
 {}
 
-/// A reply of a store is never a Reject, and fits the service choice of its request: a SimpleACK to WriteProperty, a ComplexACK with
-/// that choice to the other three, or an Error.
+/// A reply of a store is never a Reject, and fits the service choice of its request. It is an Error, or a SimpleACK to WriteProperty, or a ComplexACK
+/// with that choice to the other three.
 pub fn replies_fit_requests()
     ensures { (s : Objects) (r : Request) → FitsChoice (choice_of r) (reply_to s r) }
 {}

@@ -51,6 +51,7 @@ pub(crate) fn place_of(objects: &[StoredObject], id: ObjectIdentifier) -> Option
     ensures { IsPlaceOf entry_view (is_object (object_identifier_view id)) objects.now result }
 {
     let number = number_of(id);
+    // the objects of a store are in ascending order of these numbers
     objects
         .binary_search_by_key(&number, |entry| number_of(entry.id))
         .ok()

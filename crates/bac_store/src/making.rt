@@ -8,6 +8,7 @@ use crate::object::{Object, Property};
 use bac_value::NoMemory;
 use std::alloc::Global;
 
+/// A property as a store keeps it, with the kind of its first values.
 fn slot_made(property: Property) -> StoredProperty
     ensures { slot_view result ≡ property_view property }
 {
@@ -27,6 +28,7 @@ fn slot_made(property: Property) -> StoredProperty
     }
 }
 
+/// The properties of an object as a store keeps them, in the same order.
 fn slots_made(alloc: Global, properties: Vec<Property>) -> Result<Vec<StoredProperty>, NoMemory>
     ensures { IfOk result (λ v. map slot_view v.items ≡ map property_view properties.items) }
 {
@@ -37,6 +39,7 @@ fn slots_made(alloc: Global, properties: Vec<Property>) -> Result<Vec<StoredProp
     Ok(slots)
 }
 
+/// An object as a store keeps it.
 fn entry_made(alloc: Global, object: Object) -> Result<StoredObject, NoMemory>
     ensures { IfOk result (λ e. entry_view e ≡ object_view object) }
 {
@@ -55,7 +58,7 @@ fn entry_made(alloc: Global, object: Object) -> Result<StoredObject, NoMemory>
     })
 }
 
-/// The same objects, with the kinds of their properties.
+/// Objects as a store keeps them, in the same order. Each property gets the kind of its values.
 pub(crate) fn entries_made(
     alloc: Global,
     objects: Vec<Object>,

@@ -32,7 +32,7 @@ pub struct File {
 
 /// An object (clause 12).
 ///
-/// In addition to its listed properties it has computed ones, which can't be written: object-identifier (75), object-name (77) and
+/// In addition to its listed properties it has computed ones, which can't be written. They are object-identifier (75), object-name (77) and
 /// object-type (79), and for a file file-access-method (41) and file-size (42, in octets).
 #[derive(Debug, Drop)]
 pub struct Object {

@@ -7,8 +7,8 @@ use bac_service::{OwnedReply, Reply};
 use bac_value::{DataBuf, ObjectIdentifier};
 use std::marker::Model;
 
-/// The effect on the objects: none, new values of one listed property, new octets of one file from a position on, or new contents
-/// that replace all of a file.
+/// The effect on the objects. It is none, new values of one listed property, new octets of one file from a position on, or new contents that replace
+/// all of a file.
 #[derive(Debug, Drop)]
 pub(crate) enum StoreEffect {
     Nothing,

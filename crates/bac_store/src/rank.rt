@@ -18,6 +18,7 @@ const HALF: u64 = 0x8000_0000_0000_0000;
 fn real_place(bits: u32) -> Option<u64>
     ensures { result ≡ place_of_bits bits }
 {
+    // the bits of Reals above 0 rise with the number, those of Reals below 0 fall; -0.0 and 0.0 have one place
     let magnitude = if bits < SIGN { bits } else { bits - SIGN };
     if magnitude > INFINITY {
         None
@@ -48,6 +49,7 @@ fn signed_place(number: i64) -> u64
     ensures { result ≡ place_of_signed number }
 {
     if number < 0 {
+        // -1 - number is not below 0 here, so the cast loses no sign
         HALF - 1 - (-1 - number) as u64
     } else {
         HALF + number as u64

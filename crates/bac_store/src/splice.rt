@@ -39,6 +39,7 @@ fn put(out: &mut Vec<u8>, octets: &[u8])
 {
     match out.extend_from_slice(octets) {
         Ok(()) => {}
+        // the caller made sure of the room
         Err(_) => unreachable!(),
     }
 }
@@ -51,6 +52,7 @@ fn write_end(octets: &mut Vec<u8>, at: usize, new: &[u8], room: Vec<u8>)
 {
     octets.truncate(at);
     if octets.capacity() < at + new.len() {
+        // the reserved vector takes the octets, and the place of the file's own
         let mut room = room;
         put(&mut room, octets);
         *octets = room;
@@ -81,6 +83,7 @@ impl Splice {
         if end < octets.len() {
             octets[at..end].copy_from_slice(&new);
         } else if at == 0 {
+            // all is replaced, so the new octets become the file's vector
             *octets = new;
         } else {
             write_end(octets, at, &new, room);

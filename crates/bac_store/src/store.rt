@@ -62,8 +62,8 @@ impl Store {
     /// - a type other than 0, 2, 5, 8, 10 and 128 to 1,023, or instance 4,194,303;
     /// - a name or values whose encoding is longer than [`VALUE_LIMIT`](crate::VALUE_LIMIT);
     /// - a listed property other than 28, 85 and 512 to 4,194,303, or the same one twice;
-    /// - a property 28 that is not one CharacterString, an 85 of types 0 and 2 that is not one Real, or an 85 of type 5 that is not
-    ///   Enumerated 0 or 1;
+    /// - a property 28 that is not one CharacterString;
+    /// - an 85 of types 0 and 2 that is not one Real, or an 85 of type 5 that is not Enumerated 0 or 1;
     /// - limits ([`Allowed`](crate::Allowed)) that don't allow its values, or with a value of another kind than they are;
     /// - contents of a file although its type is not 10, none although it is, or more than [`FILE_LIMIT`](crate::FILE_LIMIT) octets.
     ///
@@ -82,8 +82,9 @@ impl Store {
     /// - a name or values whose encoding is longer than [`VALUE_LIMIT`](crate::VALUE_LIMIT);
     /// - contents of a file although its type is not 10, none although it is, or more than [`FILE_LIMIT`](crate::FILE_LIMIT) octets;
     /// - a listed property that is computed (41, 42, 75, 76, 77 or 79) or above 4,194,303, or the same one twice;
-    /// - a description (28) that is not one CharacterString, or a present-value (85) that is not one Real for the analog types (0, 1, 2),
-    ///   Enumerated 0 or 1 for the binary types (3, 4, 5), or one Unsigned from 1 on for the multi-state types (13, 14, 19);
+    /// - a description (28) that is not one CharacterString;
+    /// - a present-value (85) that is not one Real for the analog types (0, 1, 2), or Enumerated 0 or 1 for the binary types (3, 4, 5);
+    /// - a present-value (85) that is not one Unsigned from 1 on for the multi-state types (13, 14, 19);
     /// - limits ([`Allowed`](crate::Allowed)) that don't allow its values, or with a value of another kind than they are;
     /// - the identifier or the name of an earlier object, or type 8 as an earlier one has.
     ///
@@ -100,6 +101,7 @@ impl Store {
         let objects = with_lists(alloc, objects, &list)?;
         match Store::ruled(alloc, Rule::Described, objects) {
             Ok(store) => Ok(store),
+            // described objects are distinct and fit a store, so only memory can be missing
             Err(_) => Err(of_all(DescriptionFlaw::NoMemory)),
         }
     }
@@ -193,9 +195,9 @@ impl Store {
         Ok(reply)
     }
 
-    /// Sets the values of a listed property locally, whether or not it may be written over the network, and whatever its limits are. The octets are data
-    /// (clause 20.2) as WriteProperty takes them: of the property's kind (a property without a kind takes any data), Enumerated
-    /// 0 or 1 for the present-value of a binary-value, and at most [`VALUE_LIMIT`](crate::VALUE_LIMIT) of them.
+    /// Sets the values of a listed property locally, whether or not it may be written over the network, and whatever its limits are. The octets are
+    /// data (clause 20.2) as WriteProperty takes them, at most [`VALUE_LIMIT`](crate::VALUE_LIMIT) of them. They are of the property's kind (a
+    /// property without a kind takes any data), and Enumerated 0 or 1 for the present-value of a binary-value.
     ///
     /// The faults are tested in the order of their numbers, and the allocation of one copy of the octets last. After an `Err` the store
     /// is unchanged.

@@ -11,8 +11,8 @@ pub enum StoreFault {
     /// Two objects have the same identifier, that is, the same type and instance. This is tested first, whatever the objects are.
     #[error("two objects have one identifier")]
     Duplicate,
-    /// An object has an invalid type, instance, name, property, value or contents of a file, the same property twice, or is a file
-    /// without contents; and no two have the same identifier. [`Store::new`](crate::Store::new) lists the cases.
+    /// An object has an invalid type, instance, name, property, value or contents of a file, the same property twice, or is a file without contents.
+    /// No two have the same identifier. [`Store::new`](crate::Store::new) lists the cases.
     #[error("an object that no store can have")]
     BadObject,
     /// The objects are valid, but an allocation failed. This is tested last.

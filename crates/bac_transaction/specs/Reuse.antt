@@ -1,18 +1,18 @@
 -- The server's end of a node that lets clients use an invoke ID again as soon as its transaction is over.
-use Rattle.std.specs.Prelude.{ℕ, Bool, ◌||◌, if◌then◌else◌, nat_eq, List}
+use Rattle.std.specs.Prelude.{ℕ, Bool, if◌then◌else◌, List}
 use Rattle.bac_apdu.specs.Apdu.{Apdu}
 use Rattle.bac_npdu.specs.Peers.{PeerView}
 use Rattle.bac_slots.specs.Slots.{value_at, without}
-use Rattle.bac_service.specs.declared.service.TheConstants.{ATOMIC_READ_FILE, READ_PROPERTY}
+use Rattle.bac_service.specs.Choices.{is_read_choice}
 use Rattle.bac_protocol.specs.Context.{Settings}
 use Rattle.bac_protocol.specs.Reuse.{ends_entry, reusing_on_apdu}
 use Rattle.bac_protocol.specs.Server.{Service}
 use Rattle.bac_transaction.specs.Keys.{PeerKey, same_key}
 use Rattle.bac_transaction.specs.Ends.{ServerEnd, ServerSlot, ServerTurn, context_of, is_free, key_of, server_goes}
 
--- the requests that change no store: ReadProperty and AtomicReadFile (clauses 15.5 and 14.1)
+-- the requests that change no store (clauses 15.5 and 14.1)
 abbrev pub is_read : (choice : ℕ) → Bool
-is_read choice = nat_eq choice READ_PROPERTY || nat_eq choice ATOMIC_READ_FILE
+is_read choice = is_read_choice choice
 
 -- the slots without the entry of that key, if it ends
 abbrev pub slots_left : (ends : Bool) → PeerKey → List ServerSlot → List ServerSlot

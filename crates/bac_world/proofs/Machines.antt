@@ -1,5 +1,5 @@
 -- Nets of machines that moves lead to, in either setting: what is known of them, and each move by itself.
-use Rattle.std.proofs.Common.{◌≡◌, ℕ, ◌-◌, ◌≤◌, ◌<◌, Bool, true, false, ◌&&◌, List, [], ◌∷◌, Option, Some, None, slice_get, nat_le}
+use Rattle.std.proofs.Common.{◌≡◌, ℕ, ◌-◌, ◌≤◌, ◌<◌, Bool, true, false, ◌&&◌, ◌||◌, List, [], ◌∷◌, Option, Some, None, slice_get, nat_le}
 use Rattle.std.proofs.Common.{refl, sym, ap, subst, inl, ◌∙◌, arith, if◌then◌else◌}
 use Rattle.std.proofs.lemmas.Bool.Decides.{nat_tests}
 use Rattle.bac_protocol.specs.Pace.{Pace, IsTimely, goes_on}
@@ -16,7 +16,7 @@ use Rattle.bac_protocol.specs.Log.{Fact, Has, asks_in, IsOrderly, WasAskedAway}
 use Rattle.bac_protocol.specs.Service.{Outcome}
 use Rattle.bac_protocol.specs.Log.Fact.{Asked, Performed, Ended, Changed, Restarted, Served, AskedAway, EndedAway}
 use Rattle.bac_protocol.specs.Transaction.{Key, Rules, client_context, server_context}
-use Rattle.bac_protocol.specs.World.{Net, Post, later, client_acts, server_acts, asked_at, notes_change, is_id_held, is_room, is_deliverable, net_start}
+use Rattle.bac_protocol.specs.World.{Net, Post, later, client_acts, server_acts, asked_at, notes_change, is_id_held, is_room, is_short, is_deliverable, net_start}
 use Rattle.bac_protocol.specs.World.{is_active, is_quiet, begun, begun_again, client_restarted, server_restarted, server_acts_away, client_acts_away, asked_away_at, is_id_held_away}
 use Rattle.bac_apdu.specs.Apdu.{Apdu}
 use Rattle.bac_protocol.specs.Claims.{IsBounded, AreServedApart, AreSpaced}
@@ -192,7 +192,8 @@ module _ (W : ℕ) (x : Rules) (set : Setting) (bound : IsBounded W x) where
       → is_deliverable x n number p ≡ true
   may_arrive n number p young few = go (nat_le (n.now - p.copy.moment) n.pace.life) (nat_le (later p.key number n.posts) x.overtake) refl refl
     where
-      go : (a b : Bool) → nat_le (n.now - p.copy.moment) n.pace.life ≡ a → nat_le (later p.key number n.posts) x.overtake ≡ b → (a && b) ≡ true
+      go : (a b : Bool) → nat_le (n.now - p.copy.moment) n.pace.life ≡ a → nat_le (later p.key number n.posts) x.overtake ≡ b
+          → (a && (b || is_short n p.key)) ≡ true
       go true true e f = refl
       go true false e f = absurd (grind (arith, nat_tests))
       go false b e f = absurd (grind (arith, nat_tests))

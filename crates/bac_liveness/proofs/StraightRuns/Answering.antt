@@ -262,7 +262,7 @@ module _ (links : ℕ → Option Octets) (apart : (i j : ℕ) (l : Octets) → l
       answered_so : machine_straight.IsAnswered (Option Store) model x key (record { choice = choice_of r; service = join pieces }) m
           (request_count parts.whole pieces) count v0 end
       answered_so = machines_answer (Option Store) model x key good v0 (choice_of r) parts.whole parts.front parts.rest m can_ask v1
-          (subst (λ (y : Machines). IsLike (Option Store) key v1 y) (sym (ap (λ b'. if b' then v0 else v1) unheld))
+          (inl (subst (λ (y : Machines). IsLike (Option Store) key v1 y) (sym (ap (λ b'. if b' then v0 else v1) unheld))
           (record {
             moment = refl;
             client = refl;
@@ -276,7 +276,7 @@ module _ (links : ℕ → Option Octets) (apart : (i j : ℕ) (l : Octets) → l
             log =
                 refl;
             serves = refl;
-          }))
+          })))
           count end f.run (stops end f.fit)
 
       abbrev asked_octets : machine.Request

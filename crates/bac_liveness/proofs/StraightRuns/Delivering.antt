@@ -1,6 +1,6 @@
 -- A delivery of a straight run is a delivery of the machines.
 use Rattle.std.specs.Option.{option_map}
-use Rattle.std.proofs.Common.{◌≡◌, ◌-◌, ◌≤◌, ℕ, Bool, true, false, ◌&&◌, List, ◌++◌, map, length, Option, Some, None, slice_get, if◌then◌else◌, nat_le, refl}
+use Rattle.std.proofs.Common.{◌≡◌, ◌-◌, ◌≤◌, ◌<◌, ℕ, Bool, true, false, ◌&&◌, ◌||◌, List, ◌++◌, map, length, Option, Some, None, slice_get, if◌then◌else◌, nat_le, refl}
 use Rattle.std.proofs.Common.{sym, ap, subst, ◌∙◌, inl, inr, arith, ◌⊎◌}
 use Rattle.std.proofs.lemmas.Bool.Decides.{nat_tests}
 use Rattle.bac_apdu.specs.Apdu.{Apdu}
@@ -22,6 +22,7 @@ use Rattle.bac_protocol.specs.World.{Net, Post, client_now, server_now, happens,
 use Rattle.bac_protocol.specs.World as net
 use Rattle.bac_protocol.specs.World.Event.{Deliver}
 use Rattle.bac_protocol.specs.Claims.{IsBounded}
+use Rattle.bac_protocol.specs.Straight.{IsLike, like_machine}
 use Rattle.bac_protocol.specs.Moves.{taken_by_client}
 use Rattle.bac_transaction.specs.Ends.{is_free, act_at}
 use Rattle.bac_transaction.specs.Services.{service_of}
@@ -74,6 +75,44 @@ module _ (links : ℕ → Option Octets) (apart : (i j : ℕ) (l : Octets) → l
     pub time : w'.time ≡ w.time
     pub grows : Grows w.log w'.log
 
+  -- the machines follow: they deliver it too, or lose it where it is late
+  pub record Follows (w w' : World) (v : Machines) (number : ℕ) (old : List Post) (key : Key) : Type 0 where
+    pub free : Bool
+    pub slot : (b : Node) → slice_get w.nodes key.server ≡ Some b → is_free (told w key.server) b.servers ≡ true → free ≡ true
+    pub next : Machines
+    pub step : like_machine (Option Store) model x key v (Deliver number free) next
+    pub fit : Fit w' next
+    pub own : AreOwn old key next.net.posts
+    pub time : w'.time ≡ w.time
+    pub grows : Grows w.log w'.log
+
+  like_self : (key : Key) (v : Machines) → IsLike (Option Store) key v v
+  like_self key v = record {
+    moment = refl;
+    client = refl;
+    server = refl;
+    asks = refl;
+    number = refl;
+    ticket = refl;
+    entry = refl;
+    posts = refl;
+    stores = refl;
+    log = refl;
+    serves = refl;
+  }
+
+  followed : (w w' : World) (v : Machines) (number : ℕ) (old : List Post) (key : Key) → Delivery w w' v number old key → Follows w w' v number old key
+  followed w w' v number old key d = record {
+    free = d.free;
+    slot = d.slot;
+    next = with_free v number d.free;
+    step = inl (like_self key (with_free v number d.free));
+    fit = d.fit;
+    own = d.own;
+    time = d.time;
+    grows = d.grows;
+  }
+
   at_client_net : (v : Machines) (p : Post) (o : Option ClientTransaction)
       → (takes_at_client (Option Store) x v p.key p.copy.apdu o).net ≡ taken_by_client x v.net p o
   at_client_net v p None = refl
@@ -109,7 +148,8 @@ module _ (links : ℕ → Option Octets) (apart : (i j : ℕ) (l : Octets) → l
     own_of_post : AreOwn old p.key n.posts
     own_of_post = subst (λ (k : Key). AreOwn old k n.posts) (sym key_is) own
 
-    alike : world.is_deliverable x.overtake w.time.pace.life w.time.now number w.copies c ≡ net.is_deliverable x n number p
+    alike : world.is_deliverable x.overtake w.time.pace.life w.time.now number w.copies c
+        ≡ (nat_le (n.now - p.copy.moment) n.pace.life && nat_le (net.later p.key number n.posts) x.overtake)
     alike =
         let laters : later c.key number w.copies ≡ net.later p.key number n.posts =
         ap (λ (k : Key). later k number w.copies) post.goes.key ∙ later_alike links apart p.key number n.posts w.copies h.posts in
@@ -129,15 +169,12 @@ module _ (links : ℕ → Option Octets) (apart : (i j : ℕ) (l : Octets) → l
         else takes_at_client (Option Store) x v p.key p.copy.apdu (n.tickets p.key)) way
 
     -- It arrives.
-    module _ (is : net.is_deliverable x n number p ≡ true) where
-      tests : (nat_le (n.now - p.copy.moment) n.pace.life ≡ true) × (nat_le (net.later p.key number n.posts) x.overtake ≡ true)
-      tests = and_both (nat_le (n.now - p.copy.moment) n.pace.life) (nat_le (net.later p.key number n.posts) x.overtake) is
-
-      young : n.now - p.copy.moment ≤ n.pace.life
-      young = let e = tests.0 in grind (arith, nat_tests)
-
-      few : net.later p.key number n.posts ≤ x.overtake
-      few = let e = tests.1 in grind (arith, nat_tests)
+    module _ (young : n.now - p.copy.moment ≤ n.pace.life) (few : net.later p.key number n.posts ≤ x.overtake) where
+      is : net.is_deliverable x n number p ≡ true
+      is =
+          let a : nat_le (n.now - p.copy.moment) n.pace.life ≡ true = grind (arith, nat_tests) in
+          let b : nat_le (net.later p.key number n.posts) x.overtake ≡ true = grind (arith, nat_tests) in
+          λ i. a i && (b i || net.is_short n p.key)
 
       at_server : is_from_client p.copy.apdu ≡ true → c.from ≡ p.key.client → c.to ≡ p.key.server
           → (a b : Node) (o : Outcome) → slice_get w.nodes c.to ≡ Some a → (l : Octets) → links c.from ≡ Some l
@@ -250,16 +287,35 @@ module _ (links : ℕ → Option Octets) (apart : (i j : ℕ) (l : Octets) → l
         arrives (inl z) = absurd (undropped (drops_exactly.only (told w c.to) y.link c.octets y.hears.before y.hears.after y.hears.outcome z))
         arrives (inr z) = heard z
 
-    goes : (b : Bool) → net.is_deliverable x n number p ≡ b → DeliversIf b w c w' → Delivery w w' v number old key
-    goes false is same = record {
+    goes : (a b : Bool) → nat_le (n.now - p.copy.moment) n.pace.life ≡ a → nat_le (net.later p.key number n.posts) x.overtake ≡ b
+        → DeliversIf (a && b) w c w' → Follows w w' v number old key
+    goes true true young few y = followed w w' v number old key (arrives (grind (arith, nat_tests)) (grind (arith, nat_tests)) y y.hears.on)
+    goes true false young few same = record {
       free = true;
       slot = λ b' at' yes. refl;
-      fit = subst (λ (y : Machines). Fit w' y) (sym (lost is)) (subst (λ (y : World). Fit y v) (sym same) f);
-      own = subst (λ (y : Machines). AreOwn old key y.net.posts) (sym (lost is)) own;
+      next = v;
+      step = inr (late, like_self key v);
+      fit = subst (λ (y : World). Fit y v) (sym same) f;
+      own = own;
       time = ap (λ (y : World). y.time) same;
       grows = grows_not w.log w'.log (ap (λ (y : World). y.log) same);
     }
-    goes true is y = arrives is y y.hears.on
+      where
+        late : x.overtake < net.later key number n.posts
+        late = let many : x.overtake < net.later p.key number n.posts = grind (arith, nat_tests) in
+            subst (λ (k : Key). x.overtake < net.later k number n.posts) key_is many
+    goes false b young few same = followed w w' v number old key (record {
+      free = true;
+      slot = λ b' at' yes. refl;
+      fit = subst (λ (y : Machines). Fit w' y) (sym (lost old_one)) (subst (λ (y : World). Fit y v) (sym same) f);
+      own = subst (λ (y : Machines). AreOwn old key y.net.posts) (sym (lost old_one)) own;
+      time = ap (λ (y : World). y.time) same;
+      grows = grows_not w.log w'.log (ap (λ (y : World). y.log) same);
+    })
+      where
+        old_one : net.is_deliverable x n number p ≡ false
+        old_one = λ i. young i && (nat_le (net.later p.key number n.posts) x.overtake || net.is_short n p.key)
 
-    pub delivers : DeliversIf (world.is_deliverable x.overtake w.time.pace.life w.time.now number w.copies c) w c w' → Delivery w w' v number old key
-    delivers d = goes (net.is_deliverable x n number p) refl (subst (λ b. DeliversIf b w c w') alike d)
+    pub delivers : DeliversIf (world.is_deliverable x.overtake w.time.pace.life w.time.now number w.copies c) w c w' → Follows w w' v number old key
+    delivers d = goes (nat_le (n.now - p.copy.moment) n.pace.life) (nat_le (net.later p.key number n.posts) x.overtake) refl refl
+        (subst (λ b. DeliversIf b w c w') alike d)

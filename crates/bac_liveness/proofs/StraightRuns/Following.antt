@@ -4,10 +4,9 @@ use Rattle.bac_service.specs.Services.{reads_reply}
 use Rattle.bac_store.specs.Stores.{Store}
 use Rattle.bac_protocol.specs.Service.{Octets}
 use Rattle.bac_protocol.specs.Transaction.{Key, Rules}
-use Rattle.bac_protocol.specs.World.{Post, happens}
-use Rattle.bac_protocol.specs.World.Event.{Deliver}
+use Rattle.bac_protocol.specs.World.{Post}
 use Rattle.bac_protocol.specs.Claims.{IsBounded}
-use Rattle.bac_protocol.specs.Straight.{IsLike, like_machine, Straight}
+use Rattle.bac_protocol.specs.Straight.{like_machine, Straight}
 use Rattle.bac_transaction.specs.Ends.{is_free}
 use Rattle.bac_world.specs.Node.{Node}
 use Rattle.bac_world.specs.Once.{Stores}
@@ -23,22 +22,6 @@ use Rattle.bac_liveness.proofs.StraightRuns.Tickets.{open_there}
 
 module _ (links : ℕ → Option Octets) (apart : (i j : ℕ) (l : Octets) → links i ≡ Some l → links j ≡ Some l → i ≡ j) (W : ℕ) (x : Rules)
     (bound : IsBounded W x) (readable : x.readable ≡ reads_reply) (opening : Stores) where
-  like_self : (key : Key) (v : Machines) → IsLike (Option Store) key v v
-  like_self key v = record {
-    moment = refl;
-    client = refl;
-    server = refl;
-    asks = refl;
-    number = refl;
-    ticket = refl;
-    entry = refl;
-    posts = refl;
-    stores =
-        refl;
-    log = refl;
-    serves = refl;
-  }
-
   pub record Followed (w new : World) (v : Machines) (old : List Post) (key : Key) (has_slot : Bool) (count number : ℕ) : Type 0 where
     pub end : Machines
     pub run : Straight (Option Store) (like_machine (Option Store) model x key) key has_slot count number v end
@@ -66,8 +49,7 @@ module _ (links : ℕ → Option Octets) (apart : (i j : ℕ) (l : Octets) → l
     follows (suc count) number w new v f own le run has_slot slot =
         let u : World = run.1 in
         let d = delivers links apart W x bound readable opening w u v f number run.2.copy run.2.there old key ne own le run.2.goes in
-        let next : Machines = happens (Option Store) model x v (Deliver number d.free) in
-        let again = follows count (suc number) u new next d.fit d.own (omega arith) run.3 false (λ e. absurd cc) in
+        let again = follows count (suc number) u new d.next d.fit d.own (omega arith) run.3 false (λ e. absurd cc) in
         let p = pairwise_get (IsCopyOf links apart) v.net.posts w.copies number run.2.copy f.over.posts run.2.there in
         record {
           end = again.end;
@@ -76,8 +58,8 @@ module _ (links : ℕ → Option Octets) (apart : (i j : ℕ) (l : Octets) → l
             (λ e. let b = slot e in d.slot b.0 b.1 b.2),
             open_there links apart W x w v.net f.over key l at run.0,
             within v.net.posts number p.other p.there,
-            next,
-            like_self key next,
+            d.next,
+            d.step,
             again.run,
           );
           fit = again.fit;

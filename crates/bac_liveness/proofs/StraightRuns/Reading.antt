@@ -12,6 +12,7 @@ use Rattle.bac_protocol.specs.Log.{Fact, Has, StoreModel}
 use Rattle.bac_protocol.specs.Log.Fact.{Asked, Performed}
 use Rattle.bac_protocol.specs.Transaction.{Key, Rules, ended, performed}
 use Rattle.bac_protocol.specs.World.{World, Post, client_now, server_now, delivered, arrives, takes_at_client, takes_at_server, is_deliverable}
+use Rattle.bac_protocol.specs.World.Event.{Deliver}
 use Rattle.bac_protocol.specs.Straight.{AreStraight, RequestFits, WayFits, Straight, Stops, like_machine, request_count, way_to}
 use Rattle.bac_protocol.proofs.Queue.{Nows, TransactionPair, Leads, Starts, step}
 use Rattle.bac_protocol.proofs.Requested.{whole_read, pieces_read}
@@ -54,8 +55,11 @@ module _ (S : Type 0) (model : StoreModel S) (x : Rules) (f : Fact) where
   has_still : (key : Key) (has_slot : Bool) (count number : ℕ) (w v : World S) → Straight S (like_machine S model x key) key has_slot count number w v
       → Has f w.net.log → Has f v.net.log
   has_still key has_slot zero number w v run h = subst (λ (y : World S). Has f y.net.log) run h
-  has_still key has_slot (suc count) number w v run h = has_still key false count (suc number) run.4 v run.6
-      (subst (Has f) (sym run.5.log) (delivered_has w number run.0 (slice_get w.net.posts number) h))
+  has_still key has_slot (suc count) number w v run h = has_still key false count (suc number) run.4 v run.6 (go run.5)
+    where
+      go : like_machine S model x key w (Deliver number run.0) run.4 → Has f run.4.net.log
+      go (inl like) = subst (Has f) (sym like.log) (delivered_has w number run.0 (slice_get w.net.posts number) h)
+      go (inr lost) = subst (Has f) (sym (lost.1).log) h
 
 module _ (S : Type 0) (model : StoreModel S) (x : Rules) (now : Nows) (number : ℕ) (key : Key) where
   stops_at : (a b : ℕ) (u : World S) → a ≡ b → Stops S key a u → Stops S key b u

@@ -20,8 +20,8 @@ fn put_store(store: &mut Store, other: Option<Store>)
 }
 
 impl Node {
-    /// Restarts the node at a moment in milliseconds, which may be before the latest one: it is then as after `restarted`, with the store that it has, or with
-    /// another one. `NoMemory` where its tables can't be allocated; it is then as before.
+    /// Restarts the node at a moment in milliseconds, which may be before the latest one. It is then as after `restarted`, with the store that it
+    /// has, or with another one. `NoMemory` where its tables can't be allocated; it is then as before.
     pub fn restart(&mut self, now: u64, store: Option<Store>) -> Result<(), NoMemory>
         ensures went { OnOk result (self.new ≡ restarted now (store_after_restart self.old.store store) self.old) }
         ensures err { OnErr result (self.new ≡ self.old) }
@@ -30,9 +30,9 @@ impl Node {
         self.renew(now, Some(now), first_id, store)
     }
 
-    /// Another program begins at the node's link at a moment in milliseconds, which may be before the latest one, with the store that was there, or with another
-    /// one: its client is as of a new node, and its invoke IDs begin at that one; its server waits as after `restarted`. Use it once all is over that the client
-    /// before it sent. `NoMemory` where its tables can't be allocated; the node is then as before.
+    /// Another program begins at the node's link at a moment in milliseconds, which may be before the latest one. It has the store that was there, or
+    /// another one. Its client is as of a new node, and its invoke IDs begin at `first_id`; its server waits as after `restarted`. Use it once all is
+    /// over that the client before it sent. `NoMemory` where its tables can't be allocated; the node is then as before.
     pub fn begin_again(
         &mut self,
         now: u64,
@@ -65,6 +65,7 @@ impl Node {
             client_restart,
             Some(now),
         )?;
+        // from here on nothing can fail
         clients.set_first_invoke_id(first_id);
         put_store(&mut self.store, store);
         self.clients = clients;

@@ -8,6 +8,6 @@ use Rattle.bac_ask_report.proofs.object.asked_members.Goals as goal
 
 pub returns : goal.returns
 returns c =
-    asked_told (record_view c.args.ask.now) _ _ _ _ _ _ (c.index_or_null.ensures ∙ ap index_or_null c.property_asked-reference.ensures) c.number_or_null.ensures
-    (c.in_ok-named.ensures ∙ ap object_form c.object_asked.ensures) c.in_ok-peer.ensures
-    (c.in_ok-property.ensures ∙ ap property_or_null c.property_asked-reference.ensures) (c.in_ok-request.ensures ∙ ap string c.verb.ensures)
+    asked_told (record_view c.args.ask.now) _ _ _ _ _ _ (c.index_or_null.ensures ∙ ap index_or_null c.property-reference.ensures) c.number_or_null.ensures
+    (c.in_ok-named.ensures ∙ ap object_form c.object.ensures) c.in_ok-peer.ensures
+    (c.in_ok-property.ensures ∙ ap property_or_null c.property-reference.ensures) (c.in_ok-request.ensures ∙ ap string c.verb.ensures)

@@ -1,4 +1,4 @@
-use Rattle.bac_store.proofs.WriteLaws.{error_changes_nothing, file_read_changes_nothing, read_changes_nothing, write_octets, write_values}
+use Rattle.bac_store.proofs.WriteLaws.{error_changes_nothing, reads_change_nothing, write_octets, write_values}
 use Rattle.bac_store.proofs.laws.writes_change_one_thing.Goals as goal
 
 pub returns-clause-values : goal.returns-clause-values
@@ -11,7 +11,4 @@ pub returns-clause-refused : goal.returns-clause-refused
 returns-clause-refused c = error_changes_nothing
 
 pub returns-clause-read : goal.returns-clause-read
-returns-clause-read c = read_changes_nothing
-
-pub returns-clause-file_read : goal.returns-clause-file_read
-returns-clause-file_read c = file_read_changes_nothing
+returns-clause-read c = reads_change_nothing

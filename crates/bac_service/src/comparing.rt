@@ -1,11 +1,13 @@
-//! Comparison of requests.
+//! Comparison of requests and replies.
 ghost use Rattle.std.specs.Prelude.{◌≡◌, ◌↔◌, IsTrue};
 ghost use Rattle.bac_value.specs.Views.{object_identifier_view};
-ghost use Rattle.bac_service.specs.Views.{owned, owned_request_view, priority_view, property_reference_view, read_access_view, write_access_view};
+ghost use Rattle.bac_service.specs.Views.{file_written_view, owned, owned_complex_view, owned_reply_view, owned_request_view, priority_view};
+ghost use Rattle.bac_service.specs.Views.{property_reference_view, read_access_view, write_access_view};
 
 use crate::{
-    AnyRequest, OwnedRecords, OwnedRequest, Priority, PropertyReference, ReadAccess, ReadFile,
-    WriteAccess, WriteFile, WriteProperty,
+    AnyComplex, AnyReply, AnyRequest, FileWritten, OwnedComplex, OwnedRecords, OwnedReply,
+    OwnedRequest, Priority, PropertyReference, ReadAccess, ReadFile, WriteAccess, WriteFile,
+    WriteProperty,
 };
 use bac_value::{DataBuf, ObjectIdentifier, OctetString};
 
@@ -17,7 +19,7 @@ pub fn same_object(one: ObjectIdentifier, other: ObjectIdentifier) -> bool
 }
 
 /// Whether both identify the same property of the same object, and the same element of it.
-pub(crate) fn same_reference(one: &PropertyReference, other: &PropertyReference) -> bool
+fn same_reference(one: &PropertyReference, other: &PropertyReference) -> bool
     ensures { IsTrue result ↔ (property_reference_view one.now ≡ property_reference_view other.now) }
 {
     if !same_object(one.object, other.object) {
@@ -110,6 +112,71 @@ pub fn same_request(one: &OwnedRequest, other: &OwnedRequest) -> bool
                     && write.values.octets == property.values.octets
                     && same_priority(write.priority, property.priority)
             }
+            _ => false,
+        },
+    }
+}
+
+fn same_file_written(one: FileWritten, other: FileWritten) -> bool
+    ensures { IsTrue result ↔ (file_written_view one ≡ file_written_view other) }
+{
+    match one {
+        FileWritten::Stream(start) => match other {
+            FileWritten::Stream(at) => start == at,
+            FileWritten::Records(_) => false,
+        },
+        FileWritten::Records(start) => match other {
+            FileWritten::Stream(_) => false,
+            FileWritten::Records(at) => start == at,
+        },
+    }
+}
+
+fn same_complex(one: &OwnedComplex, other: &OwnedComplex) -> bool
+    ensures { IsTrue result ↔ (owned_complex_view one.now ≡ owned_complex_view other.now) }
+{
+    match one {
+        AnyComplex::FileRead(read) => match other {
+            AnyComplex::FileRead(file) => {
+                read.end_of_file == file.end_of_file
+                    && read.start == file.start
+                    && read.content.octets == file.content.octets
+            }
+            _ => false,
+        },
+        AnyComplex::FileWritten(written) => match other {
+            AnyComplex::FileWritten(file) => same_file_written(*written, *file),
+            _ => false,
+        },
+        AnyComplex::PropertyRead(read) => match other {
+            AnyComplex::PropertyRead(property) => {
+                same_reference(&read.reference, &property.reference)
+                    && read.values.octets == property.values.octets
+            }
+            _ => false,
+        },
+    }
+}
+
+/// Whether two replies are equal, as contracts see them.
+pub fn same_reply(one: &OwnedReply, other: &OwnedReply) -> bool
+    ensures { IsTrue result ↔ (owned_reply_view one.now ≡ owned_reply_view other.now) }
+{
+    match one {
+        AnyReply::Simple => matches!(other, AnyReply::Simple),
+        AnyReply::Complex(complex) => match other {
+            AnyReply::Complex(service_data) => same_complex(complex, service_data),
+            _ => false,
+        },
+        AnyReply::Error { class, code } => match other {
+            AnyReply::Error {
+                class: kind,
+                code: number,
+            } => class == kind && code == number,
+            _ => false,
+        },
+        AnyReply::Reject(reason) => match other {
+            AnyReply::Reject(why) => reason == why,
             _ => false,
         },
     }

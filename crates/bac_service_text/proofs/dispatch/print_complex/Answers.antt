@@ -1,5 +1,0 @@
-use Rattle.bac_service_text.proofs.Appending.{line_after}
-use Rattle.bac_service_text.proofs.dispatch.print_complex.Goals as goal
-
-pub returns : goal.returns
-returns g c = line_after _ _ _ _ _ c.in_ok-print_complex_members.ensures c.write_all.ensures.bytes
