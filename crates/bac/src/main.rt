@@ -1,7 +1,7 @@
 //! `bac`: BACnet confirmed services on the command line.
 #![tactic(auto)]
 
-use bac_command_line::{System, run};
+use bac_command_line::{System, exit_code, run};
 use bac_text::{Status, no_memory};
 use std::io;
 use std::io::{BufWriter, IsTerminal};
@@ -10,9 +10,10 @@ use std::process::ExitCode;
 /// Reads the command line and does what it says. An Err is out of memory, or a word that is no UTF-8.
 fn start(rt: &HostRuntime) -> io::Result<Status> {
     let words: Vec<String> = std::env::args(rt)?.collect(rt.alloc())?;
+    let is_screen = rt.stdout().is_terminal();
     let mut out = BufWriter::new(rt.alloc(), rt.stdout())?;
     let mut err = rt.stderr();
-    let system = System::new(rt, err.is_terminal());
+    let system = System::new(rt, err.is_terminal(), is_screen);
     let status = run(rt.alloc(), &words, &system, &system, &mut out, &mut err);
     Ok(status)
 }
@@ -26,5 +27,5 @@ fn main(rt: HostRuntime) -> ExitCode {
             Status::CommandLine
         }
     };
-    ExitCode::from(status.code())
+    exit_code(status)
 }

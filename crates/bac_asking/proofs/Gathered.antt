@@ -5,7 +5,7 @@ use Rattle.bac_driver.specs.Runs.{Timed}
 use Rattle.bac_lists.specs.declared.question_lines.LineQuestion.{LineQuestion}
 use Rattle.bac_asking.specs.Fleets.{Fleet, NEW_FLEET}
 use Rattle.bac_asking.specs.Gathering.{EndsAll, EndsFrom, Gathers}
-use Rattle.bac_asking.specs.InFlight.{Aloft, EndsLine, Plan, Sky, aloft, new_sky}
+use Rattle.bac_asking.specs.InFlight.{Aloft, EndsLine, IsPlanned, Plan, Sky, aloft, new_sky}
 use Rattle.bac_asking.specs.declared.asking.Asking.{Asking}
 use Rattle.bac_environment.specs.Sockets.{Links}
 
@@ -52,17 +52,16 @@ one_more_so_far IsOn plan count ends more how old middle new so_far last is =
     }
 
 -- all ended, and nothing had been asked before
-pub all_gathered : (IsOn : Links) (asking : Asking) (window share : ℕ) (lines : List LineQuestion) (ends : List AskEnd) (before after : Timed) (fleet : Fleet)
-    (sky : Sky) (last : Aloft) → fleet ≡ NEW_FLEET → sky ≡ new_sky lines → after ≡ last.at
-    → EndsAll IsOn (record { asking = asking; lines = lines; window = window; share = share }) ends (aloft before fleet sky) last
-    → Gathers IsOn asking window lines ends before after
-all_gathered IsOn asking window share lines ends before after fleet sky last first waits same all =
-    let plan : Plan = record { asking = asking; lines = lines; window = window; share = share } in
+pub all_gathered : (IsOn : Links) (asking : Asking) (window : ℕ) (lines : List LineQuestion) (plan : Plan) (ends : List AskEnd) (before after : Timed)
+    (fleet : Fleet) (sky : Sky) (last : Aloft) → IsPlanned asking window lines plan → fleet ≡ NEW_FLEET → sky ≡ new_sky lines → after ≡ last.at
+    → EndsAll IsOn plan ends (aloft before fleet sky) last → Gathers IsOn asking window lines ends before after
+all_gathered IsOn asking window lines plan ends before after fleet sky last planned first waits same all =
     record {
-      share = share;
+      share = plan.share;
       last = last;
       all =
-          subst (λ (f : Fleet). EndsAll IsOn plan ends (aloft before f (new_sky lines)) last) first
-          (subst (λ (s : Sky). EndsAll IsOn plan ends (aloft before fleet s) last) waits all);
+          subst (λ (p : Plan). EndsAll IsOn p ends (aloft before NEW_FLEET (new_sky lines)) last) planned
+          (subst (λ (f : Fleet). EndsAll IsOn plan ends (aloft before f (new_sky lines)) last) first
+          (subst (λ (s : Sky). EndsAll IsOn plan ends (aloft before fleet s) last) waits all));
       same = same;
     }

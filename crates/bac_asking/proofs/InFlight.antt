@@ -309,14 +309,6 @@ none_printed IsOn plan start old count =
           (subst (λ (e : List Event). PrintsFrom IsOn plan 0 left e all start last old new) (sym (append-nil more)) prints);
     }
 
--- where that is how it begins
-pub none_printed_of : (IsOn : Links) (plan : Plan) (at : Timed) (lines : List LineQuestion) (f : Fleet) (s : Sky) (old : Option (List ℕ)) (count : ℕ)
-    → f ≡ NEW_FLEET → s ≡ new_sky lines → IsPrintedSoFar IsOn plan (aloft at NEW_FLEET (new_sky lines)) old count 0 true (aloft at f s) old
-none_printed_of IsOn plan at lines f s old count fresh is =
-    subst (λ (x : Sky). IsPrintedSoFar IsOn plan (aloft at NEW_FLEET (new_sky lines)) old count 0 true (aloft at f x) old) (sym is)
-    (subst (λ (x : Fleet). IsPrintedSoFar IsOn plan (aloft at NEW_FLEET (new_sky lines)) old count 0 true (aloft at x (new_sky lines)) old) (sym fresh)
-    (none_printed IsOn plan (aloft at NEW_FLEET (new_sky lines)) old count))
-
 pub one_more_printed : (IsOn : Links) (plan : Plan) (start here next : Aloft) (old text between : Option (List ℕ)) (count place : ℕ)
     (so_far succeeded now : Bool) → IsPrintedSoFar IsOn plan start old count place so_far here text → now ≡ so_far && succeeded
     → TellsLine IsOn plan place succeeded here next text between → IsPrintedSoFar IsOn plan start old count (place + 1) now next between

@@ -9,3 +9,4 @@ pub mod Fleets
 pub mod InFlight
 pub mod Once
 pub mod Gathered
+pub mod GivenPeers

@@ -7,9 +7,10 @@ use Rattle.bac_requester.specs.declared.reaction.Ended.{Ended}
 use Rattle.bac_driver.specs.Runs.{Run, Timed}
 use Rattle.bac_driver.specs.declared.question.AskEnd.{AskEnd}
 use Rattle.bac_driver.specs.declared.wait_limit.WaitLimit.{WaitLimit}
-use Rattle.bac_asking.specs.Fleets.{NEW_FLEET}
-use Rattle.bac_asking.specs.InFlight.{Aloft, BeginsLine, Event, GivesUp, Happens, IsTakenUp, Plan, PrintsFrom, Sky, TakesTurn, all_noted, aloft, asks_in, closed_at, closed_flight, ended_in, has_ticket, here, is_on, new_sky, no_end, noted, waiting_from}
+use Rattle.bac_asking.specs.Fleets.{Fleet, NEW_FLEET}
+use Rattle.bac_asking.specs.InFlight.{Aloft, AsksAhead, BeginsLine, Event, GivesUp, Happens, IsPlanned, IsTakenUp, Plan, PrintsFrom, Sky, TakesTurn, TellsAll, all_noted, aloft, asks_in, closed_at, closed_flight, ended_in, has_ticket, here, is_on, new_sky, no_end, noted, waiting_from}
 use Rattle.bac_asking.specs.InFlight.Event.{Began, Held, LeavingWentOn, Left, WentOn}
+use Rattle.bac_asking.specs.declared.asking.Asking.{Asking}
 use Rattle.bac_environment.specs.Sockets.{Links}
 use Rattle.bac_asking.specs.declared.flights.Begun.{Begun}
 use Rattle.bac_asking.specs.declared.flights.Begun.TheVariants as begun
@@ -320,3 +321,22 @@ asked_once IsOn plan place events all at after lines old new prints within =
     printed_asked IsOn plan place 0 (length lines) events all (aloft at NEW_FLEET (new_sky lines)) after old new prints (none_asked place lines) (omega arith)
     (omega (arith, within)) in
     omega (arith, most, least)
+
+-- all lines were printed, and nothing had been asked before
+pub all_ahead : (IsOn : Links) (asking : Asking) (window : ℕ) (lines : List LineQuestion) (plan : Plan) (all : Bool) (before after : Timed) (fleet : Fleet)
+    (sky : Sky) (last : Aloft) (old new : Option (List ℕ)) → IsPlanned asking window lines plan → fleet ≡ NEW_FLEET → sky ≡ new_sky lines → after ≡ last.at
+    → TellsAll IsOn plan all (aloft before fleet sky) last old new → AsksAhead IsOn asking window lines all before after old new
+all_ahead IsOn asking window lines plan all before after fleet sky last old new planned first wait same told =
+    let p : Plan = record { asking = asking; lines = lines; window = window; share = plan.share } in
+    let planned_so : PrintsFrom IsOn p 0 (length lines) told.events all (aloft before fleet sky) last.at old new =
+    subst (λ (q : Plan). PrintsFrom IsOn q 0 (length q.lines) told.events all (aloft before fleet sky) last.at old new) planned told.prints in
+    let prints : PrintsFrom IsOn p 0 (length lines) told.events all (aloft before NEW_FLEET (new_sky lines)) after old new =
+    subst (λ (t : Timed). PrintsFrom IsOn p 0 (length lines) told.events all (aloft before NEW_FLEET (new_sky lines)) t old new) (sym same)
+    (subst (λ (f : Fleet). PrintsFrom IsOn p 0 (length lines) told.events all (aloft before f (new_sky lines)) last.at old new) first
+    (subst (λ (s : Sky). PrintsFrom IsOn p 0 (length lines) told.events all (aloft before fleet s) last.at old new) wait planned_so)) in
+    record {
+      share = plan.share;
+      events = told.events;
+      prints = prints;
+      once = λ place within. asked_once IsOn p place told.events all before after lines old new prints within;
+    }

@@ -1,5 +1,5 @@
 -- What the words of `ask` give, as they were read.
-use Rattle.std.specs.Prelude.{◌≡◌, ℕ, ◌<◌, ◌≤◌, ◌*◌, min, Bool, true, false, codes, decimal, Option, Some, None}
+use Rattle.std.specs.Prelude.{◌≡◌, ℕ, ◌<◌, ◌≤◌, ◌*◌, min, Bool, true, false, List, codes, decimal, Option, Some, None}
 use Rattle.std.specs.Option.{option_map}
 use Rattle.clap.specs.declared.parser.matches.ArgMatches.{ArgMatches}
 use Rattle.bac_ask_report.specs.declared.cell_text.CellText.{CellText}
@@ -8,6 +8,8 @@ use Rattle.bac_commands.specs.declared.online.output_format.OutputFormat.{Output
 use Rattle.bac_commands.specs.declared.online.output_format.Style.{Style}
 use Rattle.bac_commands.specs.declared.online.output_format.Style.TheVariants as style
 use Rattle.bac_driver.specs.Waits.{MOST}
+use Rattle.bac_lists.specs.Addresses.{IsLink, IsRoute}
+use Rattle.bac_npdu.specs.Peers.{PeerView, RouteView}
 use Rattle.bac_environment.specs.Given.{IsFlag, IsNumber, words_text}
 use Rattle.bac_asking.specs.declared.asking.Asking.{Asking}
 use Rattle.bac_asking.specs.declared.asking.Rounds.{Rounds}
@@ -105,3 +107,20 @@ is_json_by (Some (form.Csv t)) = false
 -- objects of JSON
 abbrev pub is_json : Asking → Bool
 is_json asking = is_json_by asking.records
+
+-- ---- which node is asked
+
+-- the text behind `--to` is the address of this link
+abbrev pub IsLinkGiven : ArgMatches → (link : List ℕ) → Type 0
+IsLinkGiven given link = (text : List ℕ) → words_text given (codes "to") ≡ Some text → IsLink text link
+
+-- a text is this way on; without one there is none
+abbrev pub IsRouteBy : (text : Option (List ℕ)) → Option RouteView → Type 0
+IsRouteBy None route = route ≡ None
+IsRouteBy (Some text) None = ⊥
+IsRouteBy (Some text) (Some r) = IsRoute text r
+
+-- the peer at that link, by the way behind `--route`
+pub record IsPeerGiven (given : ArgMatches) (p : PeerView) : Type 0 where
+  pub link : IsLinkGiven given p.link
+  pub route : IsRouteBy (words_text given (codes "route")) p.route

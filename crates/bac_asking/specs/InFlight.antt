@@ -431,6 +431,15 @@ PrintsFrom IsOn plan place zero events all before after old new = (events ≡ []
 PrintsFrom IsOn plan place (suc count) events all before after old new =
     PrintsNext IsOn plan place (PrintsFrom IsOn plan (place + 1) count) events all before after old new
 
+-- all lines of a plan were printed
+pub record TellsAll (IsOn : Links) (plan : Plan) (all : Bool) (before after : Aloft) (old new : Option (List ℕ)) : Type 0 where
+  pub events : List Event
+  pub prints : PrintsFrom IsOn plan 0 (length plan.lines) events all before after.at old new
+
+-- the plan for lines that are asked so, so many at once
+abbrev pub IsPlanned : Asking → (window : ℕ) → List LineQuestion → Plan → Type 0
+IsPlanned asking window lines plan = plan ≡ record { asking = asking; lines = lines; window = window; share = plan.share }
+
 -- the requests of lines were asked, so many at once, each of them once, and printed in order
 pub record AsksAhead (IsOn : Links) (asking : Asking) (window : ℕ) (lines : List LineQuestion) (all : Bool) (before after : Timed) (old new : Option (List ℕ)) :
     Type 0 where

@@ -1,8 +1,11 @@
 //! From where a node is to ask, how long it waits, how the end is printed, and how often.
-ghost use Rattle.std.specs.Prelude.{◌≡◌};
+ghost use Rattle.std.specs.Prelude.{◌≡◌, IfSome, codes};
+ghost use Rattle.std.specs.Option.{option_map};
+ghost use Rattle.bac_npdu.specs.Views.{peer_view, route_view};
+ghost use Rattle.bac_environment.specs.Given.{words_text};
 ghost use Rattle.bac_asking.specs.Asked.{for_lines};
 ghost use Rattle.bac_asking.specs.Asking.{patience_for};
-ghost use Rattle.bac_asking.specs.Given.{AreRecordsOf, AreRoundsOf, IsGiven, IsManner, IsPace, IsPatience, cell_text_by, is_json, is_raw, records_by, rounds_by, style_by};
+ghost use Rattle.bac_asking.specs.Given.{AreRecordsOf, AreRoundsOf, IsGiven, IsLinkGiven, IsManner, IsPace, IsPatience, IsPeerGiven, IsRouteBy, cell_text_by, is_json, is_raw, records_by, rounds_by, style_by};
 ghost use Rattle.bac_asking.specs.Rounds.{next_from};
 ghost use Rattle.bac_environment.specs.Limits.{turns_of};
 
@@ -179,7 +182,10 @@ fn source_towards_all<M: ClientSockets>(machine: &M, lines: &[LineQuestion]) -> 
 }
 
 /// The address that is asked: that behind `--to`, or a port of this machine.
-fn link_of(given: &ArgMatches<'_>) -> Option<LinkAddress> {
+#[tactic(auto, using(crate::proofs::GivenPeers::link_given, crate::proofs::GivenPeers::no_link_given))]
+fn link_of(given: &ArgMatches<'_>) -> Option<LinkAddress>
+    ensures { IfSome result (IsLinkGiven given.now) }
+{
     match given.get_str("to") {
         Some(text) => read_link(text),
         None => Some(link_at(LOCAL_HOST, given.get_one("port")?)),
@@ -187,7 +193,10 @@ fn link_of(given: &ArgMatches<'_>) -> Option<LinkAddress> {
 }
 
 /// The way on from there, where one is given. None where it is none.
-fn route_of(given: &ArgMatches<'_>) -> Option<Option<Route>> {
+#[tactic(auto, using(crate::proofs::GivenPeers::route_given, crate::proofs::GivenPeers::no_route_given))]
+fn route_of(given: &ArgMatches<'_>) -> Option<Option<Route>>
+    ensures { IfSome result (λ r. IsRouteBy (words_text given.now (codes "route")) (option_map route_view r)) }
+{
     match given.get_str("route") {
         Some(text) => Some(Some(read_route(text)?)),
         None => Some(None),
@@ -285,7 +294,9 @@ fn rounds_of(given: &ArgMatches<'_>) -> Option<Rounds>
 }
 
 /// The node that the arguments name. None if they name none, or an address is invalid.
-pub fn peer_of(given: &ArgMatches<'_>) -> Option<Peer> {
+pub fn peer_of(given: &ArgMatches<'_>) -> Option<Peer>
+    ensures { IfSome result (λ p. IsPeerGiven given.now (peer_view p)) }
+{
     let link = link_of(given)?;
     let route = route_of(given)?;
     Some(Peer { link, route })

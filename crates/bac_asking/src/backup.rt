@@ -13,7 +13,7 @@ use crate::peer_file::{PeerFile, end_words};
 use crate::reasons::{print_bad_manifest, print_empty_manifest, print_no_files};
 use crate::whole_files::client_of;
 use crate::whole_reading::{Got, read_whole};
-use crate::whole_writing::write_whole;
+use crate::whole_writing::{Put, replace_whole};
 use bac_environment::{Environment, OpenFiles};
 use bac_files::{
     Comparison, SavedFile, compare, digest_of, file_name, manifest_line, read_manifest_line,
@@ -147,6 +147,25 @@ impl<F: OpenFiles, M: ClientSockets> Backup<'_, F, M> {
         print_news(alloc, object, &FileNews::Damaged(&name), out, err)
     }
 
+    /// Writes octets of the peer beside the file of the folder for an object. Answers what the manifest is to say of it; None where the folder does not have them,
+    /// which is printed.
+    fn keep_whole<O: Write, E: Write>(
+        &self,
+        object: ObjectIdentifier,
+        octets: &[u8],
+        out: &mut O,
+        err: &mut E,
+    ) -> Result<Option<SavedFile>, Status>
+        ensures told { IfErr result IsStop }
+    {
+        let (file, is_there) = self.keep(object, octets, err)?;
+        if is_there {
+            return Ok(Some(file));
+        }
+        self.print_damaged(object, out, err)?;
+        Ok(None)
+    }
+
     /// Reads a file of the peer, and writes it beside that of the folder. Answers what the manifest is to say of it; None where it was not read or not written, which is printed.
     fn save<O: Write, E: Write>(
         &mut self,
@@ -157,16 +176,11 @@ impl<F: OpenFiles, M: ClientSockets> Backup<'_, F, M> {
         ensures told { IfErr result IsStop }
     {
         let got = self.read(object, err)?;
-        if !got.is_whole {
-            print_not_read(self.folder.alloc, object, &got, out, err)?;
-            return Ok(None);
+        if got.is_whole {
+            return self.keep_whole(object, &got.octets, out, err);
         }
-        let (file, is_there) = self.keep(object, &got.octets, err)?;
-        if !is_there {
-            self.print_damaged(object, out, err)?;
-            return Ok(None);
-        }
-        Ok(Some(file))
+        print_not_read(self.folder.alloc, object, &got, out, err)?;
+        Ok(None)
     }
 
     /// Reads files of the peer, and writes them beside those of the folder, each once. Answers those that are there.
@@ -216,6 +230,36 @@ impl<F: OpenFiles, M: ClientSockets> Backup<'_, F, M> {
         Ok(names)
     }
 
+    /// Writes the manifest of files that were saved, and of those of an earlier one that were not, beside that of the folder.
+    fn write_manifest<E: Write>(
+        &self,
+        saved: &[SavedFile],
+        earlier: &[SavedFile],
+        err: &mut E,
+    ) -> Result<(), Status>
+        ensures told { IfErr result IsStop }
+    {
+        let Ok(manifest) = manifest_of(self.folder.alloc, saved, earlier) else {
+            return Err(no_memory(err));
+        };
+        let there = self.folder.write_unfinished(MANIFEST, &manifest, err)?;
+        if there == manifest {
+            Ok(())
+        } else {
+            Err(self.folder.print_altered(MANIFEST, err))
+        }
+    }
+
+    /// Puts files of these names, and at last the manifest, in place of those of the folder.
+    fn finish_each<E: Write>(&self, names: &[String], err: &mut E) -> Result<(), Status>
+        ensures told { IfErr result IsStop }
+    {
+        for name in names {
+            self.folder.finish(name, err)?;
+        }
+        self.folder.finish(MANIFEST, err)
+    }
+
     /// Puts files that were saved, and at last their manifest, in place of those of the folder. Files of an earlier manifest that were not saved now keep their lines.
     fn finish<E: Write>(
         &self,
@@ -226,17 +270,8 @@ impl<F: OpenFiles, M: ClientSockets> Backup<'_, F, M> {
         ensures told { IfErr result IsStop }
     {
         let names = self.names_of(saved, err)?;
-        let Ok(manifest) = manifest_of(self.folder.alloc, saved, earlier) else {
-            return Err(no_memory(err));
-        };
-        let there = self.folder.write_unfinished(MANIFEST, &manifest, err)?;
-        if there != manifest {
-            return Err(self.folder.print_altered(MANIFEST, err));
-        }
-        for name in &names {
-            self.folder.finish(name, err)?;
-        }
-        self.folder.finish(MANIFEST, err)
+        self.write_manifest(saved, earlier, err)?;
+        self.finish_each(&names, err)
     }
 
     /// Prints that files were saved.
@@ -255,6 +290,37 @@ impl<F: OpenFiles, M: ClientSockets> Backup<'_, F, M> {
         Ok(())
     }
 
+    /// Puts files that were saved in place, if there are any, and prints which they are.
+    fn conclude<O: Write, E: Write>(
+        &self,
+        saved: &[SavedFile],
+        earlier: &[SavedFile],
+        out: &mut O,
+        err: &mut E,
+    ) -> Result<(), Status>
+        ensures told { IfErr result IsStop }
+    {
+        if !saved.is_empty() {
+            self.finish(saved, earlier, err)?;
+        }
+        self.print_saved(saved, out, err)
+    }
+
+    /// Saves files of the peer beside those of an earlier manifest. Answers whether all were saved.
+    fn save_beside<O: Write, E: Write>(
+        &mut self,
+        earlier: &[SavedFile],
+        objects: &[ObjectIdentifier],
+        out: &mut O,
+        err: &mut E,
+    ) -> Result<bool, Status>
+        ensures told { IfErr result IsStop }
+    {
+        let saved = self.save_each(objects, out, err)?;
+        self.conclude(&saved, earlier, out, err)?;
+        Ok(objects.iter().all(|object| has_object(&saved, *object)))
+    }
+
     /// Saves files of the peer. Nothing of the folder changes until all of them are written beside those that are there; where none is saved, nothing changes. Prints which are saved once all of them are in place. Answers whether all were saved.
     fn save_all<O: Write, E: Write>(
         &mut self,
@@ -266,16 +332,69 @@ impl<F: OpenFiles, M: ClientSockets> Backup<'_, F, M> {
     {
         self.folder.make(err)?;
         let earlier = self.earlier(err)?;
-        let saved = self.save_each(objects, out, err)?;
-        if !saved.is_empty() {
-            self.finish(&saved, &earlier, err)?;
-        }
-        self.print_saved(&saved, out, err)?;
-        Ok(objects.iter().all(|object| has_object(&saved, *object)))
+        self.save_beside(&earlier, objects, out, err)
     }
 
-    /// Writes the octets of a file of the folder into that of the peer. Answers whether all were written; prints why not.
-    fn put<O: Write, E: Write>(
+    /// Saves the files in the object-list of the device with this instance. Answers whether all were saved; prints why not.
+    fn save_listed<O: Write, E: Write>(
+        &mut self,
+        device: u64,
+        out: &mut O,
+        err: &mut E,
+    ) -> Result<bool, Status>
+        ensures told { IfErr result IsStop }
+    {
+        match listed_files(self.asking, &mut self.client, self.peer, device, err)? {
+            Some(listed) if listed.is_empty() => {
+                print_no_files(err);
+                Ok(false)
+            }
+            Some(listed) => self.save_all(&listed, out, err),
+            None => Ok(false),
+        }
+    }
+
+    /// Writes octets into a file of the peer, which is to have no others. Answers what was written.
+    fn put<E: Write>(
+        &mut self,
+        object: ObjectIdentifier,
+        octets: &[u8],
+        err: &mut E,
+    ) -> Result<Put, Status>
+        ensures told { IfErr result IsStop }
+    {
+        let words = object_words(self.folder.alloc, object, err)?;
+        let file = PeerFile {
+            peer: self.peer,
+            object: &words,
+        };
+        replace_whole(self.asking, &mut self.client, &file, octets, err)
+    }
+
+    /// Prints that so many octets were not put into a file of the peer, and why.
+    fn print_not_put<O: Write, E: Write>(
+        &self,
+        object: ObjectIdentifier,
+        count: usize,
+        put: &Put,
+        out: &mut O,
+        err: &mut E,
+    ) -> Result<(), Status>
+        ensures told { IfErr result IsStop }
+    {
+        let alloc = self.folder.alloc;
+        let Ok(why) = end_words(alloc, &put.last) else {
+            return Err(no_memory(err));
+        };
+        let news = match put.uncut {
+            Some(there) => FileNews::NotCut(there, &why),
+            None => FileNews::NotPut(put.count, count, &why),
+        };
+        print_news(alloc, object, &news, out, err)
+    }
+
+    /// Writes octets into a file of the peer, and prints where not all were. Answers whether all were.
+    fn put_all<O: Write, E: Write>(
         &mut self,
         object: ObjectIdentifier,
         octets: &[u8],
@@ -284,38 +403,28 @@ impl<F: OpenFiles, M: ClientSockets> Backup<'_, F, M> {
     ) -> Result<bool, Status>
         ensures told { IfErr result IsStop }
     {
-        let alloc = self.folder.alloc;
-        let words = object_words(alloc, object, err)?;
-        let file = PeerFile {
-            peer: self.peer,
-            object: &words,
-        };
-        let put = write_whole(self.asking, &mut self.client, &file, octets, err)?;
+        let put = self.put(object, octets, err)?;
         if put.is_whole {
             return Ok(true);
         }
-        let Ok(why) = end_words(alloc, &put.last) else {
-            return Err(no_memory(err));
-        };
-        let news = FileNews::NotPut(put.count, octets.len(), &why);
-        print_news(alloc, object, &news, out, err)?;
+        self.print_not_put(object, octets.len(), &put, out, err)?;
         Ok(false)
     }
 
-    /// Reads a file of the peer again, and prints whether it has the octets that were put into it. Answers whether it has.
-    fn compare<O: Write, E: Write>(
-        &mut self,
+    /// Prints whether a file of the peer, which was read again, has the octets that were put into it. Answers whether it has.
+    fn print_compared<O: Write, E: Write>(
+        &self,
         file: &SavedFile,
         count: usize,
+        got: &Got,
         out: &mut O,
         err: &mut E,
     ) -> Result<bool, Status>
         ensures told { IfErr result IsStop }
     {
         let alloc = self.folder.alloc;
-        let got = self.read(file.object, err)?;
         if !got.is_whole {
-            print_not_read(alloc, file.object, &got, out, err)?;
+            print_not_read(alloc, file.object, got, out, err)?;
             return Ok(false);
         }
         let there = got.octets.len();
@@ -329,21 +438,52 @@ impl<F: OpenFiles, M: ClientSockets> Backup<'_, F, M> {
         Ok(comparison == Comparison::Same)
     }
 
-    /// The octets of a file of the folder that is to have so many, and one more where it is longer; None where it cannot be read, which `err` says: the others can
-    /// be restored.
-    fn kept<E: Write>(
-        &self,
-        name: &str,
-        length: u64,
+    /// Reads a file of the peer again, and prints whether it has the octets that were put into it. Answers whether it has.
+    fn compare<O: Write, E: Write>(
+        &mut self,
+        file: &SavedFile,
+        count: usize,
+        out: &mut O,
         err: &mut E,
-    ) -> Result<Option<Vec<u8>>, Status>
+    ) -> Result<bool, Status>
         ensures told { IfErr result IsStop }
     {
-        match self.folder.read_front(name, length.saturating_add(1), err) {
+        let got = self.read(file.object, err)?;
+        self.print_compared(file, count, &got, out, err)
+    }
+
+    /// The octets of a file of the folder, as many as it is to have, and one more where it is longer; None where it cannot be read, which `err` says: the others can
+    /// be restored.
+    fn kept<E: Write>(&self, file: &SavedFile, err: &mut E) -> Result<Option<Vec<u8>>, Status>
+        ensures told { IfErr result IsStop }
+    {
+        let name = name_in(self.folder.alloc, file.object, err)?;
+        let most = file.length.saturating_add(1);
+        match self.folder.read_front(&name, most, err) {
             Ok(octets) => Ok(Some(octets)),
             Err(Status::CommandLine) => Ok(None),
             Err(status) => Err(status),
         }
+    }
+
+    /// Writes the octets of a file of the folder back, if they are those of the manifest, and reads the file again. Answers whether the peer has it then.
+    fn restore_octets<O: Write, E: Write>(
+        &mut self,
+        file: &SavedFile,
+        octets: &[u8],
+        out: &mut O,
+        err: &mut E,
+    ) -> Result<bool, Status>
+        ensures told { IfErr result IsStop }
+    {
+        if !are_saved(file, octets) {
+            self.print_damaged(file.object, out, err)?;
+            return Ok(false);
+        }
+        if !self.put_all(file.object, octets, out, err)? {
+            return Ok(false);
+        }
+        self.compare(file, octets.len(), out, err)
     }
 
     /// Writes a file of the folder back, and reads it again. Answers whether the peer has it then.
@@ -355,18 +495,10 @@ impl<F: OpenFiles, M: ClientSockets> Backup<'_, F, M> {
     ) -> Result<bool, Status>
         ensures told { IfErr result IsStop }
     {
-        let name = name_in(self.folder.alloc, file.object, err)?;
-        let Some(octets) = self.kept(&name, file.length, err)? else {
-            return Ok(false);
-        };
-        if !are_saved(file, &octets) {
-            self.print_damaged(file.object, out, err)?;
-            return Ok(false);
+        match self.kept(file, err)? {
+            Some(octets) => self.restore_octets(file, &octets, out, err),
+            None => Ok(false),
         }
-        if !self.put(file.object, &octets, out, err)? {
-            return Ok(false);
-        }
-        self.compare(file, octets.len(), out, err)
     }
 
     /// Writes files of the folder back, one after the other. Answers whether the peer has all of them then.
@@ -409,6 +541,36 @@ fn backup_in<'e, F: OpenFiles, M: ClientSockets, E: Write>(
     })
 }
 
+/// Saves these files in a folder. Answers whether all were saved.
+fn back_up_named<F: OpenFiles, M: ClientSockets, O: Write, E: Write>(
+    environment: &Environment<'_, F, M>,
+    task: &FileTask,
+    objects: &[ObjectIdentifier],
+    path: &str,
+    out: &mut O,
+    err: &mut E,
+) -> Result<bool, Status>
+    ensures told { IfErr result IsStop }
+{
+    let mut backup = backup_in(environment, task, path, err)?;
+    backup.save_all(objects, out, err)
+}
+
+/// Saves the files of a device in a folder. Answers whether all were saved.
+fn back_up_listed<F: OpenFiles, M: ClientSockets, O: Write, E: Write>(
+    environment: &Environment<'_, F, M>,
+    task: &FileTask,
+    device: u64,
+    path: &str,
+    out: &mut O,
+    err: &mut E,
+) -> Result<bool, Status>
+    ensures told { IfErr result IsStop }
+{
+    let mut backup = backup_in(environment, task, path, err)?;
+    backup.save_listed(device, out, err)
+}
+
 /// Saves files in a folder. Answers whether all were saved.
 pub(crate) fn back_up<F: OpenFiles, M: ClientSockets, O: Write, E: Write>(
     environment: &Environment<'_, F, M>,
@@ -423,20 +585,9 @@ pub(crate) fn back_up<F: OpenFiles, M: ClientSockets, O: Write, E: Write>(
     match chosen {
         ChosenFiles::Named(words) => {
             let named = objects_in(environment.alloc, words, err)?;
-            let mut backup = backup_in(environment, task, path, err)?;
-            backup.save_all(&named, out, err)
+            back_up_named(environment, task, &named, path, out, err)
         }
-        ChosenFiles::Listed(device) => {
-            let mut backup = backup_in(environment, task, path, err)?;
-            match listed_files(&task.asking, &mut backup.client, task.peer, device, err)? {
-                Some(listed) if listed.is_empty() => {
-                    print_no_files(err);
-                    Ok(false)
-                }
-                Some(listed) => backup.save_all(&listed, out, err),
-                None => Ok(false),
-            }
-        }
+        ChosenFiles::Listed(device) => { back_up_listed(environment, task, device, path, out, err) }
     }
 }
 
@@ -463,6 +614,33 @@ impl<F: OpenFiles> Folder<'_, F> {
         }
         Ok(files)
     }
+
+    /// The files of its manifest.
+    fn manifest_files<E: Write>(&self, err: &mut E) -> Result<Vec<SavedFile>, Status>
+        ensures told { IfErr result IsStop }
+    {
+        let text = self.read(MANIFEST, err)?;
+        self.files_in(&text, err)
+    }
+}
+
+/// Writes these files of a folder back, and compares what the peer then has. Answers whether it has all of them.
+fn restore_listed<F: OpenFiles, M: ClientSockets, O: Write, E: Write>(
+    environment: &Environment<'_, F, M>,
+    task: &FileTask,
+    files: &[SavedFile],
+    path: &str,
+    out: &mut O,
+    err: &mut E,
+) -> Result<bool, Status>
+    ensures told { IfErr result IsStop }
+{
+    if files.is_empty() {
+        print_empty_manifest(path, err);
+        return Ok(false);
+    }
+    let mut backup = backup_in(environment, task, path, err)?;
+    backup.restore_all(files, out, err)
 }
 
 /// Writes the files of a folder back, and compares what the peer then has. Answers whether it has all of them.
@@ -480,12 +658,6 @@ pub(crate) fn restore<F: OpenFiles, M: ClientSockets, O: Write, E: Write>(
         files: environment.files,
         path,
     };
-    let text = folder.read(MANIFEST, err)?;
-    let files = folder.files_in(&text, err)?;
-    if files.is_empty() {
-        print_empty_manifest(path, err);
-        return Ok(false);
-    }
-    let mut backup = backup_in(environment, task, path, err)?;
-    backup.restore_all(&files, out, err)
+    let files = folder.manifest_files(err)?;
+    restore_listed(environment, task, &files, path, out, err)
 }

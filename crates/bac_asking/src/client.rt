@@ -42,6 +42,13 @@ struct Unbound {
     error: io::Error,
 }
 
+impl Unbound {
+    /// Whether another socket has the port.
+    fn is_taken(&self) -> bool {
+        self.error.kind() == ErrorKind::AddrInUse
+    }
+}
+
 /// Why there is no link of a new node.
 #[derive(Drop)]
 enum NoLink {
@@ -115,6 +122,36 @@ fn is_held(held: Option<LinkAddress>, address: LinkAddress) -> bool
     }
 }
 
+/// A link of a new node at the port of a pair. None where the share of that port is over once it is bound, or the node at that address asks now.
+fn bind_pair<M: ClientSockets>(
+    machine: &M,
+    host: [u8; 4],
+    pair: ClientPair,
+    held: Option<LinkAddress>,
+) -> Result<Option<NewLink<M::Link>>, Unbound>
+    ensures bound { IfOk result (λ found. IfSome found (λ c. M.is_bound host c.pair.port c.link c.address)) }
+    ensures other { IfOk result (λ found. IfSome found (λ c. IfSome held (λ own. c.address ≢ own))) }
+{
+    let guard = Guard::open();
+    let port = pair.port;
+    match machine.bind(host, port, &guard) {
+        Ok(bound) => {
+            let address = bound.1;
+            if machine.outlast(pair) && !is_held(held, address) {
+                let link = bound.0;
+                Ok(Some(NewLink {
+                    link,
+                    address,
+                    pair,
+                }))
+            } else {
+                Ok(None)
+            }
+        }
+        Err(error) => Err(Unbound { host, port, error }),
+    }
+}
+
 /// A link of a new node at an IPv4 address of this machine, with the machine's pair. Where that port is taken, the client has left it a short time before
 /// that moment, or the node at that address asks now, it is that of a later pair. Its port was bound before the port's share of time was over, and has been
 /// since: so nobody else gets it in that share, whatever becomes of the client.
@@ -128,28 +165,18 @@ fn bind_apart<M: ClientSockets>(
     ensures bound { IfOk result (λ c. M.is_bound host c.pair.port c.link c.address) }
     ensures other { IfOk result (λ c. IfSome held (λ own. c.address ≢ own)) }
 {
-    let guard = Guard::open();
     let mut taken = None;
     for _ in 0..MOST_TRIES {
         let pair = match pair_apart(machine, past, now) {
             Ok(pair) => pair,
             Err(none) => return Err(NoLink::NoPair(none)),
         };
-        match machine.bind(host, pair.port, &guard) {
-            Ok(bound) => {
-                let address = bound.1;
-                if machine.outlast(pair) && !is_held(held, address) {
-                    return Ok(NewLink {
-                        link: bound.0,
-                        address,
-                        pair,
-                    });
-                }
-            }
-            Err(error) => {
-                let is_taken = error.kind() == ErrorKind::AddrInUse;
-                let port = pair.port;
-                taken = Some(Unbound { host, port, error });
+        match bind_pair(machine, host, pair, held) {
+            Ok(Some(bound)) => return Ok(bound),
+            Ok(None) => (),
+            Err(unbound) => {
+                let is_taken = unbound.is_taken();
+                taken = Some(unbound);
                 if !is_taken {
                     break;
                 }
@@ -158,6 +185,46 @@ fn bind_apart<M: ClientSockets>(
         }
     }
     Err(NoLink::NotBound(taken))
+}
+
+/// Why there is no new node: the status, and whether there was no link for it.
+#[derive(Clone, Copy)]
+struct NoNode {
+    status: Status,
+    is_stranded: bool,
+}
+
+/// A new node at a link of its own, bound at that moment as [`bind_apart`] does; the node at that address asks now. Where there is none, `err` and the status
+/// say so.
+fn new_node<M: ClientSockets, E: Write>(
+    alloc: Global,
+    machine: &M,
+    host: [u8; 4],
+    past: &PastPorts,
+    at: (u64, Option<LinkAddress>),
+    err: &mut E,
+) -> Result<BoundNode<M::Link>, NoNode>
+    ensures node { IfOk result (λ b. IsClient (OnPort M.is_bound M.Link.failures M.Link.calls) host b) }
+    ensures apart { IfOk result (λ b. IfSome at.1 (λ own. b.node.link ≢ own)) }
+    ensures failed { IfErr result (λ none. IsFailure none.status) }
+{
+    let bound = match bind_apart(machine, host, past, at.0, at.1) {
+        Ok(bound) => bound,
+        Err(none) => {
+            return Err(NoNode {
+                status: none.report(err),
+                is_stranded: true,
+            });
+        }
+    };
+    let first_id = bound.pair.first_id;
+    let Ok(bound_node) = bound_client(alloc, bound.link, bound.address, first_id) else {
+        return Err(NoNode {
+            status: no_memory(err),
+            is_stranded: false,
+        });
+    };
+    Ok(bound_node)
 }
 
 /// The port of a link address (clause J.1.2).
@@ -197,18 +264,14 @@ impl<'m, M: ClientSockets> Client<'m, M> {
         ensures clock { IfOk result (λ c. OnClock M.is_made M.Timer.told (M.Timer.told c.station.clock)) }
         ensures failed { IfErr result IsFailure }
     {
-        let past = PastPorts::new(alloc);
         // it begins at 0, before the share of the port is over
         let Some(clock) = machine.timer() else {
             return Err(clock_unread(err));
         };
-        let bound = match bind_apart(machine, host, &past, 0, None) {
-            Ok(bound) => bound,
-            Err(none) => return Err(none.report(err)),
-        };
-        let first_id = bound.pair.first_id;
-        let Ok(bound_node) = bound_client(alloc, bound.link, bound.address, first_id) else {
-            return Err(no_memory(err));
+        let past = PastPorts::new(alloc);
+        let bound_node = match new_node(alloc, machine, host, &past, (0, None), err) {
+            Ok(bound_node) => bound_node,
+            Err(none) => return Err(none.status),
         };
         let station = Station {
             alloc,
@@ -309,20 +372,17 @@ impl<'m, M: ClientSockets> Client<'m, M> {
         let node = self.station.bound_node.node();
         let now = node.latest();
         let own = node.link();
-        let bound = match bind_apart(self.machine, host, &self.past, now, Some(own)) {
-            Ok(bound) => bound,
+        let at = (now, Some(own));
+        let bound_node = match new_node(alloc, self.machine, host, &self.past, at, err) {
+            Ok(bound_node) => bound_node,
             Err(none) => {
-                self.is_stranded = true;
-                return Err(none.report(err));
+                self.is_stranded = none.is_stranded;
+                return Err(none.status);
             }
         };
         if self.past.leave(port_of(own), now).is_err() {
             return Err(no_memory(err));
         }
-        let first_id = bound.pair.first_id;
-        let Ok(bound_node) = bound_client(alloc, bound.link, bound.address, first_id) else {
-            return Err(no_memory(err));
-        };
         self.since = self.since.max(now);
         Ok(mem::replace(&mut self.station.bound_node, bound_node))
     }

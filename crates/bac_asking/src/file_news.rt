@@ -28,6 +28,8 @@ pub(crate) enum FileNews<'a> {
     NotRead(usize, &'a [u8]),
     /// So many octets of so many were put, for that reason.
     NotPut(usize, usize, &'a [u8]),
+    /// The peer has so many octets as before, which are more than were to be put: its file-size was not written, for that reason.
+    NotCut(u64, &'a [u8]),
 }
 
 /// Writes what came of it, without the reason that may stand behind.
@@ -47,6 +49,10 @@ fn write_news<O: Write>(news: &FileNews<'_>, out: &mut O) -> io::Result<()> {
         FileNews::NotPut(written, count, _) => {
             write!(out, "{written} of {count} octets were written: ")
         }
+        FileNews::NotCut(there, _) => write!(
+            out,
+            "remains unchanged: {there} octets, and its file-size was not written: "
+        ),
     }
 }
 
@@ -55,6 +61,7 @@ fn reason_of<'a>(news: &FileNews<'a>) -> &'a [u8] {
     match news {
         FileNews::NotRead(_, why) => *why,
         FileNews::NotPut(_, _, why) => *why,
+        FileNews::NotCut(_, why) => *why,
         _ => &[],
     }
 }

@@ -9,11 +9,7 @@ ghost use Rattle.bac_environment.specs.Sockets.{OnPort};
 use crate::asking::Asking;
 use crate::client::Client;
 use crate::client_sockets::ClientSockets;
-use crate::fleet::Fleet;
-use crate::flights::Flights;
-use crate::peers::share_of;
-use crate::rota::Rota;
-use crate::window::{Plan, Traffic, end_line, part_with_all};
+use crate::window::{Plan, Traffic, end_line, part_with_all, set_out};
 use bac_driver::AskEnd;
 use bac_lists::LineQuestion;
 use bac_text::{Status, no_memory};
@@ -44,11 +40,11 @@ fn end_all_lines<M: ClientSockets, E: Write>(
 /// A client asks what lines ask, so many at once. Returns how each ask ended, in the order of the lines; nothing of that is printed.
 ///
 /// If the link, the clock or an allocation fails, prints why on `err`, and returns the status.
-pub fn gather<M: ClientSockets, E: Write>(
-    asking: &Asking,
+pub fn gather<'a, M: ClientSockets, E: Write>(
+    asking: &'a Asking,
     window: u64,
     client: &mut Client<'_, M>,
-    lines: &[LineQuestion],
+    lines: &'a [LineQuestion],
     err: &mut E,
 ) -> Result<Vec<AskEnd>, Status>
     ensures gathered { IfOk result (λ ends. Gathers (OnPort M.is_bound M.Link.failures M.Link.calls) asking.now window lines.now ends.items
@@ -56,25 +52,8 @@ pub fn gather<M: ClientSockets, E: Write>(
         (timed client.new.station.bound_node (M.Timer.told client.new.station.clock))) }
     ensures failed { IfErr result IsFailure }
 {
-    let alloc = client.station.alloc;
-    let Ok(share) = share_of(alloc, window, lines) else {
-        return Err(no_memory(err));
-    };
-    let Ok(flights) = Flights::new(alloc, lines) else {
-        return Err(no_memory(err));
-    };
-    let plan = Plan {
-        asking,
-        lines,
-        window,
-        share,
-    };
-    let mut traffic = Traffic {
-        fleet: Fleet::new(alloc),
-        flights,
-        rota: Rota::new(),
-    };
-    let ends = end_all_lines(&plan, client, &mut traffic, err)?;
-    part_with_all(client, traffic.fleet.into_leaving(), err)?;
+    let mut ahead = set_out(client.station.alloc, asking, window, lines, err)?;
+    let ends = end_all_lines(&ahead.plan, client, &mut ahead.traffic, err)?;
+    part_with_all(client, ahead.traffic.fleet.into_leaving(), err)?;
     Ok(ends)
 }

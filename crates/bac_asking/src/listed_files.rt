@@ -5,7 +5,7 @@ ghost use Rattle.bac_text.specs.Statuses.{IsStop};
 use crate::asking::Asking;
 use crate::client::Client;
 use crate::client_sockets::ClientSockets;
-use crate::peer_file::{ask_words, end_words, reply_of};
+use crate::peer_file::{Asked, ask_words, end_words, reply_of};
 use bac_environment::print_bad_name;
 use bac_npdu::Peer;
 use bac_service::{AnyComplex, AnyReply, Reply};
@@ -71,6 +71,40 @@ fn files_in(
 const ADVICE: &[u8] =
     b"--device N reads the list of device N; arguments such as file:1 name files\n";
 
+/// A client asks for the object-list of the device with this instance. Answers how that ended.
+fn ask_list<M: ClientSockets, E: Write>(
+    asking: &Asking,
+    client: &mut Client<'_, M>,
+    peer: Peer,
+    device: u64,
+    err: &mut E,
+) -> Result<Asked, Status>
+    ensures told { IfErr result IsStop }
+{
+    let Ok(object) = format!(in client.station.alloc; "device:{device}") else {
+        return Err(no_memory(err));
+    };
+    let words = ["read", object.as_str(), "object-list"];
+    ask_words(asking, client, peer, &words, err)
+}
+
+/// Tells how the ask for the list ended, where that was not with a list.
+fn tell_unlisted<E: Write>(alloc: Global, asked: &Asked, err: &mut E) -> Result<(), Status>
+    ensures told { IfErr result IsStop }
+{
+    let Ok(words) = end_words(alloc, asked) else {
+        return Err(no_memory(err));
+    };
+    // if that fails too, only the status is left
+    let _ = err.write_all(b"object-list: ");
+    let _ = err.write_all(&words);
+    let _ = err.write_all(b"\n");
+    if reply_of(&asked.end).is_some() {
+        let _ = err.write_all(ADVICE);
+    }
+    Ok(())
+}
+
 /// The files that a peer lists, in the object-list of the device with this instance. None where it does not answer with that: `err` says how the ask ended.
 pub(crate) fn listed_files<M: ClientSockets, E: Write>(
     asking: &Asking,
@@ -82,25 +116,13 @@ pub(crate) fn listed_files<M: ClientSockets, E: Write>(
     ensures told { IfErr result IsStop }
 {
     let alloc = client.station.alloc;
-    let Ok(object) = format!(in alloc; "device:{device}") else {
-        return Err(no_memory(err));
-    };
-    let words = ["read", object.as_str(), "object-list"];
-    let asked = ask_words(asking, client, peer, &words, err)?;
-    let Ok(files) = files_in(alloc, reply_of(&asked.end)) else {
-        return Err(no_memory(err));
-    };
-    if files.is_none() {
-        let Ok(words) = end_words(alloc, &asked) else {
-            return Err(no_memory(err));
-        };
-        // if that fails too, only the status is left
-        let _ = err.write_all(b"object-list: ");
-        let _ = err.write_all(&words);
-        let _ = err.write_all(b"\n");
-        if reply_of(&asked.end).is_some() {
-            let _ = err.write_all(ADVICE);
+    let asked = ask_list(asking, client, peer, device, err)?;
+    match files_in(alloc, reply_of(&asked.end)) {
+        Ok(Some(files)) => Ok(Some(files)),
+        Ok(None) => {
+            tell_unlisted(alloc, &asked, err)?;
+            Ok(None)
         }
+        Err(_) => Err(no_memory(err)),
     }
-    Ok(files)
 }

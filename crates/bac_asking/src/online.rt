@@ -1,17 +1,19 @@
 //! Nodes on links of the machine: what `ask` and `pair` do.
-ghost use Rattle.std.specs.Prelude.{◌≡◌, map};
+ghost use Rattle.std.specs.Prelude.{◌≡◌, map, IfErr, IfOk};
 ghost use Rattle.bac_npdu.specs.Views.{peer_view};
 ghost use Rattle.bac_commands.specs.Questions.{ReadsQuestion};
 ghost use Rattle.bac_asking.specs.AskedOne.{IsAsked, ReadsAsked, is_printed_by};
-ghost use Rattle.bac_asking.specs.Online.{IsPair};
+ghost use Rattle.bac_asking.specs.Online.{IsHouseAt, IsPair};
 ghost use Rattle.bac_environment.specs.Sockets.{OnClock, OnPort};
+ghost use Rattle.bac_driver.specs.Udp.{LOCAL_HOST};
 ghost use Rattle.bac_driver.specs.Views.{question_view};
+ghost use Rattle.bac_text.specs.Statuses.{IsFailure};
 
 use crate::asking::Asking;
 use crate::client_sockets::ClientSockets;
 use crate::rounds::{Asked, ask_by_client};
 use bac_commands::{Style, bound_house, clock_unread, read_question};
-use bac_driver::Question;
+use bac_driver::{BoundNode, Question};
 use bac_environment::{Environment, OpenFiles, print_no_link};
 use bac_guard::Guard;
 use bac_lists::{LOCAL_HOST, print_bad_words};
@@ -86,6 +88,27 @@ pub(crate) fn ask<F: OpenFiles, M: ClientSockets, O: Write, E: Write>(
     ask_by_client(alloc, environment.machine, asking, &asked, out, err)
 }
 
+/// A new node with the house store, at a free port of this machine. Where there is none, `err` and the status say so.
+fn house_here<M: ClientSockets, E: Write>(
+    alloc: Global,
+    machine: &M,
+    err: &mut E,
+) -> Result<BoundNode<M::Link>, Status>
+    ensures house { IfOk result (λ b. IsHouseAt (OnPort M.is_bound M.Link.failures M.Link.calls) LOCAL_HOST 0 b) }
+    ensures failed { IfErr result IsFailure }
+{
+    let guard = Guard::open();
+    let bound = match machine.bind(LOCAL_HOST, 0, &guard) {
+        Ok(bound) => bound,
+        Err(error) => return Err(print_no_link(LOCAL_HOST, 0, &error, err)),
+    };
+    let address = bound.1;
+    let Ok(bound_node) = bound_house(alloc, bound.0, address, 0) else {
+        return Err(no_memory(err));
+    };
+    Ok(bound_node)
+}
+
 /// Binds two new nodes to free ports, and one asks the other; prints both results.
 pub fn pair<M: ClientSockets, O: Write, E: Write>(
     alloc: Global,
@@ -96,25 +119,16 @@ pub fn pair<M: ClientSockets, O: Write, E: Write>(
     ensures { IsPair (OnPort M.is_bound M.Link.failures M.Link.calls) (OnClock M.is_made M.Timer.told) result
         (O.contents out.old) (O.contents out.new) }
 {
-    let guard = Guard::open();
-    let bound = match machine.bind(LOCAL_HOST, 0, &guard) {
-        Ok(bound) => bound,
-        Err(error) => return print_no_link(LOCAL_HOST, 0, &error, err),
+    let mut first = match house_here(alloc, machine, err) {
+        Ok(first) => first,
+        Err(status) => return status,
     };
-    let other_bound = match machine.bind(LOCAL_HOST, 0, &guard) {
-        Ok(other_bound) => other_bound,
-        Err(error) => return print_no_link(LOCAL_HOST, 0, &error, err),
+    let mut second = match house_here(alloc, machine, err) {
+        Ok(second) => second,
+        Err(status) => return status,
     };
     let Some(mut timer) = machine.timer() else {
         return clock_unread(err);
     };
-    let address = bound.1;
-    let Ok(mut bound_node) = bound_house(alloc, bound.0, address, 0) else {
-        return no_memory(err);
-    };
-    let other_address = other_bound.1;
-    let Ok(mut other) = bound_house(alloc, other_bound.0, other_address, 0) else {
-        return no_memory(err);
-    };
-    bac_commands::pair(alloc, &mut bound_node, &mut other, &mut timer, out, err)
+    bac_commands::pair(alloc, &mut first, &mut second, &mut timer, out, err)
 }

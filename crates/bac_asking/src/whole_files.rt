@@ -6,17 +6,23 @@ use crate::asking::Asking;
 use crate::client::Client;
 use crate::client_sockets::ClientSockets;
 use crate::file_task::FileTask;
-use crate::peer_file::{Asked, PeerFile};
+use crate::peer_file::PeerFile;
 use crate::reasons::print_unwritten;
-use crate::recording::{print_ask, print_header};
+use crate::recording::print_header;
 use crate::whole_reading::{Got, read_whole, whole_end};
-use crate::whole_writing::{Put, size_of, write_whole, written_end};
+use crate::whole_writing::{Put, replace_whole, size_of, written_end};
 use bac_commands::Style;
-use bac_driver::AskEnd;
+use bac_driver::{AskEnd, Question};
 use bac_environment::{Environment, OpenFiles, octets_of, opened};
-use bac_lists::NO_LINE;
 use bac_text::{Status, no_memory, output_failed};
 use std::io::Write;
+
+/// The file that a whole file is written to.
+#[derive(Drop)]
+struct Target<'e, F> {
+    files: &'e F,
+    path: &'e str,
+}
 
 /// A client of a task's machine, at the address that its peer sees.
 pub(crate) fn client_of<'e, F: OpenFiles, M: ClientSockets, E: Write>(
@@ -29,11 +35,12 @@ pub(crate) fn client_of<'e, F: OpenFiles, M: ClientSockets, E: Write>(
     Client::new(environment.alloc, environment.machine, asking.host, err)
 }
 
-/// Prints how an ask ended as `ask` does, below what stands above records. Answers whether it succeeded.
+/// Prints how the ask of a question ended as `ask` does, below what stands above records. Answers whether it succeeded.
 fn print_asked<M: ClientSockets, O: Write, E: Write>(
     asking: &Asking,
     client: &Client<'_, M>,
-    asked: &Asked,
+    question: &Question,
+    end: &AskEnd,
     out: &mut O,
     err: &mut E,
 ) -> Result<bool, Status>
@@ -41,27 +48,25 @@ fn print_asked<M: ClientSockets, O: Write, E: Write>(
 {
     let alloc = client.station.alloc;
     print_header(alloc, asking, out, err)?;
-    let printer = client.printer(asking);
-    print_ask(&printer, NO_LINE, &asked.question, &asked.end, out, err)
+    client.print_end(asking, question, end, out, err)
 }
 
 /// Writes octets to a file, and says how many. Where they cannot be written, `err` and the status say so.
 fn write_out<F: OpenFiles, O: Write, E: Write>(
-    files: &F,
-    path: &str,
+    target: &Target<'_, F>,
     octets: &[u8],
     out: &mut O,
     err: &mut E,
-) -> Result<(), Status>
+) -> Result<bool, Status>
     ensures told { IfErr result IsStop }
 {
-    if let Err(error) = files.write_out(path, octets) {
-        return Err(print_unwritten(path, &error, err));
+    if let Err(error) = target.files.write_out(target.path, octets) {
+        return Err(print_unwritten(target.path, &error, err));
     }
     let count = octets.len();
     let written = writeln!(out, "got {count} octets");
     match written {
-        Ok(()) => Ok(()),
+        Ok(()) => Ok(true),
         Err(error) => Err(output_failed(err, &error)),
     }
 }
@@ -77,9 +82,8 @@ fn print_whole<M: ClientSockets, O: Write, E: Write>(
     ensures told { IfErr result IsStop }
 {
     let Got { octets, last, .. } = got;
-    let Asked { question, .. } = last;
     match whole_end(octets) {
-        Some(end) => print_asked(asking, client, &Asked { question, end }, out, err),
+        Some(end) => print_asked(asking, client, &last.question, &end, out, err),
         None => Err(no_memory(err)),
     }
 }
@@ -101,7 +105,7 @@ fn print_stopped<M: ClientSockets, O: Write, E: Write>(
     ensures told { IfErr result IsStop }
 {
     if is_printed(asking, got) {
-        print_asked(asking, client, &got.last, out, err)?;
+        print_asked(asking, client, &got.last.question, &got.last.end, out, err)?;
     }
     let count = got.octets.len();
     // if that fails too, only the status is left
@@ -110,6 +114,43 @@ fn print_stopped<M: ClientSockets, O: Write, E: Write>(
         None => writeln!(err, "{object}: read stopped after {count} octets"),
     };
     Ok(false)
+}
+
+/// A client reads a file of a peer as a whole, which is printed as the answer to one read of all of it. Answers whether it was read to its end.
+fn show_whole<M: ClientSockets, O: Write, E: Write>(
+    asking: &Asking,
+    client: &mut Client<'_, M>,
+    file: &PeerFile<'_>,
+    out: &mut O,
+    err: &mut E,
+) -> Result<bool, Status>
+    ensures told { IfErr result IsStop }
+{
+    let got = read_whole(asking, client, file, err)?;
+    if got.is_whole {
+        print_whole(asking, client, got, out, err)
+    } else {
+        print_stopped(asking, client, file.object, &got, out, err)
+    }
+}
+
+/// The same, but it is written to a file.
+fn copy_whole<F: OpenFiles, M: ClientSockets, O: Write, E: Write>(
+    target: &Target<'_, F>,
+    asking: &Asking,
+    client: &mut Client<'_, M>,
+    file: &PeerFile<'_>,
+    out: &mut O,
+    err: &mut E,
+) -> Result<bool, Status>
+    ensures told { IfErr result IsStop }
+{
+    let got = read_whole(asking, client, file, err)?;
+    if got.is_whole {
+        write_out(target, &got.octets, out, err)
+    } else {
+        print_stopped(asking, client, file.object, &got, out, err)
+    }
 }
 
 /// A client reads a file of a peer as a whole. It is printed as the answer to one read of all of it, or written to the file at a path. Answers whether it was
@@ -126,68 +167,130 @@ pub(crate) fn get<F: OpenFiles, M: ClientSockets, O: Write, E: Write>(
 {
     let asking = &task.asking;
     let peer = task.peer;
+    let file = PeerFile { peer, object };
+    let files = environment.files;
     let mut client = client_of(environment, asking, err)?;
-    let got = read_whole(asking, &mut client, &PeerFile { peer, object }, err)?;
-    if !got.is_whole {
-        return print_stopped(asking, &client, object, &got, out, err);
-    }
     match path {
         Some(path) => {
-            write_out(environment.files, path, &got.octets, out, err)?;
-            Ok(true)
+            let target = Target { files, path };
+            copy_whole(&target, asking, &mut client, &file, out, err)
         }
-        None => print_whole(asking, &client, got, out, err),
+        None => show_whole(asking, &mut client, &file, out, err),
     }
 }
 
-/// Prints how the writing of a file ended: the first write where all were performed, otherwise the last, and how many octets were written.
+/// Says of a file that was not put as a whole what stands there.
+fn tell_unput<E: Write>(of: (&str, usize), put: &Put, err: &mut E) {
+    let (object, count) = of;
+    let written = put.count;
+    // if that fails too, only the status is left
+    let _ = match put.uncut {
+        Some(there) => writeln!(
+            err,
+            "{object} remains unchanged: {there} octets, and its file-size was not written"
+        ),
+        None => writeln!(err, "{object}: {written} of {count} octets were written"),
+    };
+}
+
+/// Prints how the writing of a file ended: the first write where all were performed, otherwise the last, and what stands there then. Answers whether all were.
 fn print_put<M: ClientSockets, O: Write, E: Write>(
     asking: &Asking,
     client: &Client<'_, M>,
     of: (&str, usize),
-    put: Put,
+    put: &Put,
     out: &mut O,
     err: &mut E,
 ) -> Result<bool, Status>
     ensures told { IfErr result IsStop }
 {
-    let (object, count) = of;
-    let Asked { question, end } = put.last;
-    let end: AskEnd = if put.is_whole { written_end() } else { end };
-    print_asked(asking, client, &Asked { question, end }, out, err)?;
-    if !put.is_whole {
-        let written = put.count;
-        // if that fails too, only the status is left
-        let _ = writeln!(err, "{object}: {written} of {count} octets were written");
+    let question = &put.last.question;
+    if put.is_whole {
+        return print_asked(asking, client, question, &written_end(), out, err);
     }
-    Ok(put.is_whole)
+    print_asked(asking, client, question, &put.last.end, out, err)?;
+    tell_unput(of, put, err);
+    Ok(false)
 }
 
-/// Says where a file stays longer than what was put into it.
-fn print_longer<M: ClientSockets, E: Write>(
+/// Whether a file has no more octets than were put into it; where it has more, or does not tell, `err` says so.
+fn has_no_more<M: ClientSockets, E: Write>(
     asking: &Asking,
     client: &mut Client<'_, M>,
     file: &PeerFile<'_>,
     count: usize,
     err: &mut E,
-) -> Result<(), Status>
+) -> Result<bool, Status>
     ensures told { IfErr result IsStop }
 {
     let object = file.object;
-    match size_of(asking, client, file, err)? {
-        Some(size) if size > count as u64 => {
-            // if that fails too, only the status is left
-            let _ = writeln!(
-                err,
-                "{object} remains longer: {size} octets, of which the first {count} were written"
-            );
-            Ok(())
-        }
-        _ => Ok(()),
-    }
+    // if that fails too, only the status is left
+    let _ = match size_of(asking, client, file, err)? {
+        Some(size) if size <= count as u64 => return Ok(true),
+        Some(size) => writeln!(
+            err,
+            "{object} remains longer: {size} octets, of which the first {count} were written"
+        ),
+        None => writeln!(
+            err,
+            "{object}: {count} octets were written; file-size was not read, so more may follow"
+        ),
+    };
+    Ok(false)
 }
 
-/// A client writes the octets of a file into one of a peer, from position 0 on. Answers whether all were written; `err` says where the file stays longer.
+/// A client writes octets to a file of a peer, from position 0 on. Prints how that ended. Answers whether all were written.
+fn put_octets<M: ClientSockets, O: Write, E: Write>(
+    asking: &Asking,
+    client: &mut Client<'_, M>,
+    file: &PeerFile<'_>,
+    octets: &[u8],
+    out: &mut O,
+    err: &mut E,
+) -> Result<bool, Status>
+    ensures told { IfErr result IsStop }
+{
+    let put = replace_whole(asking, client, file, octets, err)?;
+    print_put(asking, client, (file.object, octets.len()), &put, out, err)
+}
+
+/// The same, and looks whether the file has more then. Answers whether it has these octets, and no more.
+fn put_and_look<M: ClientSockets, O: Write, E: Write>(
+    asking: &Asking,
+    client: &mut Client<'_, M>,
+    file: &PeerFile<'_>,
+    octets: &[u8],
+    out: &mut O,
+    err: &mut E,
+) -> Result<bool, Status>
+    ensures told { IfErr result IsStop }
+{
+    if !put_octets(asking, client, file, octets, out, err)? {
+        return Ok(false);
+    }
+    has_no_more(asking, client, file, octets.len(), err)
+}
+
+/// A new client does so.
+fn put_by_client<F: OpenFiles, M: ClientSockets, O: Write, E: Write>(
+    environment: &Environment<'_, F, M>,
+    task: &FileTask,
+    object: &str,
+    octets: &[u8],
+    out: &mut O,
+    err: &mut E,
+) -> Result<bool, Status>
+    ensures told { IfErr result IsStop }
+{
+    let asking = &task.asking;
+    let peer = task.peer;
+    let file = PeerFile { peer, object };
+    let mut client = client_of(environment, asking, err)?;
+    put_and_look(asking, &mut client, &file, octets, out, err)
+}
+
+/// A client writes the octets of a file into one of a peer, which has these octets then and no others; the answer is whether it has. Where it has not, `err` says
+/// what stands there.
 pub(crate) fn put<F: OpenFiles, M: ClientSockets, O: Write, E: Write>(
     environment: &Environment<'_, F, M>,
     task: &FileTask,
@@ -198,17 +301,7 @@ pub(crate) fn put<F: OpenFiles, M: ClientSockets, O: Write, E: Write>(
 ) -> Result<bool, Status>
     ensures told { IfErr result IsStop }
 {
-    let peer = task.peer;
-    let asking = &task.asking;
     let file = opened(environment.files, path, err)?;
     let octets = octets_of(environment.alloc, path, file, err)?;
-    let mut client = client_of(environment, asking, err)?;
-    let file = PeerFile { peer, object };
-    let put = write_whole(asking, &mut client, &file, &octets, err)?;
-    let count = octets.len();
-    if !print_put(asking, &client, (object, count), put, out, err)? {
-        return Ok(false);
-    }
-    print_longer(asking, &mut client, &file, count, err)?;
-    Ok(true)
+    put_by_client(environment, task, object, &octets, out, err)
 }

@@ -6,6 +6,7 @@ use crate::asking::Asking;
 use crate::client::Client;
 use crate::client_sockets::ClientSockets;
 use crate::peer_file::{Asked, PeerFile, ask_part, part_in, wants_smaller};
+use bac_commands::link_fault;
 use bac_driver::AskEnd;
 use bac_files::{Gathering, PartFault, PartSize};
 use bac_requester::Ending;
@@ -39,17 +40,6 @@ impl Reading {
         (self.gathering.next_start(), self.size)
     }
 
-    /// The next part is asked for in a smaller size; false where there is none.
-    fn shrink(&mut self) -> bool {
-        match self.size.smaller() {
-            Some(size) => {
-                self.size = size;
-                true
-            }
-            None => false,
-        }
-    }
-
     /// Takes how a read ended. Answers whether another part is asked for.
     fn hear(&mut self, end: &AskEnd) -> bool {
         match part_in(end) {
@@ -60,7 +50,7 @@ impl Reading {
                     false
                 }
             },
-            None => wants_smaller(end) && self.shrink(),
+            None => wants_smaller(end) && self.size.shrink(),
         }
     }
 }
@@ -107,14 +97,13 @@ pub(crate) fn read_whole<M: ClientSockets, E: Write>(
     ensures told { IfErr result IsStop }
 {
     let mut reading = Reading::new(client.station.alloc);
-    let mut last = ask_part(asking, client, file, reading.next_part(), err)?;
     for _ in 0..u64::MAX {
+        let last = ask_part(asking, client, file, reading.next_part(), err)?;
         if !reading.hear(&last.end) {
-            break;
+            return got_so_far(reading, last, err);
         }
-        last = ask_part(asking, client, file, reading.next_part(), err)?;
     }
-    got_so_far(reading, last, err)
+    Err(link_fault(err))
 }
 
 /// The end of an ask that is answered with all octets of a file.

@@ -8,6 +8,7 @@ use crate::client_sockets::ClientSockets;
 use crate::peer_file::{
     Asked, PeerFile, ask_words, position_in, put_part, reply_of, wants_smaller,
 };
+use bac_commands::link_fault;
 use bac_driver::AskEnd;
 use bac_files::{PartSize, part_at};
 use bac_requester::Ending;
@@ -31,17 +32,6 @@ impl Writing {
         (self.count as u64, part)
     }
 
-    /// The next part is written in a smaller size; false where there is none.
-    fn shrink(&mut self) -> bool {
-        match self.size.smaller() {
-            Some(size) => {
-                self.size = size;
-                true
-            }
-            None => false,
-        }
-    }
-
     /// Whether an ask was answered with the position of the part that is written next.
     fn is_written(&self, end: &AskEnd) -> bool {
         match (position_in(end), i64::try_from(self.count)) {
@@ -57,7 +47,7 @@ impl Writing {
             self.count = self.count.saturating_add(part.len());
             return self.count < octets.len();
         }
-        wants_smaller(end) && self.shrink()
+        wants_smaller(end) && self.size.shrink()
     }
 }
 
@@ -68,13 +58,27 @@ pub(crate) struct Put {
     pub count: usize,
     /// Whether these are all.
     pub is_whole: bool,
+    /// How many octets the file has, where it is longer than these and was not emptied, so that nothing was written.
+    pub uncut: Option<u64>,
     /// The last write, and how it ended.
     pub last: Asked,
 }
 
+/// What was written of some octets, by the last write and how it ended.
+fn put_so_far(writing: Writing, octets: &[u8], last: Asked) -> Put {
+    let count = writing.count;
+    let is_whole = count == octets.len() && position_in(&last.end).is_some();
+    Put {
+        count,
+        is_whole,
+        uncut: None,
+        last,
+    }
+}
+
 /// A client writes octets to a file from position 0 on, part after part; where the peer aborts a write for its length, in smaller parts from then on. It stops
 /// at the first write that is not performed. No octets are one write of none.
-pub(crate) fn write_whole<M: ClientSockets, E: Write>(
+fn write_whole<M: ClientSockets, E: Write>(
     asking: &Asking,
     client: &mut Client<'_, M>,
     file: &PeerFile<'_>,
@@ -87,20 +91,73 @@ pub(crate) fn write_whole<M: ClientSockets, E: Write>(
         count: 0,
         size: PartSize::Apdu1476,
     };
-    let mut last = put_part(asking, client, file, writing.next_part(octets), err)?;
     for _ in 0..u64::MAX {
+        let last = put_part(asking, client, file, writing.next_part(octets), err)?;
         if !writing.hear(octets, &last.end) {
-            break;
+            return Ok(put_so_far(writing, octets, last));
         }
-        last = put_part(asking, client, file, writing.next_part(octets), err)?;
     }
-    let count = writing.count;
-    let is_whole = count == octets.len() && position_in(&last.end).is_some();
-    Ok(Put {
-        count,
-        is_whole,
+    Err(link_fault(err))
+}
+
+/// The words of the number 0 in a write: Unsigned, of one octet (clause 20.2.4).
+const NO_OCTETS: &str = "2100";
+
+/// A client empties a file that is longer than what is put into it: it writes the file-size (clause 12.13). Devices that let a file be cut at all take 0; and
+/// where the writing stops then, no rest of the old octets stands behind the new ones. Answers what was written where the file was not emptied.
+fn empty<M: ClientSockets, E: Write>(
+    asking: &Asking,
+    client: &mut Client<'_, M>,
+    file: &PeerFile<'_>,
+    there: u64,
+    err: &mut E,
+) -> Result<Option<Put>, Status>
+    ensures told { IfErr result IsStop }
+{
+    let words = ["write", file.object, "file-size", NO_OCTETS];
+    let last = ask_words(asking, client, file.peer, &words, err)?;
+    let is_empty = matches!(reply_of(&last.end), Some(AnyReply::Simple));
+    if is_empty {
+        return Ok(None);
+    }
+    Ok(Some(Put {
+        count: 0,
+        is_whole: false,
+        uncut: Some(there),
         last,
-    })
+    }))
+}
+
+/// The same of a file with so many octets at most, as its file-size says: it stays as it is.
+fn make_room<M: ClientSockets, E: Write>(
+    asking: &Asking,
+    client: &mut Client<'_, M>,
+    file: &PeerFile<'_>,
+    count: usize,
+    err: &mut E,
+) -> Result<Option<Put>, Status>
+    ensures told { IfErr result IsStop }
+{
+    match size_of(asking, client, file, err)? {
+        Some(there) if there > count as u64 => empty(asking, client, file, there, err),
+        _ => Ok(None),
+    }
+}
+
+/// A client writes octets to a file as all that it is to have: where it is longer, it is emptied first. Where that fails, nothing is written.
+pub(crate) fn replace_whole<M: ClientSockets, E: Write>(
+    asking: &Asking,
+    client: &mut Client<'_, M>,
+    file: &PeerFile<'_>,
+    octets: &[u8],
+    err: &mut E,
+) -> Result<Put, Status>
+    ensures told { IfErr result IsStop }
+{
+    match make_room(asking, client, file, octets.len(), err)? {
+        Some(put) => Ok(put),
+        None => write_whole(asking, client, file, octets, err),
+    }
 }
 
 /// The end of an ask that is answered with position 0.

@@ -4,8 +4,8 @@ ghost use Rattle.bac_driver.specs.Runs.{timed};
 ghost use Rattle.bac_driver.specs.Views.{question_view};
 ghost use Rattle.bac_text.specs.Statuses.{IsFailure};
 ghost use Rattle.bac_asking.specs.Clients.{IsRenewed};
-ghost use Rattle.bac_asking.specs.Fleets.{next_fleet};
-ghost use Rattle.bac_asking.specs.InFlight.{AsksAhead, BeginsAsk, BeginsNext, BeginsOn, EndsLine, Goes, IsBegun, IsNoted, IsWithin, NodesGo, TellsLine, TriesToBegin, aloft, plan_view, sky};
+ghost use Rattle.bac_asking.specs.Fleets.{NEW_FLEET, next_fleet};
+ghost use Rattle.bac_asking.specs.InFlight.{AsksAhead, BeginsAsk, BeginsNext, BeginsOn, EndsLine, Goes, IsBegun, IsNewSky, IsNoted, IsPlanned, IsWithin, NodesGo, TellsAll, TellsLine, TriesToBegin, aloft, plan_view, sky};
 ghost use Rattle.bac_environment.specs.Sockets.{OnPort};
 
 use crate::asking::Asking;
@@ -25,6 +25,7 @@ use bac_lists::LineQuestion;
 use bac_npdu::LinkAddress;
 use bac_requester::AskFault;
 use bac_text::{Status, no_memory};
+use std::alloc::Global;
 use std::io::Write;
 
 /// What is asked.
@@ -48,6 +49,13 @@ pub(crate) struct Traffic<L: Link> {
     pub flights: Flights,
     /// Whose turn it is among them.
     pub rota: Rota,
+}
+
+/// What is asked of lines, several at once, and how far that is.
+#[derive(Drop)]
+pub(crate) struct Ahead<'a, L: Link> {
+    pub plan: Plan<'a>,
+    pub traffic: Traffic<L>,
 }
 
 /// So many milliseconds a turn waits at the most while nodes leave, since each of them is to have its turn.
@@ -522,12 +530,68 @@ pub(crate) fn part_with_all<M: ClientSockets, E: Write>(
     Ok(())
 }
 
+/// What is asked of lines, so many at once, before any is: all of them wait, and the first node asks. Where memory is refused, `err` and the status say so.
+pub(crate) fn set_out<'a, L: Link, E: Write>(
+    alloc: Global,
+    asking: &'a Asking,
+    window: u64,
+    lines: &'a [LineQuestion],
+    err: &mut E,
+) -> Result<Ahead<'a, L>, Status>
+    ensures plan { IfOk result (λ a. IsPlanned asking.now window lines.now (plan_view a.plan)) }
+    ensures fleet { IfOk result (λ a. a.traffic.fleet ≡ NEW_FLEET) }
+    ensures sky { IfOk result (λ a. IsNewSky lines.now (sky a.traffic.flights)) }
+    ensures failed { IfErr result IsFailure }
+{
+    let Ok(share) = share_of(alloc, window, lines) else {
+        return Err(no_memory(err));
+    };
+    let Ok(flights) = Flights::new(alloc, lines) else {
+        return Err(no_memory(err));
+    };
+    Ok(Ahead {
+        plan: Plan {
+            asking,
+            lines,
+            window,
+            share,
+        },
+        traffic: Traffic {
+            fleet: Fleet::new(alloc),
+            flights,
+            rota: Rota::new(),
+        },
+    })
+}
+
+/// A client asks until the ask of each line has ended; how it did is printed, in the order of the lines. Answers whether all succeeded.
+fn tell_each<M: ClientSockets, O: Write, E: Write>(
+    plan: &Plan<'_>,
+    client: &mut Client<'_, M>,
+    traffic: &mut Traffic<M::Link>,
+    out: &mut O,
+    err: &mut E,
+) -> Result<bool, Status>
+    ensures told { IfOk result (λ all. TellsAll (OnPort M.is_bound M.Link.failures M.Link.calls) (plan_view plan.now) all
+        (aloft (timed client.old.station.bound_node (M.Timer.told client.old.station.clock)) traffic.old.fleet (sky traffic.old.flights))
+        (aloft (timed client.new.station.bound_node (M.Timer.told client.new.station.clock)) traffic.new.fleet (sky traffic.new.flights))
+        (O.contents out.old) (O.contents out.new)) }
+    ensures failed { IfErr result IsFailure }
+{
+    let mut all = true;
+    for place in 0..plan.lines.len() {
+        let succeeded = tell_line(plan, client, traffic, place, out, err)?;
+        all = both(all, succeeded);
+    }
+    Ok(all)
+}
+
 /// A client asks what lines ask, several at once; how each ask ended is printed in the order of the lines. Answers whether all succeeded.
-pub(crate) fn ask_ahead<M: ClientSockets, O: Write, E: Write>(
-    asking: &Asking,
+pub(crate) fn ask_ahead<'a, M: ClientSockets, O: Write, E: Write>(
+    asking: &'a Asking,
     window: u64,
     client: &mut Client<'_, M>,
-    lines: &[LineQuestion],
+    lines: &'a [LineQuestion],
     out: &mut O,
     err: &mut E,
 ) -> Result<bool, Status>
@@ -537,29 +601,8 @@ pub(crate) fn ask_ahead<M: ClientSockets, O: Write, E: Write>(
         (O.contents out.old) (O.contents out.new)) }
     ensures failed { IfErr result IsFailure }
 {
-    let alloc = client.station.alloc;
-    let Ok(share) = share_of(alloc, window, lines) else {
-        return Err(no_memory(err));
-    };
-    let Ok(flights) = Flights::new(alloc, lines) else {
-        return Err(no_memory(err));
-    };
-    let plan = Plan {
-        asking,
-        lines,
-        window,
-        share,
-    };
-    let mut traffic = Traffic {
-        fleet: Fleet::new(alloc),
-        flights,
-        rota: Rota::new(),
-    };
-    let mut all = true;
-    for place in 0..lines.len() {
-        let succeeded = tell_line(&plan, client, &mut traffic, place, out, err)?;
-        all = both(all, succeeded);
-    }
-    part_with_all(client, traffic.fleet.into_leaving(), err)?;
+    let mut ahead = set_out(client.station.alloc, asking, window, lines, err)?;
+    let all = tell_each(&ahead.plan, client, &mut ahead.traffic, out, err)?;
+    part_with_all(client, ahead.traffic.fleet.into_leaving(), err)?;
     Ok(all)
 }

@@ -1,5 +1,5 @@
 -- The cells that a C program is told: what a store has now of a property, or of a file.
-use Rattle.std.specs.Prelude.{◌<◌, ℕ, zero, suc, Bool, ◌&&◌, ◌==◌, nat_lt, List, [], ◌∷◌, Option, Some, None, if◌then◌else◌}
+use Rattle.std.specs.Prelude.{◌<◌, ℕ, zero, suc, Bool, true, false, ◌&&◌, ◌==◌, nat_lt, List, [], ◌∷◌, Option, Some, None, if◌then◌else◌}
 use Rattle.bac_value.specs.Value.{ObjectId}
 use Rattle.bac_service.specs.Choices.{is_read_service}
 use Rattle.bac_service.specs.Values.{object_asked, property_asked, service_asked}
@@ -93,11 +93,12 @@ put_made s (Changed (Change.Value id n octets)) cells = put_all s id n cells
 put_made s (Changed (Change.File id octets)) cells = put_all s id CONTENTS cells
 
 -- clauses 20.2.14 and 23.1: an identifier has 32 bits, and the number of a property 22
-abbrev pub IsPlace : ObjectId → Option Reference → Type 0
-IsPlace id None = Fits id
-IsPlace id (Some r) = Fits id × (r.property < NUMBERS)
+abbrev pub IsPlace : (is_read : Bool) → ObjectId → Option Reference → Type 0
+IsPlace true id property = Unit {0}
+IsPlace false id None = Fits id
+IsPlace false id (Some r) = Fits id × (r.property < NUMBERS)
 
 abbrev pub HasPlaces : Made → Type 0
-HasPlaces (Performed r) = if is_read_service (service_asked r) then Unit {0} else IsPlace (object_asked r) (property_asked r)
+HasPlaces (Performed r) = IsPlace (is_read_service (service_asked r)) (object_asked r) (property_asked r)
 HasPlaces (Changed (Change.Value id n octets)) = Fits id × (n < NUMBERS)
 HasPlaces (Changed (Change.File id octets)) = Fits id

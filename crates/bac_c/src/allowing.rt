@@ -63,6 +63,7 @@ fn allowing(alloc: Global, object: Object, value: DataBuf) -> (Object, Result<()
     };
     let (allowed, done) = one_more(alloc, property.allowed, value);
     property.allowed = allowed;
+    // it was taken out above, so there is room
     object.properties.push_reserved(property);
     if done {
         (object, Ok(()))

@@ -49,6 +49,7 @@ impl Handle {
         // an empty handle takes its place, as none may be dropped or moved out of
         let Handle { held, parked } = std::mem::replace(self, Handle::none());
         if !held {
+            // nothing was in it
             vacate(parked);
             return None;
         }
@@ -61,6 +62,7 @@ impl Handle {
         ensures { self.new.parked.device ≡ Some boxed.value }
     {
         let Handle { held: _, parked } = std::mem::replace(self, Handle::of(boxed));
+        // nothing was in it
         vacate(parked);
     }
 }

@@ -27,6 +27,7 @@ fn limited(object: Object, least: DataBuf, greatest: DataBuf) -> (Object, bool)
         return (object, false);
     };
     property.allowed = Allowed::Between { least, greatest };
+    // it was taken out above, so there is room
     object.properties.push_reserved(property);
     (object, true)
 }

@@ -123,6 +123,7 @@ impl Device {
                 allowed: Allowed::Any,
             },
         );
+        // it was taken out above, so there is room
         self.listed.push_reserved(object);
         if done { Ok(()) } else { Err(Fault::NoMemory) }
     }
@@ -151,6 +152,7 @@ impl Device {
             return Err(Fault::BadObject);
         };
         object.file = Some(File { octets, writable });
+        // it was taken out above, so there is room
         self.listed.push_reserved(object);
         Ok(())
     }

@@ -72,6 +72,7 @@ fn file_out(
         file,
         access: ReadAccess::Stream {
             start: 0,
+            // as many as there are
             count: u64::MAX,
         },
     };

@@ -188,8 +188,8 @@ fn restore_cell(
 /// The store that a document and cells make, whose places rise. Cells of no property and no file of the document, or of one that may not be written, have no
 /// effect.
 ///
-/// Returns `Wrong` with the place of a cell that does not fit, and `NoMemory` if memory was refused. A property of the document may be one that can't
-/// have these values. Of a file a part may be missing or of another length than its place allows, or the octets may be too many.
+/// Returns `Wrong` with the place of a cell that does not fit, and `NoMemory` if memory was refused. It does not fit a property that can't have these
+/// values. It does not fit a file of which a part is missing or of another length than its place allows, or whose octets are too many.
 pub fn restored(alloc: Global, document: &Store, cells: &[Cell]) -> Result<Store, KeptFault>
     ensures made { IfOk result (λ s. IsRising cells.now → s ≡ overlay (held cells.now) document.now) }
     ensures fit { OnOk result (IsRising cells.now → AreFit document.now (held cells.now)) }

@@ -59,6 +59,7 @@ pub fn config_of(settings: &Settings) -> Result<Config, Fault>
     ensures wrong { OnErr result (IsTrue (is_right settings.now) → ⊥) }
     ensures bad { OnErr result (IsErrOf result Fault.BadSettings) }
 {
+    // another size is that of another version of the header
     if settings.size != SETTINGS_SIZE || !is_empty_room(&settings.later) {
         return Err(Fault::BadSettings);
     }

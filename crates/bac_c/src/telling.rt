@@ -77,6 +77,7 @@ fn part_out(
     }
     if index == count {
         *place = file_place(object, 0);
+        // the number of chunks is told last: at most 59, those of 60,000 octets
         return copy_out(&[count as u8], out);
     }
     0

@@ -17,7 +17,7 @@ pub(crate) const CHART: ChartOptions = ChartOptions {
     pairs: false,
 };
 
-/// The same, as a diagram of Mermaid.
+/// A diagram of Mermaid.
 pub(crate) const MERMAID: ChartOptions = ChartOptions {
     form: ChartFormat::Mermaid,
     ..CHART
@@ -29,7 +29,7 @@ pub(crate) const VALUES: ChartOptions = ChartOptions {
     ..CHART
 };
 
-/// The same, as a diagram of Mermaid.
+/// A diagram of Mermaid with values.
 pub(crate) const MERMAID_VALUES: ChartOptions = ChartOptions {
     values: true,
     ..MERMAID
@@ -41,7 +41,7 @@ pub(crate) const PAIRS: ChartOptions = ChartOptions {
     ..CHART
 };
 
-/// The same, with values, as diagrams of Mermaid.
+/// Diagrams of Mermaid with values, one for each pair.
 pub(crate) const MERMAID_PAIRS: ChartOptions = ChartOptions {
     pairs: true,
     ..MERMAID_VALUES
@@ -55,9 +55,9 @@ pub(crate) enum Print {
     Named,
     /// The transactions, as those options say.
     Explain(ReportOptions),
-    /// The same as objects of JSON.
+    /// The transactions as objects of JSON, as those options say.
     ExplainJson(ReportOptions),
-    /// The same as a page of HTML.
+    /// The transactions as a page of HTML, as those options say.
     ExplainHtml(ReportOptions),
     /// A chart of them, or charts.
     Chart(ChartOptions),

@@ -21,9 +21,9 @@ enum Kind {
     Seen(Print),
     /// A capture file of datagrams that are seen, behind a line of options.
     Selected,
-    /// The same, printed as objects of JSON.
+    /// A capture file as of `Selected`, printed as objects of JSON.
     SelectedJson,
-    /// The same, printed as a page of HTML.
+    /// A capture file as of `Selected`, printed as a page of HTML.
     SelectedHtml,
     /// A capture file in hexadecimal digits.
     File(Print),

@@ -1,7 +1,7 @@
 //! Rows of worlds that are made up from numbers: what `explain` says of their datagrams has to be what their logs say.
 //!
-//! A line `ask WORD..` is a request that nodes may ask in the worlds of the lines after it, in one APDU or in segments. Each other line is the number that a
-//! world is made up from; below it is printed how many of the world's asks were answered, or what is wrong, after `?`.
+//! A line `ask WORD..` is a request that nodes may ask in the worlds of the lines after it, in one APDU or in segments. Each other line is the number
+//! that a world is made up from. Below it is printed how many of the world's asks were answered, or what is wrong, after `?`.
 mod agreeing;
 mod capture;
 mod chance;

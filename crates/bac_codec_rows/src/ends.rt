@@ -1,7 +1,8 @@
 //! Lines of what an end sends and compares.
 //!
-//! `datagram PEER HEX` prints the datagram of an APDU, `abort REASON` that of an Abort, and `ack SIDE NUMBER TAKEN STEP` what answers a segment. `size CODE` and
-//! `segments CODE COUNT` print what fits, `keys PEER ID PEER ID` and `settings WINDOW WINDOW` how two compare, and `id HEX` the invoke ID of an APDU.
+//! `datagram PEER HEX` prints the datagram of an APDU, `abort REASON` that of an Abort, and `ack SIDE NUMBER TAKEN STEP` what answers a segment.
+//! `size CODE` and `segments CODE COUNT` print what fits. `keys PEER ID PEER ID` and `settings WINDOW WINDOW` print how two compare, and `id HEX` the
+//! invoke ID of an APDU.
 use crate::frames::peer_of;
 use crate::words::{first, number, octets_of, print_digits, print_octets, small};
 use bac_apdu::{Apdu, Limits, Window, apdu_len, read};
@@ -16,8 +17,10 @@ use bac_value::NoMemory;
 use std::alloc::Global;
 use std::io::Write;
 
+/// The link of the peer.
 const LINK: LinkAddress = [10, 0, 0, 2, 0xBA, 0xC0];
 
+/// What the end takes: APDUs of 1,476 octets, and no segments.
 const LIMITS: Limits = Limits {
     max_apdu: 5,
     takes_segments: false,
@@ -26,6 +29,7 @@ const LIMITS: Limits = Limits {
 
 const WINDOW: Window = Window { size: 4 };
 
+/// What an end is told: a peer without a route, invoke ID 7, and moment 0.
 fn context(alloc: Global) -> Context {
     Context {
         settings: Settings {
@@ -60,6 +64,7 @@ fn datagram(alloc: Global, words: &str, out: &mut Vec<u8>) -> Option<()> {
     let (peer, digits) = first(words);
     let octets = octets_of(alloc, digits)?;
     let apdu = read(&octets).ok()?;
+    // no APDU is longer (clause 20.1.2.5)
     if apdu_len(&apdu) > 1_476 {
         return None;
     }

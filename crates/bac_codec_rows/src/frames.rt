@@ -12,6 +12,7 @@ use std::alloc::Global;
 use std::cmp::Ordering;
 use std::io::Write;
 
+/// The link from which datagrams come.
 const LINK: LinkAddress = [0x7F, 0, 0, 1, 0xBA, 0xC1];
 
 fn write_again(alloc: Global, apdu: &Apdu<'_>, octets: &[u8], out: &mut Vec<u8>) -> Option<()> {
@@ -68,6 +69,7 @@ fn datagram(octets: &[u8], out: &mut Vec<u8>) -> Option<()> {
 
 /// A front of a datagram, with its own length in the BVLL.
 fn front(octets: &mut [u8], len: u8, out: &mut Vec<u8>) -> Option<()> {
+    // the low octet of the length (clause J.2)
     *octets.get_mut(3)? = len;
     write!(out, "{len}: ").ok()?;
     datagram(octets.get(..usize::from(len))?, out)
@@ -118,9 +120,11 @@ fn frame(alloc: Global, words: &str, out: &mut Vec<u8>) -> Option<()> {
         expecting,
         apdu,
     } = frame_of(alloc, words)?;
+    // no APDU is longer (clause 20.1.2.5)
     if apdu.len() > 1_476 {
         return None;
     }
+    // a frame is appended to what is there
     let mut written = Vec::from_slice(alloc, b"\xAA").ok()?;
     write_datagram(&peer, expecting, &apdu, &mut written).ok()?;
     print_octets(&written, out)
@@ -132,9 +136,11 @@ fn head(alloc: Global, words: &str, out: &mut Vec<u8>) -> Option<()> {
         expecting,
         apdu,
     } = frame_of(alloc, words)?;
+    // no APDU is longer (clause 20.1.2.5)
     if apdu.len() > 1_476 {
         return None;
     }
+    // a head is appended to what is there
     let mut written = Vec::from_slice(alloc, b"\xAA").ok()?;
     write_frame_head(&peer, expecting, apdu.len(), &mut written).ok()?;
     print_octets(&written, out)

@@ -1,4 +1,4 @@
-//! Plays rows of text and prints the result of each: octets and texts that are read and written again, words, segments, tables of slots,
+//! Plays rows of text and prints the result of each. They are of octets and texts that are read and written again, words, segments, tables of slots,
 //! what an end answers, and stores.
 //!
 //! The section `codecs` of bac_stack_rows/stdin holds the rows, and that of stdout what has to be printed. A row begins with `=`, what plays it, and its title. Each of its lines

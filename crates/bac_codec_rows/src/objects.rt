@@ -1,7 +1,7 @@
 //! Objects of words.
 //!
-//! `TYPE:INSTANCE/PART/..` is an object, and a part is `NUMBER=HEX` for a property that can be written, `name=TEXT`, `file=HEX` for a file that can be written,
-//! and `log=HEX` for one that cannot. An object without a name is called `bare`.
+//! `TYPE:INSTANCE/PART/..` is an object. A part is `NUMBER=HEX` for a property that can be written, `name=TEXT`, `file=HEX` for a file that can be
+//! written, and `log=HEX` for one that cannot. An object without a name is called `bare`.
 use crate::words::{number, octets_of, put};
 use bac_store::{Allowed, File, Object, Property};
 use bac_value::{ObjectIdentifier, read_data};

@@ -4,6 +4,7 @@ ghost use Rattle.std.specs.Prelude.{◌<◌};
 use crate::words::put;
 use std::alloc::Global;
 
+/// Adds a copy of a piece.
 fn put_copy(alloc: Global, piece: &[u8], pieces: &mut Vec<Vec<u8>>) -> Option<()> {
     match piece.to_vec(alloc) {
         Ok(piece) => put(pieces, piece),
@@ -22,7 +23,7 @@ pub(crate) fn pieces_of(alloc: Global, octets: &[u8], size: usize) -> Option<Vec
     Some(pieces)
 }
 
-/// The same with an empty piece before each.
+/// Octets in pieces of a size, with an empty piece before each.
 pub(crate) fn between_empty_ones(alloc: Global, octets: &[u8], size: usize) -> Option<Vec<Vec<u8>>>
     requires { 0 < size }
 {

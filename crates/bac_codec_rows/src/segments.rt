@@ -1,9 +1,10 @@
 //! Rows of a transfer in segments, and of what its segments are kept in.
 //!
-//! `begin OCTETS SIZE` begins a transfer in pieces of a size, of octets that name their places. `offer N` gives piece N to the receiver, `ack N` gives the sender
-//! a SegmentACK, `timeout` and `resume` are its calls, and `window` prints its window. `transfer OCTETS SIZE OWN OTHER` sends all windows in order.
-//! `receive COUNT HEX` makes a receiver that has taken so many segments, `same COUNT HEX` compares it with another one, and `more HEX` and `last HEX` are the next
-//! segment. `rooms FIRST SECOND COUNT` keeps segments of two lengths in turn, and prints in how many vectors and with how much room.
+//! `begin OCTETS SIZE` begins a transfer in pieces of a size, of octets that name their places. `offer N` gives piece N to the receiver, `ack N`
+//! gives the sender a SegmentACK, `timeout` and `resume` are its calls, and `window` prints its window. `transfer OCTETS SIZE OWN OTHER` sends all
+//! windows in order. `receive COUNT HEX` makes a receiver that has taken so many segments, and `same COUNT HEX` compares it with another one. `more
+//! HEX` and `last HEX` are the next segment. `rooms FIRST SECOND COUNT` keeps segments of two lengths in turn, and prints in how many vectors and
+//! with how much room.
 ghost use Rattle.std.specs.Prelude.{◌≤◌, ◌<◌, length};
 
 use crate::words::{first, number, octets_of, small, spelled};
@@ -29,6 +30,7 @@ fn sender(alloc: Global, len: u64, size: usize) -> Option<Outgoing>
 {
     let mut octets = Vec::new(alloc);
     for place in 0..len {
+        // modulo 251, so that pieces of 256 octets differ too
         octets.push((place % 251) as u8).ok()?;
     }
     Some(Outgoing::new(octets, size))
@@ -38,6 +40,7 @@ fn sender(alloc: Global, len: u64, size: usize) -> Option<Outgoing>
 fn sender_of(alloc: Global, words: &str) -> Option<(Outgoing, &str)> {
     let (len, words) = first(words);
     let (size, words) = first(words);
+    // pieces of no octets would never end
     let size = number(size)?.max(1) as usize;
     Some((sender(alloc, number(len)?, size)?, words))
 }
@@ -87,6 +90,7 @@ fn send_all(sender: &mut Outgoing, receiver: &mut Incoming, own: Window) -> Opti
         acks: 0,
         last: None,
     };
+    // a bound on the windows, so that each row ends
     for _ in 0..2_000 {
         sent.last = None;
         send_window(sender, receiver, &mut sent)?;

@@ -1,7 +1,8 @@
 //! Lines of service data: `request CHOICE HEX` and `reply CHOICE HEX`.
 //!
-//! They are read whole and in pieces, and written again, by themselves and by their copies. Up to 200 octets are cut in two at every place, and into pieces of
-//! every size with and without empty ones between; longer ones into pieces of 1,024 octets. A line reports where pieces are read otherwise than the whole.
+//! They are read whole and in pieces, and written again, by themselves and by their copies. Up to 200 octets are cut in two at every place, and into
+//! pieces of every size with and without empty ones between. Longer ones are cut into pieces of 1,024 octets. A line reports where pieces are read
+//! otherwise than the whole.
 ghost use Rattle.std.specs.Prelude.{◌<◌};
 
 use crate::pieces::{between_empty_ones, cut, pieces_of};
@@ -76,7 +77,7 @@ fn complex_again(alloc: Global, complex: Complex<'_>, octets: &[u8]) -> Option<O
     }
 }
 
-/// As what octets are read.
+/// Whether octets are read as a request or as a reply.
 #[derive(Clone, Copy)]
 enum Side {
     Request,

@@ -31,14 +31,14 @@ fn decode(alloc: Global, in_words: bool, text: &str, out: &mut Vec<u8>) -> Optio
     print_end(status, &err, out)
 }
 
-/// The same of an NPDU in its BVLL.
+/// Prints the layers of an NPDU in its BVLL.
 fn decode_npdu(alloc: Global, in_words: bool, npdu: &str, out: &mut Vec<u8>) -> Option<()> {
     let len = npdu.len() / 2 % 65_536 + 4;
     let text = format!(in alloc; "810A{len:04X}{npdu}").ok()?;
     decode(alloc, in_words, &text, out)
 }
 
-/// The same of a long one.
+/// Prints the layers of a long NPDU in its BVLL, with what repeats in them written short.
 fn longest(alloc: Global, npdu: &str, out: &mut Vec<u8>) -> Option<()> {
     let mut told = Vec::new(alloc);
     decode_npdu(alloc, false, npdu, &mut told)?;

@@ -72,6 +72,7 @@ fn kept_key(rt: &HostRuntime) -> io::Result<PairKey> {
         return Ok(key);
     }
     fs::create_dir_all(rt, &folder)?;
+    // read again after it, as another program may have been first
     make_key(rt, &path)?;
     read_key(rt, &path)
 }

@@ -1,6 +1,7 @@
 //! What the links and the log of a server ask of the host.
 
 use crate::lasting::Beside;
+use crate::since_boot::{SINCE_BOOT, SinceBoot};
 use bac_driver::{Clock, MonotonicClock};
 use mio::unix::SourceFd;
 use mio::{Events, Interest, Poll, Token};
@@ -29,7 +30,7 @@ pub(crate) fn is_ready(
     let registered = poll.registry().register(&mut source, Token(0), interest);
     if let Err(error) = registered {
         return match error.kind() {
-            // a file, which the system polls for nobody
+            // a regular file, which cannot be polled
             io::ErrorKind::PermissionDenied => Ok(true),
             _ => Err(error),
         };
@@ -48,7 +49,7 @@ pub(crate) fn has_room(runtime: &HostRuntime) -> bool {
 #[derive(Drop)]
 pub struct HostSide<'a> {
     runtime: &'a HostRuntime,
-    clock: MonotonicClock<'a, HostRuntime>,
+    clock: MonotonicClock<'static, SinceBoot>,
 }
 
 impl<'a> HostSide<'a> {
@@ -56,7 +57,7 @@ impl<'a> HostSide<'a> {
     pub(crate) fn new(runtime: &'a HostRuntime) -> io::Result<HostSide<'a>> {
         Ok(HostSide {
             runtime,
-            clock: MonotonicClock::new(runtime)?,
+            clock: MonotonicClock::new(SINCE_BOOT)?,
         })
     }
 }

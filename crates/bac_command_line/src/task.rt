@@ -129,7 +129,9 @@ impl<'m, 'a> Task<'m, 'a> {
                 task: task.from_source(machine),
                 work,
             },
-            Task::Points(task) => Task::Points(task.from_source(machine)),
+            Task::Points(task) => {
+                Task::Points(task.shown_on(machine.is_screen()).from_source(machine))
+            }
             task => task,
         }
     }

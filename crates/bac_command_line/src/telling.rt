@@ -4,6 +4,7 @@ ghost use Rattle.bac_command_line.specs.Tasks.{IsTold};
 use crate::machine::Machine;
 use bac_text::{Status, output_failed};
 use bac_words::Telling;
+use std::alloc::Global;
 use std::io::Write;
 
 /// What is known of how the program was built, where that is told.
@@ -24,6 +25,7 @@ fn text_of(text: &Option<String>) -> Option<&str> {
 /// Tells of the program. A name of no command: `no command`, and that name, on `err`.
 #[tactic(auto, using(crate::proofs::FirstLines::failed_told))]
 pub(crate) fn tell<M: Machine, O: Write, E: Write>(
+    alloc: Global,
     machine: &M,
     telling: Telling<'_>,
     out: &mut O,
@@ -32,7 +34,7 @@ pub(crate) fn tell<M: Machine, O: Write, E: Write>(
     ensures { IsTold result }
 {
     let built = built_for(machine, telling);
-    match telling.write(text_of(&built), out) {
+    match telling.write(alloc, text_of(&built), out) {
         Ok(true) => match out.flush() {
             Ok(()) => Status::Done,
             Err(error) => output_failed(err, &error),

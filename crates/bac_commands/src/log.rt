@@ -25,6 +25,7 @@ pub(crate) struct Tally {
 }
 
 impl Tally {
+    /// None was turned away, and nothing was said.
     pub(crate) const NONE_AWAY: Tally = Tally {
         away: 0,
         said: None,

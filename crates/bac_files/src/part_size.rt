@@ -1,6 +1,6 @@
 //! In which parts a file is read and written.
 ghost use Rattle.std.specs.Prelude.{◌≡◌, ℕ, ◌+◌, ◌<◌, ◌≤◌, length, take, drop, None, Some, IfSome};
-ghost use Rattle.bac_files.specs.Sizes.{apdu_of};
+ghost use Rattle.bac_files.specs.Sizes.{Shrinks, apdu_of, smaller_of};
 
 /// How many octets of a file one request reads or writes: as many as fit, with all else that is in the request and in the reply, into an APDU of the lengths
 /// that devices take (clause 20.1.2.5), so that neither goes in segments.
@@ -47,6 +47,7 @@ impl PartSize {
 
     /// The next smaller size, for a device that takes no APDU of this one; None where there is none.
     pub fn smaller(self) -> Option<PartSize>
+        ensures next { result ≡ smaller_of self }
         ensures smaller { IfSome result (λ size. apdu_of size < apdu_of self) }
         ensures least { result ≡ None → apdu_of self ≡ 50 }
     {
@@ -57,6 +58,19 @@ impl PartSize {
             PartSize::Apdu206 => Some(PartSize::Apdu128),
             PartSize::Apdu128 => Some(PartSize::Apdu50),
             PartSize::Apdu50 => None,
+        }
+    }
+
+    /// Becomes the next smaller size, for a device that takes no APDU of this one. Returns whether there is one; where there is none, it stays as it is.
+    pub fn shrink(&mut self) -> bool
+        ensures { Shrinks self.old self.new result }
+    {
+        match self.smaller() {
+            Some(size) => {
+                *self = size;
+                true
+            }
+            None => false,
         }
     }
 }

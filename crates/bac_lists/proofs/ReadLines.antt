@@ -1,12 +1,18 @@
 -- The requests of lines, one line after the other.
-use Rattle.std.proofs.Common.{◌≡◌, ◌⊎◌, ℕ, ◌+◌, ◌<◌, length, arith, true, List, [], ◌∷◌, ◌++◌, map, Option, Some, None, Result, Ok, Err, refl, sym, ap, subst, ◌∙◌, append_assoc, append-nil, inl, inr}
+use Rattle.std.proofs.Common.{◌≡◌, ◌⊎◌, ℕ, ◌+◌, ◌<◌, length, arith, Bool, true, false, List, [], ◌∷◌, ◌++◌, map, Option, Some, None, Result, Ok, Err, refl, sym, ap, subst, ◌∙◌, append_assoc, append-nil, inl, inr}
 use Rattle.std.proofs.lemmas.List.{map-append}
 use Rattle.bac_lists.specs.declared.question_lines.LineQuestion as code
+use Rattle.std.specs.Bool.{MatchBool}
+use Rattle.std.specs.Option.{option_map}
+use Rattle.std.specs.Prelude.{IfSome, IsUtf8, MatchOption}
 use Rattle.bac_npdu.specs.Peers.{PeerView}
+use Rattle.bac_npdu.specs.Views.{peer_view}
+use Rattle.bac_npdu.specs.declared.peer.Peer.{Peer}
 use Rattle.bac_text.specs.Notes.{read_of}
-use Rattle.bac_lists.specs.QuestionLines.{AddsLine, AreQuestions, AskNothing, AsksIn, AsksOne, HaveBadLine, IsBadRead, Numbered, WordsAsk, AreBadWords, line_view}
+use Rattle.bac_lists.specs.Addresses.{IsNoPeer, IsPeer}
+use Rattle.bac_lists.specs.QuestionLines.{AddsLine, AreQuestions, AskNothing, AsksIn, AsksOne, HasNoPeer, HaveBadLine, IsAskedOf, IsBadRead, NamesNone, NamesPeer, Numbered, WordsAsk, AreBadWords, line_view}
 use Rattle.bac_lists.specs.LineNames.{has_bad_name, words_behind}
-use Rattle.bac_lists.specs.LineWords.{words_of}
+use Rattle.bac_lists.specs.LineWords.{is_address, words_of}
 
 -- what the lines from here on ask, behind those so far, is what all lines ask
 pub one_more_read : (default : Option PeerView) (number : ℕ) (lines others : List (List ℕ)) (line : List ℕ) (old new more : List Numbered)
@@ -101,3 +107,62 @@ err_in A e = Err e
 -- the same fault, whatever else might have come
 pub same_fault : {A B E : Type 0} (e f : E) → err_in A e ≡ err_in A f → err_in B e ≡ err_in B f
 same_fault {A} {B} {E} e f same = ap (λ (r : Result A E). err_in B (fault_or e r)) same
+
+-- ---- whom a line is asked of
+
+-- behind the first octet of a word a peer was read, or none
+pub peer_told : (word text read : List ℕ) (octet : ℕ) (r : Option Peer) → word ≡ octet ∷ text → read ≡ text
+    → MatchOption r (IsNoPeer read) (λ p. IsPeer read (peer_view p)) → MatchOption r (NamesNone word) (λ p. NamesPeer word (peer_view p))
+peer_told word text read octet None is same none =
+    subst NamesNone (sym is) (inr (subst (λ (t : List ℕ). IsNoPeer t) same none))
+peer_told word text read octet (Some p) is same peer =
+    subst (λ (w : List ℕ). NamesPeer w (peer_view p)) (sym is) (subst (λ (t : List ℕ). IsPeer t (peer_view p)) same peer)
+
+pub no_text_told : (word text : List ℕ) (octet : ℕ) → word ≡ octet ∷ text → (IsUtf8 text → ⊥) → NamesNone word
+no_text_told word text octet is missing = subst NamesNone (sym is) (inl missing)
+
+pub empty_told : (word : List ℕ) → length word ≡ 0 → NamesNone word
+empty_told [] none = tt
+empty_told (octet ∷ word) none = absurd (omega (arith, none))
+
+-- the first word begins as one that names a peer
+pub named_asked : {A : Type 0} (f : A → List ℕ) (default : Option PeerView) (words others : List A) (word : A) (r : Option Peer) → words ≡ word ∷ others
+    → is_address (f word) ≡ true → MatchOption r (NamesNone (f word)) (λ p. NamesPeer (f word) (peer_view p))
+    → IfSome r (λ p. IsAskedOf default (map f words) (peer_view p))
+named_asked f default words others word None is holds told = tt
+named_asked f default words others word (Some p) is holds told =
+    subst (λ ws. IsAskedOf default (map f ws) (peer_view p)) (sym is)
+    (subst (λ (b : Bool). MatchBool b (NamesPeer (f word) (peer_view p)) (default ≡ Some (peer_view p))) (sym holds) told)
+
+pub none_named : {A : Type 0} (f : A → List ℕ) (default : Option PeerView) (words others : List A) (word : A) (r : Option Peer) → words ≡ word ∷ others
+    → is_address (f word) ≡ true → MatchOption r (NamesNone (f word)) (λ p. NamesPeer (f word) (peer_view p)) → r ≡ None → HasNoPeer default (map f words)
+none_named f default words others word None is holds told missing =
+    subst (λ ws. HasNoPeer default (map f ws)) (sym is)
+    (subst (λ (b : Bool). MatchBool b (NamesNone (f word)) (default ≡ None)) (sym holds) told)
+none_named f default words others word (Some p) is holds told missing = absurd cc
+
+-- it names none, so the line is asked of the one that is given for all
+pub default_asked : {A : Type 0} (f : A → List ℕ) (default : Option Peer) (words others : List A) (word : A) → words ≡ word ∷ others
+    → is_address (f word) ≡ false → IfSome default (λ p. IsAskedOf (option_map peer_view default) (map f words) (peer_view p))
+default_asked f None words others word is missing = tt
+default_asked f (Some p) words others word is missing =
+    subst (λ ws. IsAskedOf (Some (peer_view p)) (map f ws) (peer_view p)) (sym is)
+    (subst (λ (b : Bool). MatchBool b (NamesPeer (f word) (peer_view p)) (Some (peer_view p) ≡ Some (peer_view p))) (sym missing) refl)
+
+pub no_default : {A : Type 0} (f : A → List ℕ) (default : Option Peer) (words others : List A) (word : A) → words ≡ word ∷ others
+    → is_address (f word) ≡ false → default ≡ None → HasNoPeer (option_map peer_view default) (map f words)
+no_default f default words others word is missing none =
+    subst (λ ws. HasNoPeer (option_map peer_view default) (map f ws)) (sym is)
+    (subst (λ (b : Bool). MatchBool b (NamesNone (f word)) (option_map peer_view default ≡ None)) (sym missing) (ap (option_map peer_view) none))
+
+-- so is one without words
+pub no_words_asked : {A : Type 0} (f : A → List ℕ) (default : Option Peer) (words : List A) → length words ≡ 0
+    → IfSome default (λ p. IsAskedOf (option_map peer_view default) (map f words) (peer_view p))
+no_words_asked f None words empty = tt
+no_words_asked f (Some p) [] empty = refl
+no_words_asked f (Some p) (word ∷ words) empty = absurd (omega (arith, empty))
+
+pub no_words_no_default : {A : Type 0} (f : A → List ℕ) (default : Option Peer) (words : List A) → length words ≡ 0 → default ≡ None
+    → HasNoPeer (option_map peer_view default) (map f words)
+no_words_no_default f default [] empty none = ap (option_map peer_view) none
+no_words_no_default f default (word ∷ words) empty none = absurd (omega (arith, empty))

@@ -1,5 +1,6 @@
 -- What the lines of a list ask: each names its peer, or is asked of the one that is given for all, and may have a name.
-use Rattle.std.specs.Prelude.{◌≡◌, ◌⊎◌, ℕ, ◌+◌, Bool, true, false, ◌==◌, ◌&&◌, List, [], ◌∷◌, ◌++◌, if◌then◌else◌, is_some, string_bytes, Option, None, Some}
+use Rattle.std.specs.Prelude.{◌≡◌, ◌⊎◌, ℕ, ◌+◌, Bool, true, false, ◌==◌, ◌&&◌, List, [], ◌∷◌, ◌++◌, if◌then◌else◌, is_some, string_bytes, IsUtf8, Option, None, Some}
+use Rattle.std.specs.Bool.{MatchBool}
 use Rattle.std.specs.List.{list_any}
 use Rattle.std.specs.Option.{option_map}
 use Rattle.bac_ask_report.specs.Records.{LineName, Unnamed, Without, Named, name_view}
@@ -11,6 +12,7 @@ use Rattle.bac_driver.specs.Asking.{Question}
 use Rattle.bac_driver.specs.Views.{question_view}
 use Rattle.bac_value_text.specs.Splits.{split_by}
 use Rattle.bac_commands.specs.Questions.{IsQuestion}
+use Rattle.bac_lists.specs.Addresses.{IsNoPeer, IsPeer}
 use Rattle.bac_lists.specs.LineNames.{has_bad_name, name_of, words_behind}
 use Rattle.bac_lists.specs.LineWords.{is_address, words_of}
 use Rattle.bac_lists.specs.declared.asker.Asker as code_asker
@@ -30,13 +32,25 @@ abbrev pub request_words : (words : List (List ℕ)) → List (List ℕ)
 request_words [] = []
 request_words (word ∷ words) = if is_address word then words else word ∷ words
 
--- a line that names no peer is asked of the one that is given for all
-abbrev pub IsAskedOf : (default : Option PeerView) → (words : List (List ℕ)) → PeerView → Type 0
-IsAskedOf default words peer = names_peer words ≡ false → default ≡ Some peer
+-- a word as `@192.168.1.20:47809` names this peer: what stands behind its first octet is the text of it
+abbrev pub NamesPeer : (word : List ℕ) → PeerView → Type 0
+NamesPeer [] peer = ⊥
+NamesPeer (octet ∷ text) peer = IsPeer text peer
 
--- the address that it names is none, or it names none and none is given
+-- what stands there is no text of a peer
+abbrev pub NamesNone : (word : List ℕ) → Type 0
+NamesNone [] = Unit {0}
+NamesNone (octet ∷ text) = (IsUtf8 text → ⊥) ⊎ IsNoPeer text
+
+-- a line whose first word begins with `@` is asked of the peer that this word names, any other line of the one that is given for all
+abbrev pub IsAskedOf : (default : Option PeerView) → (words : List (List ℕ)) → PeerView → Type 0
+IsAskedOf default [] peer = default ≡ Some peer
+IsAskedOf default (word ∷ words) peer = MatchBool (is_address word) (NamesPeer word peer) (default ≡ Some peer)
+
+-- that word names none, or there is no such word and none is given
 abbrev pub HasNoPeer : (default : Option PeerView) → (words : List (List ℕ)) → Type 0
-HasNoPeer default words = (names_peer words ≡ true) ⊎ (default ≡ None)
+HasNoPeer default [] = default ≡ None
+HasNoPeer default (word ∷ words) = MatchBool (is_address word) (NamesNone word) (default ≡ None)
 
 -- that is what words ask
 pub record AsksWords (default : Option PeerView) (words : List (List ℕ)) (q : Question) : Type 0 where

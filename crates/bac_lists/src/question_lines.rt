@@ -1,5 +1,5 @@
 //! Requests of lines: those of a text, each by its number.
-ghost use Rattle.std.specs.Prelude.{◌≡◌, ◌<◌, [], ◌∷◌, length, map, string_bytes, true, IfErr, IfOk, IfSome, IsErrOf, IsTrue, None, Some};
+ghost use Rattle.std.specs.Prelude.{◌≡◌, ◌<◌, [], ◌∷◌, length, map, string_bytes, true, IfErr, IfOk, IfSome, IsErrOf, IsTrue, MatchOption, None, Some};
 ghost use Rattle.std.specs.Option.{option_map};
 ghost use Rattle.bac_ask_report.specs.Records.{name_view};
 ghost use Rattle.bac_npdu.specs.Views.{peer_view};
@@ -7,7 +7,7 @@ ghost use Rattle.bac_driver.specs.Views.{question_view};
 ghost use Rattle.bac_text.specs.Statuses.{IsStop};
 ghost use Rattle.bac_text.specs.Notes.{read_of as read_in};
 ghost use Rattle.bac_lists.specs.QuestionLines.{asker_view};
-ghost use Rattle.bac_lists.specs.QuestionLines.{asker_of, have_names, AddsLine, AreQuestions, AreBadWords, AskNothing, AsksOne, AsksWords, HasNoPeer, HaveBadLine, IsAskedOf, IsBadRead, line_view, name_in_line, naming, lines_in, names_peer, request_words, without_mark};
+ghost use Rattle.bac_lists.specs.QuestionLines.{asker_of, have_names, AddsLine, AreQuestions, AreBadWords, AskNothing, AsksOne, AsksWords, HasNoPeer, HaveBadLine, IsAskedOf, IsBadRead, NamesNone, NamesPeer, line_view, name_in_line, naming, lines_in, names_peer, request_words, without_mark};
 ghost use Rattle.bac_lists.specs.LineWords.{is_address, words_of};
 
 use crate::address::read_peer;
@@ -91,18 +91,28 @@ fn request_words<'w, 'a>(words: &'w [&'a [u8]]) -> &'w [&'a [u8]]
 }
 
 /// The peer that a word as `@192.168.1.20:47809` or `@192.168.1.20/5:2A` names. None where it names none.
-fn peer_named(word: &[u8]) -> Option<Peer> {
+#[tactic(auto, using(crate::proofs::ReadLines::peer_told, crate::proofs::ReadLines::no_text_told, crate::proofs::ReadLines::empty_told))]
+fn peer_named(word: &[u8]) -> Option<Peer>
+    ensures { MatchOption result (NamesNone word.now) (λ p. NamesPeer word.now (peer_view p)) }
+{
     let (_, text) = word.split_first()?;
-    read_peer(str::from_utf8(text).ok()?)
+    match str::from_utf8(text) {
+        Ok(text) => read_peer(text),
+        Err(_) => None,
+    }
 }
 
 /// Whom a line with these words is asked of: the peer that the first names, otherwise that one. None where there is none.
+#[tactic(auto, using(crate::proofs::ReadLines::named_asked, crate::proofs::ReadLines::none_named, crate::proofs::ReadLines::default_asked, crate::proofs::ReadLines::no_default, crate::proofs::ReadLines::no_words_asked, crate::proofs::ReadLines::no_words_no_default))]
 fn peer_of(default: Option<Peer>, words: &[&[u8]]) -> Option<Peer>
     ensures some { IfSome result (λ p. IsAskedOf (option_map peer_view default) (map (λ w. w.now) words.now) (peer_view p)) }
     ensures none { result ≡ None → HasNoPeer (option_map peer_view default) (map (λ w. w.now) words.now) }
 {
-    if names_peer(words) {
-        peer_named(words[0])
+    let Some((word, _)) = words.split_first() else {
+        return default;
+    };
+    if is_address(*word) {
+        peer_named(*word)
     } else {
         default
     }

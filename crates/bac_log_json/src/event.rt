@@ -184,6 +184,7 @@ fn number_json(number: Option<u64>) -> Json
     }
 }
 
+/// What a line says of the ask with that number.
 fn ask_members(ask: u64) -> EventMembers
     ensures { members_view result ≡ ask_members ask }
 {
@@ -192,6 +193,7 @@ fn ask_members(ask: u64) -> EventMembers
     members
 }
 
+/// What a line says of a node.
 fn node_members(node: u64) -> EventMembers
     ensures { members_view result ≡ node_members node }
 {
@@ -200,6 +202,7 @@ fn node_members(node: u64) -> EventMembers
     members
 }
 
+/// An ask that was accepted, under its invoke ID where that is known.
 fn asked_members(ask: u64, invoke_id: Option<u8>) -> EventMembers
     ensures { members_view result ≡ record (ask_members ask) { id = optional_number invoke_id } }
 {
@@ -208,6 +211,7 @@ fn asked_members(ask: u64, invoke_id: Option<u8>) -> EventMembers
     members
 }
 
+/// An ask of a stranger that was accepted.
 fn asked_away_members(alloc: Global, ask: u64, peer: Peer) -> Result<EventMembers, AllocError>
     ensures { IfOk result (λ m. members_view m ≡ record (ask_members ask) { peer = string (peer_text (peer_view peer)) }) }
 {
@@ -216,6 +220,7 @@ fn asked_away_members(alloc: Global, ask: u64, peer: Peer) -> Result<EventMember
     Ok(members)
 }
 
+/// A request of a stranger that a node performed, and the reply in words.
 fn served_members(
     alloc: Global,
     node: u64,
@@ -239,6 +244,7 @@ fn told_members(alloc: Global, ask: u64, words: &[u8]) -> Result<EventMembers, A
     Ok(members)
 }
 
+/// A datagram that a node sent to another, with its octets.
 fn sent_members(
     alloc: Global,
     number: u64,
@@ -256,6 +262,7 @@ fn sent_members(
     Ok(members)
 }
 
+/// A datagram that counts as lost.
 fn lost_members(number: u64) -> EventMembers
     ensures { members_view result ≡ record nulls { number = whole (unsigned number) } }
 {
@@ -264,6 +271,7 @@ fn lost_members(number: u64) -> EventMembers
     members
 }
 
+/// The pace of a node's clock, in parts in a million.
 fn paced_members(node: u64, pace: i64) -> EventMembers
     ensures { members_view result ≡ record (node_members node) { pace = whole (of_integer pace) } }
 {
@@ -272,6 +280,7 @@ fn paced_members(node: u64, pace: i64) -> EventMembers
     members
 }
 
+/// Why nothing came of an event.
 fn nothing_members(alloc: Global, why: &str) -> Result<EventMembers, AllocError>
     ensures { IfOk result (λ m. members_view m ≡ record nulls { text = string why.now }) }
 {
@@ -280,6 +289,7 @@ fn nothing_members(alloc: Global, why: &str) -> Result<EventMembers, AllocError>
     Ok(members)
 }
 
+/// A refusal or a fault: its number, and why in words.
 fn fault_members(alloc: Global, fault: u8, why: &str) -> Result<EventMembers, AllocError>
     ensures { IfOk result (λ m. members_view m ≡ fault_members fault why.now) }
 {
@@ -324,6 +334,7 @@ fn with_line(kind: &str, line: Option<u64>, moment: Option<u64>, object: Members
         .text("type", kind)
 }
 
+/// An object with what a line says beside a datagram.
 fn with_words(words: WordMembers, object: Members) -> Members
     ensures { Extends (with_words (words_view words)) object result }
 {
@@ -337,6 +348,7 @@ fn with_words(words: WordMembers, object: Members) -> Members
         .json("text", words.text)
 }
 
+/// An object with what a line says of a datagram.
 fn with_datagram(datagram: DatagramMembers, object: Members) -> Members
     ensures { Extends (with_datagram (datagram_view datagram)) object result }
 {

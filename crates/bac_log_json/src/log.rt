@@ -165,6 +165,7 @@ fn told_members(
     Ok(members)
 }
 
+/// A datagram that was dropped, and why in words.
 fn dropped_members(alloc: Global, link: LinkAddress, why: &str) -> Result<EventMembers, AllocError>
     ensures { IfOk result (λ m. members_view m ≡ told (string (link_text link)) (string why.now) null) }
 {
@@ -174,6 +175,7 @@ fn dropped_members(alloc: Global, link: LinkAddress, why: &str) -> Result<EventM
     Ok(members)
 }
 
+/// How many datagrams or steps there were.
 fn count_members(count: u64) -> EventMembers
     ensures { members_view result ≡ record nulls { count = number (unsigned count) } }
 {
@@ -182,6 +184,7 @@ fn count_members(count: u64) -> EventMembers
     members
 }
 
+/// How many requests were turned away, and in how many milliseconds a slot gets free.
 fn full_members(count: u64, wait: u64) -> EventMembers
     ensures { members_view result ≡ record nulls { count = number (unsigned count); wait = number (unsigned wait) } }
 {
@@ -205,6 +208,7 @@ fn changed_members(
     Ok(members)
 }
 
+/// How the server began, in words.
 fn started_members(alloc: Global, words: &[u8]) -> Result<EventMembers, AllocError>
     ensures { IfOk result (λ m. members_view m ≡ record nulls { text = text_form words.now }) }
 {
@@ -254,6 +258,7 @@ fn members_of(alloc: Global, event: LogEvent<'_>) -> Result<EventMembers, NoMemo
     }
 }
 
+/// The object of a line, with each member that any line has.
 fn log_object(
     alloc: Global,
     kind: &str,

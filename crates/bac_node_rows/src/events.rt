@@ -1,9 +1,14 @@
 //! What a line of a row does to a node. A line is a moment, a verb and its words.
 //!
-//! `from PEER HEX`: an APDU arrives in a plain frame; `reuse PEER HEX`: one arrives at a node that lets invoke IDs be used again, `remember MS PEER HEX`: at one
-//! that then remembers a request no longer than so, and `memory OCTETS PEER HEX`, or `memory OCTETS reuse PEER HEX`: at one that keeps no more than so. `hear PEER HEX`: a datagram arrives. `ask PEER LIMITS REQUEST`, `tick`, `prepare` (a tick that is only prepared), `begin ID` (where invoke IDs begin), `restart`,
-//! `set OBJECT PROPERTY HEX` and `file OBJECT HEX` are calls of the node. `due` prints when something is next due, `free` when a slot for a request is,
-//! `count` how many slots are held and how many entries live, and `compare` whether the node and its store are as new.
+//! - `from PEER HEX`: an APDU arrives in a plain frame.
+//! - `reuse PEER HEX`: one arrives at a node that lets invoke IDs be used again.
+//! - `remember MS PEER HEX`: one arrives at such a node, which then remembers a request no longer than so.
+//! - `memory OCTETS PEER HEX`, or `memory OCTETS reuse PEER HEX`: one arrives at a node that keeps no more than so.
+//! - `hear PEER HEX`: a datagram arrives.
+//! - `ask PEER LIMITS REQUEST`, `tick`, `prepare` (a tick that is only prepared), `begin ID` (where invoke IDs begin) and `restart` are calls of the node.
+//! - `set OBJECT PROPERTY HEX` and `file OBJECT HEX` are calls too.
+//! - `due` prints when something is next due, and `free` when a slot for a request is.
+//! - `count` prints how many slots are held and how many entries live, and `compare` whether the node and its store are as new.
 use crate::scene::{limits_of, link, nodes_of};
 use crate::telling::{framed, print_outcome, print_sends};
 use crate::words::{change_of, first, octets_of, request_of};
@@ -72,6 +77,7 @@ fn rules_of(reuse: bool, memory: usize) -> Rules {
     Rules::of(reuse).within(memory)
 }
 
+/// A datagram or an APDU arrives, at a node whose rules the verb says.
 fn hears(
     alloc: Global,
     node: &mut Node,
@@ -94,6 +100,7 @@ fn sent_in(alloc: Global, words: &str) -> Option<([u8; 6], Vec<u8>)> {
     Some((from, datagram_of(alloc, "from", digits)?))
 }
 
+/// An APDU arrives at a node that remembers a request for so many milliseconds.
 fn remembers(
     alloc: Global,
     node: &mut Node,
@@ -110,6 +117,7 @@ fn remembers(
     told(alloc, node.hear(&rules, now, from, &octets), out)
 }
 
+/// An APDU arrives at a node that keeps no more than so many octets.
 fn hears_within(
     alloc: Global,
     node: &mut Node,
@@ -129,6 +137,7 @@ fn hears_within(
         node.hear(&rules_of(reuse, memory), now, from, &octets),
         out,
     )? {
+        // the bound on memory refuses too: the row says so, and does not try again
         Came::NoMemory => {
             out.write_all(b"no room\n").ok()?;
             Some(Came::Refused)
@@ -137,6 +146,7 @@ fn hears_within(
     }
 }
 
+/// A tick is prepared, and not made: the node keeps its latest moment.
 fn prepares(alloc: Global, node: &Node, now: u64, out: &mut Vec<u8>) -> Option<Came> {
     match told(alloc, node.prepare_tick(now), out)? {
         Came::Heard => Some(Came::Timeless),
@@ -160,6 +170,7 @@ fn told_of_ask(alloc: Global, came: Result<Asked, AskFault>, out: &mut Vec<u8>) 
     }
 }
 
+/// A node asks a peer.
 fn asks(alloc: Global, node: &mut Node, now: u64, words: &str, out: &mut Vec<u8>) -> Option<Came> {
     let (number, words) = first(words);
     let (limits, words) = first(words);
@@ -172,6 +183,7 @@ fn asks(alloc: Global, node: &mut Node, now: u64, words: &str, out: &mut Vec<u8>
     told_of_ask(alloc, node.ask(now, &peer, &limits, &request), out)
 }
 
+/// A node changes its own store.
 fn changes(
     alloc: Global,
     node: &mut Node,
@@ -193,11 +205,13 @@ fn changes(
     }
 }
 
+/// Sets where the node's invoke IDs begin.
 fn begins(node: &mut Node, words: &str) -> Option<Came> {
     node.set_first_invoke_id(words.parse::<u8>().ok()?);
     Some(Came::Timeless)
 }
 
+/// A node restarts with the store that it has.
 fn restarts(node: &mut Node, now: u64) -> Came {
     match node.restart(now, None) {
         Ok(()) => Came::Heard,
@@ -205,6 +219,7 @@ fn restarts(node: &mut Node, now: u64) -> Came {
     }
 }
 
+/// Prints when a tick does something next.
 fn print_due(node: &Node, out: &mut Vec<u8>) -> Option<()> {
     match node.next_due() {
         Some(moment) => writeln!(out, "due {moment}").ok(),
@@ -212,6 +227,7 @@ fn print_due(node: &Node, out: &mut Vec<u8>) -> Option<()> {
     }
 }
 
+/// Prints whether a node is as a new one of the scene, and whether its store is.
 fn compare(alloc: Global, node: &Node, scene: &str, out: &mut Vec<u8>) -> Option<()> {
     let new = node_of(alloc, scene)?;
     let is_new = node.same(&new);

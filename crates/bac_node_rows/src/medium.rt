@@ -32,6 +32,7 @@ impl End {
         }
     }
 
+    /// Its name in the notes of calls.
     pub(crate) fn name(self) -> &'static str {
         match self {
             End::Client => "client",
@@ -76,6 +77,7 @@ fn copy_front(octets: &[u8], buffer: &mut [u8]) -> usize
 }
 
 impl Medium {
+    /// A medium at moment 0, with nothing under way, on which no call fails.
     pub(crate) fn new(alloc: Global) -> Medium {
         Medium {
             alloc,
@@ -92,6 +94,7 @@ impl Medium {
         }
     }
 
+    /// Notes a datagram that was sent or received.
     fn note_octets(&mut self, end: End, verb: &str, octets: &[u8]) -> Option<()> {
         let octets = hex::encode_upper(self.alloc, octets).ok()?;
         writeln!(&mut self.calls, "{} {verb} {octets}", end.name()).ok()
@@ -121,6 +124,7 @@ impl Medium {
         }
     }
 
+    /// No datagram comes: notes that, and time goes on.
     fn nothing(&mut self, end: End, wait: u64) -> Option<()> {
         self.moment = self.moment.saturating_add(100);
         writeln!(&mut self.calls, "{} nothing {wait}", end.name()).ok()
@@ -137,13 +141,16 @@ impl Medium {
     {
         self.receives = self.receives.saturating_add(1);
         if self.receives == self.failing_receive {
+            // a note that finds no memory is missing, and then the row fails
             let _ = writeln!(&mut self.calls, "{} failed", end.name()).is_ok();
             return Err(LinkFault);
         }
         let Some(octets) = self.take(end) else {
+            // a note that finds no memory is missing, and then the row fails
             let _ = self.nothing(end, wait).is_some();
             return Ok(None);
         };
+        // a note that finds no memory is missing, and then the row fails
         let _ = writeln!(&mut self.calls, "{} waits {wait}", end.name()).is_ok();
         let _ = self.note_octets(end, "received", &octets).is_some();
         let len = copy_front(&octets, buffer);

@@ -16,6 +16,7 @@ pub(crate) struct MemoryLink<'a> {
 }
 
 impl<'a> MemoryLink<'a> {
+    /// The link of a medium at that end.
     pub(crate) fn new(medium: &'a RefCell<Medium>, end: End) -> MemoryLink<'a> {
         MemoryLink {
             medium,
@@ -84,6 +85,7 @@ pub(crate) struct MemoryClock<'a> {
 }
 
 impl<'a> MemoryClock<'a> {
+    /// A clock that has told no moment yet.
     pub(crate) fn new(medium: &'a RefCell<Medium>) -> MemoryClock<'a> {
         MemoryClock { medium, last: 0 }
     }

@@ -1,6 +1,6 @@
 //! Rows of a node and its twin. The twin gets each event that the node accepted: both are the same after each line.
 //!
-//! Where an allocation fails in a call, the node has to be the same as its twin, which has not got the event yet; then the call is made again.
+//! Where an allocation fails in a call, the node has to be the same as its twin, which has not got the event yet. Then the call is made again.
 use crate::events::{Came, happens, node_of};
 use crate::playing::{Stage, play};
 use crate::words::{first, number};

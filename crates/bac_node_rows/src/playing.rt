@@ -36,7 +36,7 @@ impl<'a, S: Stage> Player<'a, S> {
         self.stage.meets(self.alloc, &line, &mut self.told)
     }
 
-    /// The same for each of its numbers.
+    /// An event's line, with each of its numbers.
     fn meets(&mut self, line: &'a str) -> Option<()> {
         self.line = line;
         let (numbers, line) = ranged(line).ok()?;

@@ -98,6 +98,7 @@ pub(crate) fn print_turn(alloc: Global, turn: &Turn, out: &mut Vec<u8>) -> Optio
     print_done(alloc, turn, out)
 }
 
+/// Prints why a turn was not taken: the number, and why in words.
 pub(crate) fn print_fault(fault: TurnFault, out: &mut Vec<u8>) -> Option<()> {
     writeln!(out, "fault {}: {fault}", fault.number()).ok()
 }

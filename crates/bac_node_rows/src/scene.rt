@@ -1,10 +1,11 @@
 //! What rows of nodes and worlds are played on: the lines of the last row of kind `scene`.
 //!
-//! `node TAKES WINDOW SLOTS SLOTS` is a node: what it takes, as the first two octets of its requests say it, its window, and its slots for asks and for replies.
-//! Its store is the house store; where the words of a request follow, it is that store after the request; where `only T:I PROPERTY HEX` follows, the store has
-//! that object alone, with that property, which the network may not write. `overtake LIMIT` is the world's overtaking limit, 128 where there is no such line.
-//! `clocks DRIFT LIFE START START ..`: the world's nodes have clocks of their own, with that drift in parts in a million, copies live so long, and each clock
-//! begins at its start. `NAME: TEXT` is a text that lines may name. What follows a line `first` is what each script begins with.
+//! `node TAKES WINDOW SLOTS SLOTS` is a node. The words are what it takes, as the first two octets of its requests say it, its window, and its slots
+//! for asks and for replies. Its store is the house store. Where the words of a request follow, it is that store after the request. Where `only T:I
+//! PROPERTY HEX` follows, the store has that object alone, with that property, which the network may not write. `overtake LIMIT` is the world's
+//! overtaking limit, 128 where there is no such line. `clocks DRIFT LIFE START START ..`: the world's nodes have clocks of their own, with that drift
+//! in parts in a million. Copies live so long, and each clock begins at its start. `NAME: TEXT` is a text that lines may name. What follows a line
+//! `first` is what each script begins with.
 use crate::words::{change_of, first, number, octets_of, put, request_of};
 use bac_apdu::{Apdu, Limits, read};
 use bac_node::Config;

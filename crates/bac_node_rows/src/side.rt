@@ -66,6 +66,7 @@ pub(crate) struct Side<'a> {
 }
 
 impl<'a> Side<'a> {
+    /// A side whose nodes are new, on links of a medium.
     pub(crate) fn new(alloc: Global, medium: &'a RefCell<Medium>) -> Option<Side<'a>> {
         let client = node_on(alloc, medium, End::Client)?;
         let server = node_on(alloc, medium, End::Server)?;
@@ -86,6 +87,7 @@ impl<'a> Side<'a> {
         }
     }
 
+    /// A clock of its medium.
     pub(crate) fn clock(&self) -> MemoryClock<'a> {
         MemoryClock::new(self.medium)
     }

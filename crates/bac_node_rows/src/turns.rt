@@ -43,6 +43,7 @@ pub(crate) fn recv(side: &Side<'_>, name: &str, out: &mut Vec<u8>) -> Option<()>
     receive(side.alloc, &mut MemoryLink::new(side.medium, end), 100, out)
 }
 
+/// Prints octets in hexadecimal, as one line.
 pub(crate) fn print_octets(alloc: Global, octets: &[u8], out: &mut Vec<u8>) -> Option<()> {
     let digits = hex::encode_upper(alloc, octets).ok()?;
     writeln!(out, "{digits}").ok()

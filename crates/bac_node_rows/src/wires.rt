@@ -21,7 +21,7 @@ use bac_transaction::Datagram;
 use std::alloc::Global;
 use std::io::Write;
 
-/// So many millionths of a millisecond are one.
+/// How many millionths of a millisecond a millisecond is.
 const MILLISECOND: u64 = 1_000_000;
 
 /// What a clock shows at a moment, in millionths of a millisecond, and how many more after each millisecond.

@@ -7,7 +7,8 @@
 //! are, and `log` the world's log. `rate NODE RATE`: from then on a node's clock goes on by so many parts in a million parts of real time. Where an allocation
 //! fails in an event, the world has to be the same as its twin, and the event happens again.
 //!
-//! `noisy LINE`: before the line each proper prefix of each datagram that was sent arrives at each node of the world, and no octets at each node of its twin.
+//! `noisy LINE`: before the line each proper prefix of each datagram that was sent arrives at each node of the world. At each node of its twin a
+//! datagram without octets arrives.
 use crate::making::made;
 use crate::noise::{all_noise_comes, no_octets_come};
 use crate::playing::{Stage, play};

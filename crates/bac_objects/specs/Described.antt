@@ -5,14 +5,15 @@ use Rattle.bac_value.specs.Steps.{◌>>=◌}
 use Rattle.bac_value.specs.Value.{ObjectId}
 use Rattle.bac_store.specs.Allowing.{Allowed}
 use Rattle.bac_store.specs.Kinds.{kind_of}
-use Rattle.bac_store.specs.Stores.{Object, Property}
+use Rattle.bac_store.specs.Stores.{File, Object, Property}
 use Rattle.toml.specs.Data.{Data, Items, no_items, item, Members, no_members, member, as_bool, get_member}
-use Rattle.bac_objects.specs.Held.{FORMS, count, found_in, mark_of, the_mark}
+use Rattle.bac_objects.specs.Held.{DESCRIBED_LIMIT, FORMS, count, found_in, mark_of, object_table, the_mark}
 use Rattle.bac_objects.specs.Held.{or_nothing as or_no_value}
 use Rattle.bac_objects.specs.Identifiers.{or_nothing, or_other, the_instance, the_type}
 use Rattle.bac_objects.specs.Objects.{Fault, Flaw, at, file_in, in_object, is_reserved, name_in}
 use Rattle.bac_objects.specs.Properties.{spelling_of}
 use Rattle.bac_objects.specs.Reading.{array_of, other, table_of}
+use Rattle.bac_objects.specs.Standard.{is_written, rows_of, with_rows}
 use Rattle.bac_objects.specs.declared.form.ValueForm.{ValueForm}
 use Rattle.bac_objects.specs.declared.problem.Problem.{Problem}
 use Rattle.bac_objects.specs.declared.problem.Wanted.TheVariants as wanted
@@ -105,13 +106,19 @@ abbrev pub properties_on : ObjectId → List Property → Members → Result (Li
 properties_on id done no_members = Ok done
 properties_on id done (member key d ms) = with_property id done key d >>= (λ more. properties_on id more ms)
 
+-- the properties, and those that the standard requires and the table lacks
+unfoldable pub all_properties : ObjectId → Option File → Members → Result (List Property) Flaw
+all_properties id file ms = do
+  properties ← properties_on id [] ms
+  at (Some id) [] (with_rows properties (rows_of id.kind (is_written file)))
+
 unfoldable pub object_of : Data → Result Object Flaw
 object_of d = do
-  ms ← at None [] (table_of wanted.Table d)
+  ms ← at None [] (object_table d)
   id ← identifier_in ms
   name ← at (Some id) (codes "name") (name_in ms)
   file ← at (Some id) (codes "file") (file_in id.kind ms)
-  properties ← properties_on id [] ms
+  properties ← all_properties id file ms
   Ok (record { id = id; name = name; properties = properties; file = file })
 
 -- ---- all objects
@@ -119,10 +126,11 @@ object_of d = do
 abbrev pub with_object : List Object → Data → Result (List Object) Flaw
 with_object done d = object_of d >>= (λ o. Ok (done ++ o ∷ []))
 
--- the objects, in the order of the document, read after others
+-- the objects, in the order of the document, read after others: no more than are needed to refuse them
 abbrev pub objects_on : List Object → Items → Result (List Object) Fault
 objects_on done no_items = Ok done
-objects_on done (item d ds) = in_object (length done + 1) (with_object done d) >>= (λ more. objects_on more ds)
+objects_on done (item d ds) =
+    if length done == DESCRIBED_LIMIT then Ok done else (in_object (length done + 1) (with_object done d) >>= (λ more. objects_on more ds))
 
 abbrev pub both : (keys : ℕ) → Items → Result Items Problem
 both keys ds = if keys == 2 then Ok ds else Err (record { wanted = wanted.DescribedObjects; given = given.More })

@@ -1,8 +1,8 @@
 -- Values in a document: a table with the value under the word of its form, and a flag.
-use Rattle.std.specs.Prelude.{ℕ, ◌+◌, ◌==◌, Bool, false, List, [], ◌∷◌, map, codes, is_some, if◌then◌else◌, Option, Some, None, Result, Ok, Err}
+use Rattle.std.specs.Prelude.{ℕ, ◌+◌, nat_le, ◌==◌, Bool, false, List, [], ◌∷◌, map, codes, is_some, if◌then◌else◌, Option, Some, None, Result, Ok, Err}
 use Rattle.std.specs.Borrow.{Bor}
 use Rattle.bac_value.specs.Steps.{◌>>=◌}
-use Rattle.toml.specs.Data.{Data, Members, no_members, member, get_member}
+use Rattle.toml.specs.Data.{Data, Items, no_items, item, Members, no_members, member, get_member}
 use Rattle.bac_objects.specs.Reading.{boolean_of, table_of}
 use Rattle.bac_objects.specs.declared.form.ValueForm.{ValueForm}
 use Rattle.bac_objects.specs.declared.form.TheConstants as code
@@ -27,6 +27,31 @@ FILE_FORMS = map (λ r. (r.0.now, r.1)) code.FILE_FORMS.now
 abbrev pub count : Members → ℕ
 count no_members = 0
 count (member k d ms) = 1 + count ms
+
+abbrev pub count_items : Items → ℕ
+count_items no_items = 0
+count_items (item d ds) = 1 + count_items ds
+
+-- ---- how much of a document is read
+
+-- the most keys of an object: each property is compared with those before it
+abbrev pub KEYS_LIMIT : ℕ
+KEYS_LIMIT = 1024
+
+-- the most objects of a document that is not described: each identifier is compared with those before it
+abbrev pub LISTED_LIMIT : ℕ
+LISTED_LIMIT = 10000
+
+-- how many objects of a document that is described are read: more do not describe a store
+abbrev pub DESCRIBED_LIMIT : ℕ
+DESCRIBED_LIMIT = 820
+
+abbrev pub few_keys : Members → Result Members Problem
+few_keys ms = if nat_le (count ms) KEYS_LIMIT then Ok ms else Err (record { wanted = wanted.FewKeys; given = given.More })
+
+-- the table of an object
+abbrev pub object_table : Data → Result Members Problem
+object_table d = table_of wanted.Table d >>= few_keys
 
 abbrev pub or_later : ValueForm → Option Data → Option (ValueForm × Data) → Option (ValueForm × Data)
 or_later f (Some d) later = Some (f, d)

@@ -8,5 +8,6 @@ pub mod Objects
 pub mod Properties
 pub mod Reading
 pub mod Right
+pub mod Standard
 pub mod Values
 pub mod Views

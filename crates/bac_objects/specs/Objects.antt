@@ -7,7 +7,7 @@ use Rattle.bac_store.specs.Limits.{FILE}
 use Rattle.bac_store.specs.Objects.{is_right_type}
 use Rattle.bac_store.specs.Stores.{File, Object, Property, is_object}
 use Rattle.toml.specs.Data.{Data, Items, no_items, item, Members, no_members, member, get_member}
-use Rattle.bac_objects.specs.Held.{count}
+use Rattle.bac_objects.specs.Held.{LISTED_LIMIT, count, count_items, object_table}
 use Rattle.bac_objects.specs.Identifiers.{or_nothing, the_instance, the_type}
 use Rattle.bac_objects.specs.Properties.{file_of, own_property}
 use Rattle.bac_objects.specs.Reading.{array_of, other, table_of, text_of}
@@ -90,7 +90,7 @@ own_identifier done ms = identifier_in ms >>= not_yet done
 -- an object, read after others
 unfoldable pub object_of : List Object → Data → Result Object Flaw
 object_of done d = do
-  ms ← at None [] (table_of wanted.Table d)
+  ms ← at None [] (object_table d)
   id ← own_identifier done ms
   object_with id ms
 
@@ -116,9 +116,12 @@ objects_on done (item d ds) = in_object (length done + 1) (with_object done d) >
 abbrev pub alone : (keys : ℕ) → Items → Result Items Problem
 alone keys ds = if keys == 1 then Ok ds else Err (record { wanted = wanted.Objects; given = given.More })
 
+abbrev pub few_objects : Items → Result Items Problem
+few_objects ds = if nat_le (count_items ds) LISTED_LIMIT then Ok ds else Err (record { wanted = wanted.FewObjects; given = given.More })
+
 -- the list under `object`, which is the only key
 abbrev pub list_in : Members → Result Items Problem
-list_in ms = or_nothing wanted.Objects (get_member (codes "object") ms) >>= (λ d. array_of wanted.Objects d >>= alone (count ms))
+list_in ms = or_nothing wanted.Objects (get_member (codes "object") ms) >>= (λ d. array_of wanted.Objects d >>= alone (count ms) >>= few_objects)
 
 -- the objects of a document, or the first fault: objects in the order of the document; in each `type`, `instance`, whether an earlier one has both,
 -- `name` and `file`, and then the other keys in the order of their octets

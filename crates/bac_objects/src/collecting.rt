@@ -1,10 +1,11 @@
 //! Collecting all faults of a document, where its objects are not read.
 use crate::described::is_described;
 use crate::described_property::described_property;
+use crate::document::few_objects;
 use crate::fault::{Place, ValueFault};
 use crate::finding::{Finding, Wrong};
 use crate::found::{found_words, refused, unknown_key};
-use crate::held::member;
+use crate::held::{member, object_table};
 use crate::identifier::{the_instance, the_type};
 use crate::known_keys::{DESCRIBED_KEYS, DOCUMENT_KEYS, OBJECT_KEYS, nearest, nearest_of_value};
 use crate::mended::{Mended, read_mended};
@@ -13,7 +14,7 @@ use crate::outline::Outline;
 use crate::problem::{Given, Problem, Wanted};
 use crate::property::own_property;
 use crate::refusals::{Reasons, refusals, right_id};
-use crate::scalars::{array, table};
+use crate::scalars::array;
 use crate::type_names::nearest_type;
 use bac_store::{DescriptionFault, DescriptionFlaw, Property};
 use bac_value::{NoMemory, ObjectIdentifier};
@@ -30,6 +31,9 @@ const FILE: u16 = 10;
 
 /// An object type whose properties may have any values.
 const VENDORS: u16 = 128;
+
+/// How long a text may be of which all faults are told, in octets.
+const TOLD_LIMIT: usize = 262_144;
 
 /// The place of a key in a document.
 #[derive(Clone, Copy)]
@@ -49,9 +53,8 @@ struct Whose {
 
 /// What was found so far.
 #[derive(Drop)]
-struct Collecting<'t> {
+struct Collecting {
     alloc: Global,
-    text: &'t str,
     outline: Outline,
     is_described: bool,
     /// Whether each line is TOML: if not, what is missing may stand in one that is none.
@@ -64,7 +67,7 @@ struct Collecting<'t> {
     more: Option<Finding>,
 }
 
-impl Collecting<'_> {
+impl Collecting {
     /// Notes what is wrong at a place, which stands on the line of that key.
     fn note(&mut self, at: At<'_>, line_key: &str, wrong: Wrong) -> Result<(), NoMemory> {
         let place = Place {
@@ -72,7 +75,7 @@ impl Collecting<'_> {
             id: at.id,
             key: String::from_str(self.alloc, at.key)?,
         };
-        let line = self.outline.line(self.text, at.object, line_key);
+        let line = self.outline.line(at.object, line_key);
         Ok(self.findings.push(Finding { line, place, wrong })?)
     }
 
@@ -284,7 +287,7 @@ impl Collecting<'_> {
 
     /// Notes what is wrong with an object.
     fn read_object(&mut self, object: usize, value: &Value) -> Result<(), NoMemory> {
-        let table = match table(Wanted::Table, value) {
+        let table = match object_table(value) {
             Ok(table) => table,
             Err(problem) => {
                 let at = At {
@@ -342,6 +345,9 @@ impl Collecting<'_> {
             return self.note_value(at, None, Problem { wanted, given });
         };
         match array(wanted, value) {
+            Ok(list) if !self.is_described && let Err(problem) = few_objects(list) => {
+                self.note_value(at, Some(value), problem)
+            }
             Ok(list) => {
                 for (place, object) in list.iter().enumerate() {
                     self.read_object(place.saturating_add(1), object)?;
@@ -360,7 +366,7 @@ impl Collecting<'_> {
             line_key,
             value,
         } = refused_in(list, fault);
-        let line = self.outline.line(self.text, number, line_key);
+        let line = self.outline.line(number, line_key);
         let id = table.and_then(right_id);
         let place = Place {
             object: number,
@@ -397,9 +403,7 @@ impl Collecting<'_> {
             return self.note_untold(list, fault);
         }
         let refused = refused_in(list, fault);
-        let line = self
-            .outline
-            .line(self.text, refused.number, refused.line_key);
+        let line = self.outline.line(refused.number, refused.line_key);
         self.more = Some(Finding::more(self.alloc, line));
         Ok(())
     }
@@ -525,9 +529,14 @@ fn is_no_property(problem: Problem) -> bool {
 /// of objects; of each object; and why the objects of a document that describes them are together no store (the first 32 reasons). Where there are more of these, the
 /// last one says so. Of a text that is not UTF-8 there is none here: the refusal of `read_objects` has its line.
 ///
+/// Of a text of more than 262,144 octets there is none either: to find them all takes many times as long as to find the first.
+///
 /// An Err says that an allocation failed.
 pub fn document_findings(alloc: Global, text: &[u8]) -> Result<Vec<Finding>, NoMemory> {
     let mut findings = Vec::new(alloc);
+    if text.len() > TOLD_LIMIT {
+        return Ok(findings);
+    }
     let Ok(whole) = std::str::from_utf8(text) else {
         return Ok(findings);
     };
@@ -539,7 +548,6 @@ pub fn document_findings(alloc: Global, text: &[u8]) -> Result<Vec<Finding>, NoM
     };
     let mut collecting = Collecting {
         alloc,
-        text,
         outline: Outline::of(alloc, text),
         is_described: is_described(&table),
         is_whole: findings

@@ -1,27 +1,32 @@
 //! Documents that say `described = true`: objects of any type, with any properties.
 ghost use Rattle.std.specs.Prelude.{◌≡◌, ◌+◌, [], length, map};
+ghost use Rattle.std.specs.Option.{option_map};
 ghost use Rattle.bac_value.specs.Steps.{ReadsAll};
 ghost use Rattle.bac_value.specs.Views.{object_identifier_view};
-ghost use Rattle.bac_store.specs.Views.{object_view, property_view};
+ghost use Rattle.bac_store.specs.Views.{file_view, object_view, property_view};
 ghost use Rattle.toml.specs.View.{array_view, table_view, view};
 ghost use Rattle.bac_objects.specs.Answers.{ReadsObject};
-ghost use Rattle.bac_objects.specs.Described.{identifier_in as identifier_of, is_described as is_described_in, list_in as list_of, object_of, objects_in as objects_of, objects_on, properties_on, with_object as with_object_of, with_property as with_property_of};
+ghost use Rattle.bac_objects.specs.Described.{all_properties as all_properties_of, identifier_in as identifier_of, is_described as is_described_in, list_in as list_of, object_of, objects_in as objects_of, objects_on, properties_on, with_object as with_object_of, with_property as with_property_of};
 ghost use Rattle.bac_objects.specs.Documents.{IsDescribedTable, ReadsDocument};
 ghost use Rattle.bac_objects.specs.Objects.{in_object as in_object_of};
 
 use crate::described_property::described_property;
 use crate::document::in_object;
 use crate::fault::{DocumentFault, Flaw, ObjectFault, Refusal, ValueFault};
-use crate::held::{count, member};
+use crate::held::{count, member, object_table};
 use crate::identifier::{the_instance, the_type};
 use crate::object::{at, file_of, is_reserved, name_in};
 use crate::problem::{Given, Problem, Wanted};
-use crate::scalars::{array, table};
-use bac_store::{DescriptionFault, DescriptionFlaw, Object, Property, Store};
+use crate::scalars::array;
+use crate::standard::{is_written, rows_of, with_rows};
+use bac_store::{DescriptionFault, DescriptionFlaw, File, OBJECTS_LIMIT, Object, Property, Store};
 use bac_value::ObjectIdentifier;
 use std::alloc::Global;
 use toml::value::Array;
 use toml::{Table, Value};
+
+/// How many objects of a document are read: one more than a store describes.
+pub(crate) const DESCRIBED_LIMIT: usize = OBJECTS_LIMIT + 1;
 
 /// Whether a document says that its objects are described.
 pub(crate) fn is_described(table: &Table) -> bool
@@ -91,12 +96,30 @@ fn properties_in<'a>(
     Ok(properties)
 }
 
+/// Reads the properties of an object, and adds those that the standard requires and the table lacks.
+#[tactic(auto, unfolding(crate::specs::Described::all_properties))]
+fn all_properties<'a>(
+    alloc: Global,
+    id: ObjectIdentifier,
+    file: &Option<File>,
+    table: &'a Table,
+) -> Result<Vec<Property>, ObjectFault<'a>>
+    ensures { ReadsObject (λ v. map property_view v.items) result
+        (all_properties_of (object_identifier_view id) (option_map file_view file.now) (table_view table.now)) }
+{
+    let properties = properties_in(alloc, id, table)?;
+    match with_rows(alloc, properties, rows_of(id.kind, is_written(file))) {
+        Ok(properties) => Ok(properties),
+        Err(fault) => Err(at(Some(id), "", fault)),
+    }
+}
+
 /// Reads an object of any type.
 #[tactic(auto, unfolding(crate::specs::Described::object_of))]
-fn object_in(alloc: Global, value: &Value) -> Result<Object, ObjectFault<'_>>
+pub(crate) fn object_in(alloc: Global, value: &Value) -> Result<Object, ObjectFault<'_>>
     ensures { ReadsObject object_view result (object_of (view value.now)) }
 {
-    let table = match table(Wanted::Table, value) {
+    let table = match object_table(value) {
         Ok(table) => table,
         Err(problem) => return Err(at(None, "", ValueFault::Wrong(problem))),
     };
@@ -109,7 +132,7 @@ fn object_in(alloc: Global, value: &Value) -> Result<Object, ObjectFault<'_>>
         Ok(file) => file,
         Err(fault) => return Err(at(Some(id), "file", fault)),
     };
-    let properties = properties_in(alloc, id, table)?;
+    let properties = all_properties(alloc, id, &file, table)?;
     Ok(Object {
         id,
         name,
@@ -144,12 +167,15 @@ fn with_next(alloc: Global, done: Vec<Object>, value: &Value) -> Result<Vec<Obje
     }
 }
 
-/// All objects of a list.
+/// All objects of a list, or as many as are needed to refuse it.
 fn objects_of_list(alloc: Global, list: &Array) -> Result<Vec<Object>, DocumentFault>
     ensures { ReadsDocument (λ v. map object_view v.items) result (objects_on [] (array_view list.now)) }
 {
     let mut objects = Vec::new(alloc);
     for value in list {
+        if objects.len() == DESCRIBED_LIMIT {
+            return Ok(objects);
+        }
         objects = with_next(alloc, objects, value)?;
     }
     Ok(objects)

@@ -6,7 +6,7 @@ ghost use Rattle.toml.specs.View.{array_view, items_view, table_view, view};
 ghost use Rattle.bac_objects.specs.Answers.{ReadsObject};
 ghost use Rattle.bac_objects.specs.Documents.{AreRead, AreReadTable, IsInObject, IsRead, IsReadTable, ReadsDocument};
 ghost use Rattle.bac_objects.specs.Right.{AreFit};
-ghost use Rattle.bac_objects.specs.Objects.{in_object as in_object_of, list_in as list_of, objects_in as objects_of, objects_on, with_object as with_object_of};
+ghost use Rattle.bac_objects.specs.Objects.{few_objects as few_objects_of, in_object as in_object_of, list_in as list_of, objects_in as objects_of, objects_on, with_object as with_object_of};
 
 use crate::described;
 use crate::described::{described_store, is_described};
@@ -80,6 +80,23 @@ fn objects_of_list(alloc: Global, list: &Array) -> Result<Vec<Object>, DocumentF
     Ok(objects)
 }
 
+/// The most objects of a document that is not described: each identifier is compared with those before it.
+pub(crate) const LISTED_LIMIT: usize = 10_000;
+
+/// A list of few objects.
+#[tactic(auto, using(crate::proofs::Tables::count_items_length))]
+pub(crate) fn few_objects(list: &Array) -> Result<&Array, Problem>
+    ensures { ReadsAll (λ a. array_view a.now) result (few_objects_of (array_view list.now)) }
+{
+    if list.len() > LISTED_LIMIT {
+        return Err(Problem {
+            wanted: Wanted::FewObjects,
+            given: Given::More,
+        });
+    }
+    Ok(list)
+}
+
 /// The list under the key `object`, which is the only key.
 fn list_in(table: &Table) -> Result<&Array, Problem>
     ensures { ReadsAll (λ a. array_view a.now) result (list_of (table_view table.now)) }
@@ -97,7 +114,7 @@ fn list_in(table: &Table) -> Result<&Array, Problem>
             given: Given::More,
         });
     }
-    Ok(list)
+    few_objects(list)
 }
 
 /// The objects of a document.
@@ -142,7 +159,10 @@ fn line_of(text: &[u8], error: &Error) -> usize {
 }
 
 /// Reads a store from a document: TOML in UTF-8. A document with `described = true` before its objects describes a store
-/// ([`Store::describing`]); all others have the objects of [`Store::new`].
+/// ([`Store::describing`]); all others have the objects of [`Store::new`]. Described objects get the properties that the standard requires of their type (clause 12)
+/// and the document leaves out.
+///
+/// An object has at most 1,024 keys; a document that is not described at most 10,000 objects.
 ///
 /// Returns `Refused` if a document that describes a store has a fault that its objects alone don't show.
 ///
@@ -174,7 +194,8 @@ fn objects_of_table(alloc: Global, table: &Table) -> Result<Vec<Object>, Documen
     }
 }
 
-/// Reads the objects of a document, in its order: those that [`read_objects`] makes a store of.
+/// Reads the objects of a document, in its order: those that [`read_objects`] makes a store of. Of a described document that lists more than a store has, the first
+/// 820.
 ///
 /// The faults are those of `read_objects`, but `Refused`, which the objects alone don't show.
 pub fn read_object_list(alloc: Global, text: &[u8]) -> Result<Vec<Object>, DocumentFault>

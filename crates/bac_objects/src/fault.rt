@@ -110,6 +110,14 @@ impl From<AllocError> for DocumentFault {
     }
 }
 
+impl From<NoMemory> for DocumentFault {
+    ghost from_gives = { λ _ e. e ≡ document_fault.NoMemory };
+
+    fn from(_error: NoMemory) -> DocumentFault {
+        DocumentFault::NoMemory
+    }
+}
+
 /// Why no value was read.
 #[derive(Clone, Copy)]
 pub(crate) enum ValueFault {

@@ -147,12 +147,24 @@ pub(crate) fn cut(alloc: Global, text: String) -> Result<String, NoMemory> {
     }
 }
 
+/// How many keys or objects there are, where fewer are wanted.
+fn too_many(value: Option<&Value>, wanted: Wanted) -> Option<usize> {
+    match (wanted, value?) {
+        (Wanted::FewKeys, Value::Table(table)) => Some(table.len()),
+        (Wanted::FewObjects, Value::Array(list)) => Some(list.len()),
+        _ => None,
+    }
+}
+
 /// What is given in place of what is wanted: the value as TOML writes it, or words where there is none or it does not tell.
 pub(crate) fn found_words(
     alloc: Global,
     value: Option<&Value>,
     problem: Problem,
 ) -> Result<String, NoMemory> {
+    if let Some(count) = too_many(value, problem.wanted) {
+        return Ok(format!(in alloc; "{count}")?);
+    }
     let words = match problem.given {
         Given::Nothing => "nothing",
         Given::Again => "a duplicate",

@@ -4,7 +4,7 @@ ghost use Rattle.std.specs.Option.{option_map};
 ghost use Rattle.bac_value.specs.Steps.{ReadsAll};
 ghost use Rattle.toml.specs.Data.{get_member};
 ghost use Rattle.toml.specs.View.{view, table_view};
-ghost use Rattle.bac_objects.specs.Held.{FILE_FORMS as FILE_ROWS, FORMS as ROWS, alone as alone_of, count as count_of, found_in as found_of, held_by as held_of, held_in, mark_of, or_nothing, plain, the_mark};
+ghost use Rattle.bac_objects.specs.Held.{FILE_FORMS as FILE_ROWS, FORMS as ROWS, alone as alone_of, count as count_of, found_in as found_of, held_by as held_of, held_in, mark_of, object_table as object_table_of, or_nothing, plain, the_mark};
 ghost use Rattle.bac_objects.specs.Views.{held_view};
 
 use crate::form::{FILE_FORMS, FORMS, ValueForm};
@@ -32,6 +32,23 @@ pub(crate) fn count(table: &Table) -> usize
     ensures { result ≡ count_of (table_view table.now) }
 {
     table.len()
+}
+
+/// The most keys of an object: each property is compared with those before it.
+const KEYS_LIMIT: usize = 1024;
+
+/// The table of an object, which has few keys.
+pub(crate) fn object_table(value: &Value) -> Result<&Table, Problem>
+    ensures { ReadsAll (λ t. table_view t.now) result (object_table_of (view value.now)) }
+{
+    let table = table(Wanted::Table, value)?;
+    if count(table) > KEYS_LIMIT {
+        return Err(Problem {
+            wanted: Wanted::FewKeys,
+            given: Given::More,
+        });
+    }
+    Ok(table)
 }
 
 /// The value under the first of some words that is a key.

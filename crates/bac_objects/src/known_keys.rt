@@ -48,6 +48,10 @@ const MOST_EDITS: usize = 2;
 
 /// How like a known key is, where it is like enough: how many edits lead there.
 fn edits_to(alloc: Global, key: &str, known: &'static str) -> Result<Option<usize>, AllocError> {
+    // a letter has up to four octets
+    if key.len() / 4 > known.len().saturating_add(MOST_EDITS) {
+        return Ok(None);
+    }
     let edits = strsim::osa_distance(alloc, key, known)?;
     if edits <= MOST_EDITS && edits < known.len() {
         Ok(Some(edits))

@@ -22,6 +22,8 @@ mod problem;
 mod property;
 mod refusals;
 mod scalars;
+mod standard;
+mod steps;
 mod type_names;
 mod values;
 
@@ -31,3 +33,4 @@ pub use fault::{DocumentFault, Place, Refusal};
 pub use finding::{Finding, Wrong};
 pub use form::{Kind, ValueForm};
 pub use problem::{Given, Problem, Wanted};
+pub use steps::{DocumentSteps, ReadDocument};

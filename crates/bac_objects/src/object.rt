@@ -15,11 +15,11 @@ ghost use Rattle.bac_objects.specs.Objects.{file_in as file_in_members, has_id a
 ghost use Rattle.bac_objects.specs.Objects.{object_of, object_with as object_by, own_identifier as own_identifier_of, properties_on, served_type, with_property as with_property_of};
 
 use crate::fault::{Flaw, ObjectFault, ValueFault};
-use crate::held::member;
+use crate::held::{member, object_table};
 use crate::identifier::{the_instance, the_type};
 use crate::problem::{Given, Problem, Wanted};
 use crate::property::{file_in, own_property};
-use crate::scalars::{table, text};
+use crate::scalars::text;
 use bac_store::{File, Object, Property};
 use bac_value::ObjectIdentifier;
 use std::alloc::Global;
@@ -246,7 +246,7 @@ pub(crate) fn object_in<'a>(
     ensures right { IfOk result (λ o. IsRight (object_view o)) }
     ensures new { IfOk result (λ o. has_id_in (object_identifier_view o.id) (map object_view done.now) ≡ false) }
 {
-    let table = match table(Wanted::Table, value) {
+    let table = match object_table(value) {
         Ok(table) => table,
         Err(problem) => return Err(at(None, "", ValueFault::Wrong(problem))),
     };

@@ -1,30 +1,30 @@
 //! The lines at which the objects and the keys of a document stand.
 use std::alloc::Global;
+use std::collections::BTreeMap;
 use toml_parser::text::{first, skip, skip_blank, skip_ws};
 use toml_parser::{Key, dotted_key, quoted, starts_string};
 
 /// The list of objects.
 const OBJECTS: &str = "object";
 
-/// A key of a document, and where its line begins.
-#[derive(Drop)]
-struct KeyPlace {
-    /// The number of the object that has the key, from 1 on; 0 for a key outside of objects.
-    object: usize,
-    /// The key; empty for the head of an object.
-    key: String,
-    /// How many octets of the document are before it.
-    before: usize,
-}
-
-/// The keys of a document, in its order.
+/// The lines at which the keys of a document stand.
 #[derive(Drop)]
 pub(crate) struct Outline {
-    keys: Vec<KeyPlace>,
-    /// How many objects have begun.
-    objects: usize,
+    /// For each object its keys, each with the number of its line, from 1 on; the empty key is the head of the object. The keys outside of objects come first.
+    lines: Vec<BTreeMap<String, usize>>,
+}
+
+/// A document of which the outline is read.
+#[derive(Drop)]
+struct Outlining<'t> {
+    alloc: Global,
+    text: &'t str,
+    outline: Outline,
     /// Whether the keys that come next are those of an object, or of no table at all.
     is_direct: bool,
+    /// How many octets have been passed over, and the number of the line behind them.
+    passed: usize,
+    line: usize,
 }
 
 /// What follows an octet of ASCII; nothing where the next is none.
@@ -69,7 +69,7 @@ fn behind_piece(alloc: Global, rest: &str) -> Option<&str> {
 }
 
 /// What follows a value or the rest of a head, from the end of its line on. None where it cannot be read.
-fn behind_value(alloc: Global, text: &str) -> Option<&str> {
+pub(crate) fn behind_value(alloc: Global, text: &str) -> Option<&str> {
     let mut rest = text;
     let mut depth: usize = 0;
     for _place in 0..text.len() {
@@ -84,7 +84,7 @@ fn behind_value(alloc: Global, text: &str) -> Option<&str> {
 }
 
 /// What begins with the first key or head: the text without blanks, comments and the byte order mark that some editors put at its beginning.
-fn first_statement(text: &str) -> &str {
+pub(crate) fn first_statement(text: &str) -> &str {
     skip_blank(text.strip_prefix('\u{feff}').unwrap_or(text), true)
 }
 
@@ -108,110 +108,142 @@ pub(crate) fn statement_at(alloc: Global, text: &str, place: usize) -> (usize, O
     (begin, end)
 }
 
-impl Outline {
-    /// Notes a key, or the head of the latest object. None where memory is refused.
-    fn note(&mut self, object: usize, key: &str, alloc: Global, before: usize) -> Option<()> {
-        let key = String::from_str(alloc, key).ok()?;
-        let place = KeyPlace {
-            object,
-            key,
-            before,
-        };
-        self.keys.push(place).ok()
+/// Whether a text begins with the head of an object.
+pub(crate) fn is_object_head(alloc: Global, rest: &str) -> bool {
+    let Some(inner) = rest.strip_prefix("[[") else {
+        return false;
+    };
+    match key_in(alloc, skip_ws(inner)) {
+        Some((name, _)) => name.path.is_empty() && name.last.as_str() == OBJECTS,
+        None => false,
+    }
+}
+
+impl<'t> Outlining<'t> {
+    /// The number of the latest object, from 1 on; 0 where none has begun.
+    fn latest(&self) -> usize {
+        self.outline.lines.len().saturating_sub(1)
+    }
+
+    /// The number of the line that follows so many octets, which are no fewer than the last time.
+    fn line_at(&mut self, before: usize) -> usize {
+        let octets = self.text.as_bytes();
+        let more = lines_in(octets.get(self.passed..before).unwrap_or(&[]));
+        self.line = self.line.saturating_add(more);
+        self.passed = before;
+        self.line
+    }
+
+    /// Notes a key, or the head of an object, which so many octets are before. None where memory is refused.
+    fn note(&mut self, object: usize, key: &str, before: usize) -> Option<()> {
+        let line = self.line_at(before);
+        let keys = self.outline.lines.get_mut(object)?;
+        if keys.contains_key(key) {
+            return Some(());
+        }
+        let key = String::from_str(self.alloc, key).ok()?;
+        keys.insert(key, line).ok()?;
+        Some(())
+    }
+
+    /// Begins an object with its head, or the keys outside of objects.
+    fn begin(&mut self) -> Option<()> {
+        let keys = BTreeMap::new(self.alloc);
+        self.outline.lines.push(keys).ok()
     }
 
     /// Reads the head of a table or of a list's table; what follows its line.
-    fn read_head<'t>(&mut self, alloc: Global, before: usize, rest: &'t str) -> Option<&'t str> {
+    fn read_head(&mut self, before: usize, rest: &'t str) -> Option<&'t str> {
         let inner = behind(rest);
         let inner = if first(inner) == b'[' {
             behind(inner)
         } else {
             inner
         };
-        let (name, after) = key_in(alloc, skip_ws(inner))?;
-        let is_direct = name.path.is_empty() && name.last.as_str() == OBJECTS;
-        if is_direct {
-            self.objects = self.objects.saturating_add(1);
-            self.note(self.objects, "", alloc, before)?;
+        let (name, after) = key_in(self.alloc, skip_ws(inner))?;
+        self.is_direct = name.path.is_empty() && name.last.as_str() == OBJECTS;
+        if self.is_direct {
+            self.begin()?;
+            self.note(self.latest(), "", before)?;
         } else if let Some(table) = name.path.first() {
             let object = if table.as_str() == OBJECTS {
-                self.objects
+                self.latest()
             } else {
                 0
             };
             let key = name.path.get(1).unwrap_or(&name.last);
-            self.note(object, key.as_str(), alloc, before)?;
+            self.note(object, key.as_str(), before)?;
         } else {
-            self.note(0, name.last.as_str(), alloc, before)?;
+            self.note(0, name.last.as_str(), before)?;
         }
-        self.is_direct = is_direct;
-        behind_value(alloc, after)
+        behind_value(self.alloc, after)
     }
 
     /// Reads a key and its value; what follows them.
-    fn read_key<'t>(&mut self, alloc: Global, before: usize, rest: &'t str) -> Option<&'t str> {
-        let (name, after) = key_in(alloc, rest)?;
+    fn read_key(&mut self, before: usize, rest: &'t str) -> Option<&'t str> {
+        let (name, after) = key_in(self.alloc, rest)?;
         if self.is_direct {
             let key = name.path.first().unwrap_or(&name.last);
-            self.note(self.objects, key.as_str(), alloc, before)?;
+            self.note(self.latest(), key.as_str(), before)?;
         }
-        behind_value(alloc, after)
+        behind_value(self.alloc, after)
     }
 
-    /// Reads all heads and keys of a text. None where that is no longer TOML, or memory is refused.
-    fn read(&mut self, alloc: Global, text: &str) -> Option<()> {
+    /// Reads all heads and keys. None where the text is no longer TOML, or memory is refused.
+    fn read(&mut self) -> Option<()> {
+        let text = self.text;
         let mut rest = first_statement(text);
+        self.begin()?;
         for _place in 0..text.len() {
             if rest.is_empty() {
                 return Some(());
             }
             let before = text.len().saturating_sub(rest.len());
             let after = if first(rest) == b'[' {
-                self.read_head(alloc, before, rest)?
+                self.read_head(before, rest)?
             } else {
-                self.read_key(alloc, before, rest)?
+                self.read_key(before, rest)?
             };
             rest = skip_blank(after, true);
         }
         Some(())
     }
+}
 
+impl Outline {
     /// The outline of a document, as far as it can be read and memory is there.
     pub(crate) fn of(alloc: Global, text: &str) -> Outline {
-        let mut outline = Outline {
-            keys: Vec::new(alloc),
-            objects: 0,
+        let mut outlining = Outlining {
+            alloc,
+            text,
+            outline: Outline {
+                lines: Vec::new(alloc),
+            },
             is_direct: true,
+            passed: 0,
+            line: 1,
         };
         // where it ends early, the lines of the later keys are not known
-        let _ = outline.read(alloc, text);
-        outline
-    }
-
-    /// How many octets are before that key of an object.
-    fn octets_before(&self, object: usize, key: &str) -> Option<usize> {
-        let mut keys = self.keys.iter();
-        let place = keys.find(|p| p.object == object && p.key.as_str() == key)?;
-        Some(place.before)
+        let _ = outlining.read();
+        outlining.outline
     }
 
     /// The number of the line at which a key of an object stands, from 1 on; that of the object's head where it has no such key. None where it is not known.
-    pub(crate) fn line(&self, text: &str, object: usize, key: &str) -> Option<usize> {
-        let before = match self.octets_before(object, key) {
-            Some(before) => before,
-            None => self.octets_before(object, "")?,
-        };
-        Some(line_behind(text.as_bytes(), before))
+    pub(crate) fn line(&self, object: usize, key: &str) -> Option<usize> {
+        let keys = self.lines.get(object)?;
+        match keys.get(key) {
+            Some(line) => Some(*line),
+            None => keys.get("").copied(),
+        }
     }
+}
+
+/// How many lines end in a text.
+fn lines_in(text: &[u8]) -> usize {
+    text.iter().filter(|octet| **octet == b'\n').count()
 }
 
 /// The number of the line, from 1 on, that follows so many octets.
 pub(crate) fn line_behind(text: &[u8], octets: usize) -> usize {
-    let mut line: usize = 1;
-    for octet in &text[..octets.min(text.len())] {
-        if *octet == b'\n' {
-            line = line.saturating_add(1);
-        }
-    }
-    line
+    lines_in(&text[..octets.min(text.len())]).saturating_add(1)
 }

@@ -9,8 +9,14 @@ pub enum Wanted {
     Objects,
     /// The document has only the keys `described` and `object`, the latter with a list of tables.
     DescribedObjects,
+    /// At most 10,000 objects in a document that does not describe them.
+    FewObjects,
     /// An object is a table.
     Table,
+    /// At most 1,024 keys in an object.
+    FewKeys,
+    /// Tables of an object that a step reads: at most 262,144 octets, without comments, and 8,192 keys.
+    ShortTable,
     /// An object type that a store supports, by its name or its number.
     ServedType,
     /// Any object type, by its name or its number from 0 to 1,023.
@@ -118,7 +124,10 @@ impl Wanted {
         match self {
             Wanted::Objects => "only [[object]] tables",
             Wanted::DescribedObjects => "only described and [[object]] tables",
+            Wanted::FewObjects => "at most 10000 objects",
             Wanted::Table => "table",
+            Wanted::FewKeys => "at most 1024 keys",
+            Wanted::ShortTable => "at most 262144 octets and 8192 keys in an object",
             Wanted::ServedType => {
                 "analog-input, analog-value, binary-value, device, file or 128 to 1023"
             }

@@ -65,7 +65,7 @@ fn spelled(alloc: Global, value: &bac_value::Value) -> Result<DataBuf, NoMemory>
 }
 
 /// The octets as data, if they encode data as a whole.
-fn data_in(octets: Vec<u8>) -> Result<DataBuf, Problem>
+pub(crate) fn data_in(octets: Vec<u8>) -> Result<DataBuf, Problem>
     ensures { ReadsAll (λ d. d.octets.items) result (whole_data octets.items (data_of octets.items)) }
 {
     match take_data(octets.as_slice()) {
@@ -160,7 +160,7 @@ fn property_in(alloc: Global, kind: u16, key: &str, value: &Value) -> Result<Pro
 
 /// Whether one of some properties has this number.
 #[tactic(auto, using(crate::proofs::Numbers::number_next))]
-fn has_number(number: u32, properties: &[Property]) -> bool
+pub(crate) fn has_number(number: u32, properties: &[Property]) -> bool
     ensures { result ≡ has_number_in number (map property_view properties.now) }
 {
     for property in properties {

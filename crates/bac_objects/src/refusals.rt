@@ -1,6 +1,8 @@
 //! Why the objects that a document describes are together no store: all reasons, as far as the objects can be read.
+use crate::described::DESCRIBED_LIMIT;
 use crate::described_property::described_property;
 use crate::fault::ValueFault;
+use crate::held::object_table;
 use crate::identifier::{the_instance, the_type};
 use crate::object::{file_of, is_reserved, name_in};
 use crate::problem::Wanted;
@@ -57,7 +59,7 @@ fn right_file(alloc: Global, kind: u16, table: &Table) -> Result<Option<File>, N
 
 /// What is right of an object. None where it has no identifier or no name.
 fn right_object(alloc: Global, value: &Value) -> Result<Option<Object>, NoMemory> {
-    let Value::Table(table) = value else {
+    let Ok(table) = object_table(value) else {
         return Ok(None);
     };
     let Some(id) = right_id(table) else {
@@ -88,7 +90,7 @@ struct Placed {
     places: Vec<usize>,
 }
 
-/// The objects of a list, as far as they are right, without what was refused.
+/// The objects of a list, as far as they are right, without what was refused: as many as are needed to refuse them.
 fn objects_without(
     alloc: Global,
     list: &Array,
@@ -97,6 +99,9 @@ fn objects_without(
     let mut objects = Vec::new(alloc);
     let mut places = Vec::new(alloc);
     for (place, value) in list.iter().enumerate() {
+        if objects.len() == DESCRIBED_LIMIT {
+            break;
+        }
         if is_refused(refused, place, None) {
             continue;
         }

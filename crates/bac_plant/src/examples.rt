@@ -10,7 +10,7 @@ pub fn answered_turns()
     ensures { AnsweredTurns }
 {}
 
-/// The other station takes a round: it sends the answer after the turn that performed the request.
+/// Two stations: one asks the other, which takes a round. It sends the answer after the turn that performed the request.
 #[tactic(auto, using(crate::proofs::Answered::answered_round))]
 pub fn answered_round()
     ensures { AnsweredRound }

@@ -11,14 +11,14 @@ ghost use Rattle.bac_world.specs.World.{Event, IsBounded, IsFresh, World, stores
 ghost use Rattle.bac_plant.specs.Answers.{AnswersAreReplies};
 ghost use Rattle.bac_plant.specs.Moments.{AnswersAreOfMoments};
 
-/// After every run of a fresh world, each answer that ends an ask is the reply of its server's store to its request: a read, a write or an append.
-/// The store is as it was at a moment between the ask and its end. That holds whichever nodes let clients use an invoke ID again, with a clock for
-/// each node and strangers among them.
+/// After every run of a fresh world, each answer that ends an ask is the reply of its server's store to its request. The request may be a read, a
+/// write or an append. The store is as it was at a moment between the ask and its end. That holds whichever nodes let clients use an invoke ID again,
+/// with a clock for each node and strangers among them.
 ///
-/// In the log (`runs`) that is where the request was performed. The store is that of the server's last start, after the requests performed and the
-/// changes made at that node since, in the log's order. So are all stores of nodes, after each run (`stores`). In the run (`moments`) it is the store
-/// that the server's node has in a world to which the run has come. Any log that is right with the stores says so too: in the words for servers of
-/// either setting (`logs`), or in those of the headline (`headline`).
+/// In the log (`runs`) that moment is where the request was performed. The store is that of the server's last start, after the requests performed and
+/// the changes made at that node since, in the log's order. So are all stores of nodes, after each run (`stores`). In the run (`moments`) it is the
+/// store that the server's node has in a world to which the run has come. Any log that is right with the stores says so too: in the words for servers
+/// of either setting (`logs`), or in those of the headline (`headline`).
 #[tactic(auto, using(crate::proofs::Answers::in_logs, crate::proofs::Answers::in_logs_of_headline))]
 pub fn answers_are_replies()
     ensures runs { (W overtake : ℕ) (u : Reuses) (w w' : World) → IsFresh w → IsTimely w.time.pace → IsBounded W overtake w → (events : List Event)

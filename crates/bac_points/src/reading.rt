@@ -12,7 +12,7 @@ use crate::performing::Desk;
 use crate::questions::{WINDOW, lines_in};
 use bac_ask_report::Outcome;
 use bac_asking::{Client, ClientSockets, gather, outcome_of, print_header};
-use bac_driver::{AskEnd, Question};
+use bac_driver::AskEnd;
 use bac_lists::LineQuestion;
 use bac_point_report::{
     failure_line, has_values, is_silent, shown, targets_in, value_line, values_of,

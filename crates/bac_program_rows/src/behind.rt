@@ -10,9 +10,9 @@ pub(crate) enum Behind<'a> {
     Nothing,
     /// Houses: at port 47,808, and at the second free port. Nobody is at the others.
     Houses,
-    /// The same; of answers that wait the one that was sent last comes first.
+    /// Houses; of answers that wait the one that was sent last comes first.
     Backwards,
-    /// The same, and the system refuses each link but the first.
+    /// Houses, and the system refuses each link but the first.
     HousesOnce,
     /// Nobody.
     Nobody,
@@ -20,17 +20,17 @@ pub(crate) enum Behind<'a> {
     Answer(&'a str),
     /// Who is asked answers each request, by its invoke ID, with this service data of a ComplexACK of ReadProperty.
     Read(&'a str),
-    /// The same; of answers that wait the one that was sent last comes first.
+    /// Who is asked answers as of `Read`; of answers that wait the one that was sent last comes first.
     Reads(&'a str),
-    /// The same, and the system refuses each link but the first.
+    /// Who is asked answers as of `Read`, and the system refuses each link but the first.
     ReadsOnce(&'a str),
     /// Who is asked answers one request after the other with the APDUs of a block, in which the second octet is the invoke ID of the request.
     Replies(&'a str),
-    /// So many requests wait at each link.
+    /// Requests wait at each link, this many.
     Requests(u8),
     /// Those of a block come at each link, one after the other: the port of 127.0.0.1 that sent one, 47,616 to 47,871, and it in hexadecimal.
     Datagrams(&'a str),
-    /// The same, and nothing can be sent.
+    /// Datagrams come as of `Datagrams`, and nothing can be sent.
     Unsent(&'a str),
     /// A link fails to receive.
     Deaf,

@@ -151,6 +151,7 @@ pub(crate) struct BenchMachine<'a> {
 }
 
 impl<'a> BenchMachine<'a> {
+    /// The machine of a scene, before any call.
     pub(crate) fn new(alloc: Global, setup: Setup<'a>, scene: Scene<'a>) -> BenchMachine<'a> {
         BenchMachine {
             alloc,
@@ -164,7 +165,7 @@ impl<'a> BenchMachine<'a> {
         }
     }
 
-    /// That port, or where it is 0 the next free one.
+    /// The port that a link gets which asks for one: that one, or for 0 the next free one.
     fn port(&self, port: u16) -> u16 {
         if port == 0 {
             self.last_free.set(self.last_free.get().saturating_add(1));
@@ -240,8 +241,9 @@ impl<'a> Sockets for BenchMachine<'a> {
         self.scene.clock
     }
 
-    /// That of the scene; none where there is no clock.
+    /// The time of day of the scene; None where there is no clock.
     fn time_of_day(&self) -> Option<u64> {
+        // a machine without a clock tells no time of day
         let _clock = self.scene.clock?;
         let time = self.time.get();
         self.time.set(time.saturating_add(self.scene.day));
@@ -304,7 +306,7 @@ impl StandardInput for BenchMachine<'_> {
 }
 
 impl StandardError for BenchMachine<'_> {
-    /// As the scene says, by how often it was asked.
+    /// Whether there is room: the scene says so by how often it was asked.
     fn has_room(&self) -> bool {
         let asked = self.asked.get();
         self.asked.set(asked.saturating_add(1));
@@ -318,6 +320,10 @@ impl StandardError for BenchMachine<'_> {
 impl Machine for BenchMachine<'_> {
     fn shows_progress(&self) -> bool {
         self.scene.is_terminal
+    }
+
+    fn is_screen(&self) -> bool {
+        self.scene.is_screen
     }
 
     fn built(&self) -> Option<String> {

@@ -127,7 +127,7 @@ impl<'a> Command<'a> {
     /// What comes of it on the machine that plays the rows, and how long that took by a clock that was made before.
     fn run_on_machine(&self, out: &mut Sink, err: &mut Sink) -> Ended {
         let clock = MonotonicClock::new(self.rt).ok();
-        let system = System::new(self.rt, false);
+        let system = System::new(self.rt, false, false);
         let code = run(self.rt.alloc(), &self.words, &system, &system, out, err).code();
         let took = match clock {
             Some(mut clock) => clock.now(),
@@ -140,7 +140,8 @@ impl<'a> Command<'a> {
         }
     }
 
-    /// Prints the port and the first invoke ID of a client that begins at a moment, by the key of a secret, and how much of its share is left.
+    /// Prints the port and the first invoke ID of a client that begins at a moment, by the key of a secret. Behind them is how much of its share is
+    /// left.
     fn put_pair(&self, out: &mut Sink) -> Option<()> {
         let key = PairKey::of_secret(self.words.get(1)?.as_bytes());
         let moment = self.words.get(2)?.parse::<u64>().ok()?;
@@ -149,7 +150,7 @@ impl<'a> Command<'a> {
         writeln!(out, "{port} {first_id} {left}").ok()
     }
 
-    /// The same; status 2 where the word is no moment.
+    /// Prints the pair of a client as `put_pair` does; status 2 where the word is no moment.
     fn print_pair(&self, out: &mut Sink) -> Ended {
         let code = match self.put_pair(out) {
             Some(()) => 0,

@@ -65,7 +65,7 @@ fn put_digits(alloc: Global, line: &str, out: &mut Vec<u8>) -> Option<()> {
     Some(())
 }
 
-/// The same, of hexadecimal.
+/// Appends the octets of a block of hexadecimal.
 fn put_hex_block(alloc: Global, text: &str, out: &mut Vec<u8>) -> Option<()> {
     for line in text.lines() {
         match of_block(line) {
@@ -94,6 +94,7 @@ pub(crate) struct Files<'a> {
 }
 
 impl<'a> Files<'a> {
+    /// The files of a setup, of which none was opened or written.
     pub(crate) fn new(alloc: Global, setup: Setup<'a>) -> Files<'a> {
         Files {
             alloc,

@@ -69,6 +69,7 @@ impl<'a> Setup<'a> {
         }
     }
 
+    /// Whether a line that begins with that word is there.
     pub(crate) fn has(&self, word: &str) -> bool {
         self.line(word).is_some()
     }
@@ -111,6 +112,8 @@ pub(crate) struct Scene<'a> {
     /// The address that it sends from.
     pub source: Option<[u8; 4]>,
     pub is_terminal: bool,
+    /// Whether standard output is a terminal.
+    pub is_screen: bool,
 }
 
 /// `MOMENT +STEP` or `MOMENT -STEP`.
@@ -209,5 +212,6 @@ pub(crate) fn scene_of(setup: Setup<'_>) -> Option<Scene<'_>> {
         full: full_in(setup)?,
         source: source_in(setup)?,
         is_terminal: setup.has("terminal"),
+        is_screen: setup.has("screen"),
     })
 }

@@ -2,11 +2,14 @@
 //!
 //! After a line that says what happens come the lines that are printed, each indented by two spaces. Lines that begin with `--` are comments.
 //! `FIRST,NEXT..LAST: ` before a line stands for that line once for each of these numbers.
-//! In a line `<name>` stands for the text that a line `name: text` of the names has, `{41*00}` for 41 times the text `00`, `#` for the number in decimal,
-//! `{+6}` for the number plus 6, `@` for the number modulo 256 in hexadecimal, `|` for the end of a line, and `_` for nothing.
-//!
-//! `{41/}` stands for the first 41 octets of a long file whose octet i is i / 256, `{41/7}` for 41 octets of it from octet 7 on, and `{41/-12,44}` for 41 octets
-//! of it from octet -12 + 44 times the number on.
+//! In a line these stand for something else:
+//! - `<name>` for the text that a line `name: text` of the names has;
+//! - `{41*00}` for 41 times the text `00`;
+//! - `#` for the number in decimal, `{+6}` for the number plus 6, and `@` for the number modulo 256 in hexadecimal;
+//! - `|` for the end of a line, and `_` for nothing;
+//! - `{41/}` for the first 41 octets of a long file whose octet i is i / 256;
+//! - `{41/7}` for 41 octets of it from octet 7 on;
+//! - `{41/-12,44}` for 41 octets of it from octet -12 + 44 times the number on.
 use crate::RowFault;
 use std::alloc::Global;
 use std::fmt::Write;

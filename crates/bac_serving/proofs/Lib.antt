@@ -6,3 +6,4 @@ pub mod Listed
 pub mod KeptServed
 pub mod Opened
 mod Changed
+pub mod There

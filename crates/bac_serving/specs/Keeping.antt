@@ -110,3 +110,12 @@ IsServedKept IsFile objects IsOnDatabase IsOn IsClock s serving path old new =
 
 abbrev pub IsListed : Status → (old new : Option (List ℕ)) → Type 0
 IsListed s old new = ByStatus s (Unit {0}) ⊥ (Keeps old new)
+
+-- a file could be opened at the path
+pub record IsThere {File : Type 0} (IsFile : (path : List ℕ) → File → Type 0) (path : List ℕ) : Type 0 where
+  pub file : File
+  pub opened : IsFile path file
+
+-- what a file keeps is told only where it was there before: none is made
+abbrev pub IsToldOf : Status → (there : Type 0) → Type 0
+IsToldOf s there = ByStatus s there ⊥ (Unit {0})

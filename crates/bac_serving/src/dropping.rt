@@ -88,6 +88,7 @@ impl<'e, M: StandardError, C: Clock + Drop, E: Write> Dropping<'e, M, C, E> {
 
     /// Whether there is room for the next piece, behind what is told of dropped lines.
     fn has_room(&mut self) -> io::Result<bool> {
+        // the rest of a line of which something was dropped is dropped too
         if self.gap.is_open() || !self.machine.has_room() {
             return Ok(false);
         }
@@ -126,6 +127,7 @@ impl<M: StandardError, C: Clock + Drop, E: Write> Write for Dropping<'_, M, C, E
                 self.gap.write(ends_line(&piece[..count]));
                 Ok(count)
             }
+            // the room has gone since
             Err(error) if error.kind() == ErrorKind::WouldBlock => Ok(self.drop_piece(piece)),
             Err(error) => Err(error),
         }

@@ -3,14 +3,14 @@ ghost use Rattle.std.specs.Prelude.{IfOk};
 ghost use Rattle.std.specs.Option.{option_map};
 ghost use Rattle.bac_text.specs.Statuses.{IsStop};
 ghost use Rattle.bac_serving.specs.Forgetting.{IsForgotten, Names, OnForgotten};
-ghost use Rattle.bac_serving.specs.Keeping.{IsListed};
+ghost use Rattle.bac_serving.specs.Keeping.{IsListed, IsThere, IsToldOf};
 
 use crate::databases::Databases;
 use crate::keeping::{open_kept, print_keep_fault, print_not_kept};
-use crate::listing::{ListForm, print_cells};
+use crate::listing::{ListForm, print_cells, refuse_missing};
 use crate::part_words::print_about;
 use bac_commands::CommandError;
-use bac_environment::{Environment, OpenFiles, opened, print_bad_name};
+use bac_environment::{Environment, OpenFiles, print_bad_name};
 use bac_keep::{DatabaseFault, KeepFault};
 use bac_keep_file::{Loss, Selection, forget};
 use bac_service_text::{BadWord, Wanted};
@@ -104,6 +104,7 @@ pub fn forget_kept<F: OpenFiles, M: Databases, O: Write, E: Write>(
     err: &mut E,
 ) -> Status
     ensures listed { IsListed result (O.contents out.old) (O.contents out.new) }
+    ensures there { IsToldOf result (IsThere F.is_file forgetting.entry.path.now) }
     ensures forgotten { IsForgotten (OnForgotten M.is_database M.Database.view M.Database.recovers) result forgetting.entry.path.now
         forgetting.entry.object.now (option_map (λ p. p.now) forgetting.entry.property) (O.contents out.old) (O.contents out.new) }
 {
@@ -113,7 +114,7 @@ pub fn forget_kept<F: OpenFiles, M: Databases, O: Write, E: Write>(
         Ok(selection) => selection,
         Err(word) => return print_bad_name(alloc, word, err),
     };
-    if let Err(status) = opened(environment.files, path, err) {
+    if let Err(status) = refuse_missing(environment.files, path, err) {
         return status;
     }
     let (mut database, _) = match open_kept(environment.machine, path, Loss::Refused, err) {

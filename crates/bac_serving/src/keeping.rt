@@ -250,6 +250,7 @@ fn serve_round<M: Sockets + StandardError, K: Keeper, O: Write, E: Write>(
         fault: None,
     };
     let format = serving.log_format(began);
+    // from here on standard error must not make the server wait
     let mut err = Dropping::new(alloc, machine, machine.timer(), format, err);
     let status = serve_kept_from(alloc, serving, began, &mut server, out, &mut err);
     print_keep_fault(path, server.fault, &mut err);

@@ -1,11 +1,12 @@
 //! `keep`: what the file of a server keeps.
-ghost use Rattle.std.specs.Prelude.{◌≡◌, ◌++◌, ◌+◌, codes, decimal, length, min, None, Some, IfOk, OnOk};
+ghost use Rattle.std.specs.Prelude.{◌≡◌, ◌++◌, ◌+◌, codes, decimal, length, min, None, Some, IfErr, IfOk, OnOk};
 ghost use Rattle.std.specs.Option.{option_map};
 ghost use Rattle.bac_value.specs.Views.{object_identifier_view};
 ghost use Rattle.bac_driver.specs.Waits.{MOST};
 ghost use Rattle.bac_keep_json.specs.Cells.{part_view};
+ghost use Rattle.bac_text.specs.Statuses.{IsStop};
 ghost use Rattle.bac_text.specs.Texts.{AppendsText};
-ghost use Rattle.bac_serving.specs.Keeping.{IsListed};
+ghost use Rattle.bac_serving.specs.Keeping.{IsListed, IsThere, IsToldOf};
 ghost use Rattle.bac_serving.specs.Listing.{AreListed, AreValues, IsCellText, IsKeptWords, IsPartOf, IsValuesWords, IsWordsLine, Lists, OnListed};
 ghost use Rattle.bac_serving.specs.Listing.{count_in, is_chunk, line_in, octets_with, part_words as words_of};
 
@@ -207,8 +208,24 @@ pub(crate) fn print_cells<O: Write>(
     out.flush()
 }
 
+/// Opens the file at a path, and closes it again: a database that is opened at a path without a file would make one. If that fails, prints why on `err`.
+#[tactic(auto, using(crate::proofs::There::there_at))]
+pub(crate) fn refuse_missing<F: OpenFiles, E: Write>(
+    files: &F,
+    path: &str,
+    err: &mut E,
+) -> Result<(), Status>
+    ensures there { OnOk result (IsThere F.is_file path.now) }
+    ensures told { IfErr result IsStop }
+{
+    match opened(files, path, err) {
+        Ok(_) => Ok(()),
+        Err(status) => Err(status),
+    }
+}
+
 /// Prints what the file at a path keeps: a line or an object for each property and each file, in ascending order. If the file is missing, damaged or in use,
-/// prints why on `err`.
+/// prints why on `err`. No file is made.
 pub fn list_kept<F: OpenFiles, M: Databases, O: Write, E: Write>(
     environment: &Environment<'_, F, M>,
     path: &str,
@@ -218,10 +235,11 @@ pub fn list_kept<F: OpenFiles, M: Databases, O: Write, E: Write>(
     err: &mut E,
 ) -> Status
     ensures listed { IsListed result (O.contents out.old) (O.contents out.new) }
+    ensures there { IsToldOf result (IsThere F.is_file path.now) }
     ensures printed { Lists (OnListed M.is_database M.Database.view) result form path.now (O.contents out.old) (O.contents out.new) }
 {
     let alloc = environment.alloc;
-    if let Err(status) = opened(environment.files, path, err) {
+    if let Err(status) = refuse_missing(environment.files, path, err) {
         return status;
     }
     let (mut database, _) = match open_kept(environment.machine, path, loss, err) {

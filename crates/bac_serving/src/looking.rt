@@ -351,6 +351,7 @@ fn serve_store<F: RegularFiles, M: Sockets + StandardInput + StandardError, O: W
     };
     let stop = Stop::of(serving, start.moment);
     let timer = environment.machine.timer();
+    // from here on standard error must not make the server wait
     let mut err = Dropping::new(
         environment.alloc,
         environment.machine,

@@ -61,6 +61,7 @@ pub(crate) fn serve<M: Sockets + StandardError, O: Write, E: Write>(
         clock: timer,
     };
     let format = serving.log_format(began);
+    // from here on standard error must not make the server wait
     let mut err = Dropping::new(alloc, machine, machine.timer(), format, err);
     let status = serve_from(serving, began, &mut station, out, &mut err);
     err.end();

@@ -56,6 +56,7 @@ impl<R: Read + Drop> Reading<R> {
             if self.octets.len() as u64 > most {
                 return Err(io::Error::from(ErrorKind::FileTooLarge));
             }
+            // enough for one step: the node serves between steps
             if self.octets.len().saturating_sub(begin) >= STEP {
                 return Ok(false);
             }

@@ -26,6 +26,7 @@ fn line_at(text: &[u8], number: u64) -> Option<&[u8]> {
 fn words_in(alloc: Global, line: &[u8]) -> Result<Vec<&[u8]>, AllocError> {
     let mut words = Vec::new(alloc);
     let mut rest = line;
+    // each turn takes an octet at least
     for _ in 0..line.len() {
         let Some((word, others)) = parts_at(b' ', rest) else {
             break;

@@ -15,6 +15,7 @@ fn print_copy<W: Write>(alloc: Global, parts: u64, copy: &Copy, out: &mut W) -> 
     ensures { OnOk result (Appends (W.contents out.old) (W.contents out.new) (record_of parts (copy_view copy.now))) }
 {
     let datagram = NodeDatagram {
+        // whole milliseconds
         moment: copy.moment / parts,
         from: copy.from as u64,
         to: copy.to as u64,

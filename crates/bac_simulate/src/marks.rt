@@ -290,6 +290,7 @@ fn place_of(event: &Event) -> usize
     }
 }
 
+/// The mark of an event that was refused, at the node that the event is of, with the number of the fault.
 pub(crate) fn refused_mark(
     alloc: Global,
     now: u64,

@@ -97,6 +97,7 @@ fn ended_object(alloc: Global, moment: u64, ask: usize, how: &Ending) -> io::Res
     object_at(alloc, moment, kind)
 }
 
+/// The object of a fact, where these notes are of the accepted asks.
 pub(crate) fn fact_object(
     alloc: Global,
     moment: u64,

@@ -35,6 +35,7 @@ pub(crate) struct Seen {
 }
 
 impl Seen {
+    /// What there is in a world now.
     pub(crate) fn of(world: &World) -> Seen
         ensures facts { result.facts ≡ length world.now.log }
         ensures copies { result.copies ≡ length world.now.copies }
@@ -200,6 +201,7 @@ pub(crate) fn print_lost<W: Write>(copy: u64, out: &mut W) -> io::Result<()>
     writeln!(out, "lost {copy}")
 }
 
+/// Whether no fact and no copy is new in a world.
 pub(crate) fn is_as_before(world: &World, before: Seen) -> bool
     ensures { result ≡ is_as_before before.facts before.copies world.now }
 {

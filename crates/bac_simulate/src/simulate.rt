@@ -344,11 +344,10 @@ pub(crate) fn unread<E: Write>(error: &io::Error, err: &mut E) -> Status
 /// Runs a script of events in a network of nodes, each with a house store of its own, and prints what comes of each event. All lines are read before the
 /// first event. Where notes are taken, lines may end in a carriage return and a line feed, and blank lines and those that begin with `#` are passed over.
 ///
-/// An event may name no node or no copy, or a link of a node as a stranger's, or the clock or the memory may have no room for it. Then it prints
-/// `line L: fault F` and ends the run with `Faulty`, as a clock of no node does. A refused ask, and a change that a node's store refuses, print
-/// `refused F`, and the run goes on. A line of no form: `line L: not a script line` on `err`, and with `reasons` on the next line what is wrong with
-/// it, where memory suffices; an input that cannot be read: `cannot read`; out of memory outside an event: `no memory`. `Output` where `out` cannot
-/// be written.
+/// An event may name no node or no copy, or a link of a node as a stranger's. Or the clock or the memory has no room for it. Then it prints `line L:
+/// fault F` and ends the run with `Faulty`, as a clock of no node does. A refused ask, and a change that a node's store refuses, print `refused F`,
+/// and the run goes on. A line of no form: `line L: not a script line` on `err`, and with `reasons` on the next line what is wrong with it, where
+/// memory suffices; an input that cannot be read: `cannot read`; out of memory outside an event: `no memory`. `Output` where `out` cannot be written.
 pub fn simulate_lines_over<R: Read, O: Write, E: Write>(
     alloc: Global,
     notes: bool,

@@ -43,6 +43,7 @@ fn print_event<W: Write>(
         (Steps (told_in style) line passed (Happens (happening_view event.now)) world.old world.new)) }
 {
     let before = Seen::of(world);
+    // before the event: the reason is that of the world as it was
     let why = why_nothing(world, event);
     let teller = Teller {
         alloc,

@@ -121,6 +121,7 @@ fn trace_event<E: Write>(
 {
     let before = Seen::of(world);
     let now = ms_now(world);
+    // before the event, which changes what may come
     let coming = coming_in(alloc, world, event)?;
     let fault = match world.step(event) {
         Ok(None) => {

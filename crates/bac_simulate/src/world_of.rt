@@ -153,6 +153,7 @@ fn starts_of(alloc: Global, nodes: u8, lines: &[ScriptLine]) -> Result<Vec<u32>,
 fn memory_alone(fault: NewClocksFault) -> NoMemory
     requires { fault ≡ clocks_fault.NotMade new_fault.NoMemory }
 {
+    // by what is required it is no other fault
     let _fault = fault;
     NoMemory
 }

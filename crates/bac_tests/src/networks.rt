@@ -1,5 +1,5 @@
-//! What rows of text can't say of nodes, worlds and scripts (all else is in the rows of bac_node_rows): worlds that are made up from numbers, ends whose moments
-//! go back, a link that notes its calls, sockets, refused memory, failing files, and laws. Here is what the tests share.
+//! What rows of text can't say of nodes, worlds and scripts; all else is in the rows of bac_node_rows. It is worlds that are made up from numbers,
+//! ends whose moments go back, a link that notes its calls, sockets, refused memory, failing files, and laws. Here is what the tests share.
 use bac_npdu::LinkAddress;
 use bac_rows::holds;
 use bac_value::NoMemory;

@@ -7,8 +7,10 @@ use crate::completion::write_completion;
 use crate::help_words::{about, command_named, more_example, of_clients, of_servers, offline};
 use crate::manual::write_manual;
 use crate::people_words::people;
+use crate::value_names::list_named;
 use crate::words::{Grammar, Need, Word, WordForm};
 use crate::wrapping::{SCREEN, write_lines, write_wrapped};
+use std::alloc::Global;
 use std::io;
 use std::io::Write;
 
@@ -18,7 +20,7 @@ const VERSION: &str = "bac 1.0.0";
 /// What is told of the program.
 #[derive(Clone, Copy, Debug)]
 pub enum Telling<'a> {
-    /// All commands, or what the one of that name does, its words and examples.
+    /// All commands, or what the one of that name does, its words and examples; or the list of names with that name.
     Help(Option<&'a str>),
     /// The page of the manual, in roff.
     Manual,
@@ -111,17 +113,35 @@ fn write_version<O: Write>(built: Option<&str>, out: &mut O) -> io::Result<()> {
     }
 }
 
+/// Writes the list of names with that name. False, with nothing written, where there is none.
+fn write_list<O: Write>(alloc: Global, name: &str, out: &mut O) -> io::Result<bool>
+    ensures missing { IfOk result (λ told. told ≡ false → Keeps (O.contents out.old) (O.contents out.new)) }
+{
+    match list_named(alloc, name)? {
+        Some(list) => {
+            out.write_all(&list)?;
+            Ok(true)
+        }
+        None => Ok(false),
+    }
+}
+
 impl Telling<'_> {
     /// Writes what is told, without a flush; `built` is what is known of how the program was built. False, with nothing written, where it is help for a command
-    /// and there is none of that name. An Err is the writer's.
-    pub fn write<O: Write>(self, built: Option<&str>, out: &mut O) -> io::Result<bool>
+    /// and there is none of that name, nor a list of names. An Err is the writer's, or out of memory.
+    pub fn write<O: Write>(
+        self,
+        alloc: Global,
+        built: Option<&str>,
+        out: &mut O,
+    ) -> io::Result<bool>
         ensures missing { IfOk result (λ told. told ≡ false → Keeps (O.contents out.old) (O.contents out.new)) }
     {
         match self {
             Telling::Help(None) => write_all_commands(out)?,
             Telling::Help(Some(name)) => {
                 let Some(grammar) = command_named(name) else {
-                    return Ok(false);
+                    return write_list(alloc, name, out);
                 };
                 write_command(out, grammar)?;
             }

@@ -10,7 +10,7 @@ const HELP: &[Word] = &[
         form: WordForm::Bare,
         need: Need::Never,
         against: &["man"],
-        help: "The command to explain; without it, all commands are listed",
+        help: "The command to explain; without it, all commands are listed. Or names to list: those of object `types`, of `properties`, or of an enumeration; `values` lists the enumerations",
     },
     Word {
         name: "man",
@@ -26,7 +26,7 @@ const TOLD: &[Grammar] = &[
     Grammar {
         name: "help",
         about: "Explains a command: what it does, what its arguments mean, and examples",
-        after: "Example: bac help ask\nExample: bac help --man > bac.1",
+        after: "Example: bac help ask\nExample: bac help engineering-units\nExample: bac help --man > bac.1",
         words: HELP,
     },
     Grammar {

@@ -8,6 +8,7 @@ mod help;
 mod help_words;
 mod manual;
 mod people_words;
+mod value_names;
 mod words;
 mod wrapping;
 

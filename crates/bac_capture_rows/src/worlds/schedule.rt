@@ -17,7 +17,7 @@ const NODES: usize = 3;
 /// How many events a world has.
 const EVENTS: usize = 400;
 
-/// So long a copy is on its way at most, in milliseconds.
+/// How long a copy is on its way at most, in milliseconds.
 const LIFE: u64 = 5_000;
 
 /// The link of a node.

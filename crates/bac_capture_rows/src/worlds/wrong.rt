@@ -26,6 +26,7 @@ pub(crate) enum Wrong {
 }
 
 impl Wrong {
+    /// What is wrong, as it is printed.
     pub(crate) fn text(self) -> &'static str {
         match self {
             Wrong::NoMemory => "no memory",

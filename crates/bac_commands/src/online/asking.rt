@@ -67,6 +67,7 @@ pub fn ask_unprinted<L: Link, C: Clock, E: Write>(
     };
     let mut progress = Progress::new(command.shows_progress);
     let ended = bound_node.ask_observed(clock, command.question, &limit, &mut progress, err);
+    // also before a fault is told, which needs a line of its own
     progress.end(err);
     let end = ended?;
     Ok(end)

@@ -83,6 +83,7 @@ pub fn serve_kept<L: Link, C: Clock, K: Keeper, V: Observer<E>, O: Write, E: Wri
     match serve_rounds(server, limit, watch, out, err) {
         Ok(()) => Status::Done,
         Err(command_error) => {
+            // for the caller, who tells it with the path of the file
             server.fault = command_error.keep_fault();
             command_error.report_at(server.bound_node.node().link(), err)
         }

@@ -31,6 +31,7 @@ fn octets_of(datagrams: &[Datagram]) -> usize {
 }
 
 impl Progress {
+    /// The progress of an ask that takes its first turn next.
     pub(crate) fn new(is_shown: bool) -> Progress {
         Progress {
             is_shown,

@@ -33,6 +33,7 @@ pub(crate) fn reply_of(end: &AskEnd) -> Option<&OwnedReply>
     }
 }
 
+/// Whether a reply came.
 pub(crate) fn is_answered(end: &AskEnd) -> bool
     ensures { result ≡ is_answered end.now }
 {

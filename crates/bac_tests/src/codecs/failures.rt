@@ -17,7 +17,7 @@ fn fails_to_decode(alloc: Global) -> bool {
     decode_over(alloc, "", &mut out, &mut err).code() == 3 && err.as_slice() == FULL.as_bytes()
 }
 
-/// The same of a check with an output of 30 octets.
+/// Whether a check tells that an output of 30 octets is too short, and nothing more.
 fn fails_to_check(alloc: Global) -> bool {
     let mut input: &[u8] = b"x\n";
     let mut room = [0u8; 30];

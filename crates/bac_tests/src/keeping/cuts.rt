@@ -1,4 +1,4 @@
-//! The power is cut at every third call of the disk: the next start finds all rounds that were kept, and nothing of a later one, or all of the next.
+//! The power is cut at every third call of the disk. The next start finds all rounds that were kept, and nothing of a later one, or all of the next.
 use super::playing::{Asked, Round, keep_rounds, perform_rounds};
 use bac_keep::KeepFault;
 use bac_keep_file::{CellKeeper, Loss, open_files};

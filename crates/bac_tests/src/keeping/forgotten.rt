@@ -1,5 +1,5 @@
-//! What is forgotten is not there at the next start, which has the document's own, and the rest is still kept; also where the power is cut at every third call
-//! of the disk.
+//! What is forgotten is not there at the next start, which has the document's own, and the rest is still kept. That holds also where the power is cut
+//! at every third call of the disk.
 use super::cuts::{found, options};
 use super::playing::{Asked, Round, keep_rounds, perform_rounds};
 use bac_keep::KeepFault;
@@ -31,7 +31,7 @@ const OCTETS: Round = Round {
 /// All rounds.
 const ALL: &[Round] = &[VALUE, OCTETS];
 
-/// That property.
+/// The present-value of analog-value 1.
 const PROPERTY: Selection = Selection {
     object: ObjectIdentifier {
         kind: 2,

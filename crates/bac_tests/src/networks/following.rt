@@ -40,6 +40,7 @@ pub(super) struct Counts {
 }
 
 impl Counts {
+    /// Nothing happened.
     pub(super) fn none() -> Counts {
         Counts {
             restarts: 0,
@@ -198,6 +199,7 @@ impl Followed {
             && self.lives.resize(nodes, 0usize).is_ok()
     }
 
+    /// What has happened so far.
     pub(super) fn counts(&self) -> Counts {
         self.counts
     }
@@ -304,7 +306,7 @@ impl Followed {
         Some(*deed)
     }
 
-    /// The same, in the life of its client in which it was asked.
+    /// Closes an ask as `closed` does; None where its client has begun another life since it asked.
     fn closed_in_life(&mut self, number: usize) -> Option<Deed> {
         let deed = self.closed(number)?;
         if deed.life == self.life(deed.client) {

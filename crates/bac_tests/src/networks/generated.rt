@@ -1,5 +1,5 @@
-//! Worlds whose nodes change their stores, restart, and have other programs begin at their links again and again, by schedules that are made up from a number;
-//! and such whose nodes have clocks of their own and are among strangers. Each log is followed on stores of the test's own, as it grows.
+//! Worlds whose nodes change their stores, restart, and have other programs begin at their links again and again, by schedules that are made up from
+//! a number. Others have nodes with clocks of their own, which are among strangers. Each log is followed on stores of the test's own, as it grows.
 use super::chance::Chance;
 use super::following::{Counts, Followed};
 use super::schedules::{of_nodes, of_strangers};

@@ -67,7 +67,7 @@ fn passes(world: &mut World, driver: Driver, by: u64) -> bool {
     steps(world, &Event::Advance { by }) && all_settle(world, driver)
 }
 
-/// So many milliseconds pass, one after the other.
+/// Time passes for so many milliseconds, one after the other.
 fn ticks(world: &mut World, milliseconds: u64) -> bool {
     for _ in 0..milliseconds {
         if !passes(world, Driver::Ticks, 1) {
@@ -77,7 +77,7 @@ fn ticks(world: &mut World, milliseconds: u64) -> bool {
     true
 }
 
-/// The same, in one sleep after the other: each ends where something is due, and the last one where all have passed.
+/// Time passes for so many milliseconds, in one sleep after the other. Each ends where something is due, and the last one where all have passed.
 fn sleeps(world: &mut World, milliseconds: u64) -> bool {
     let end = world.now().saturating_add(milliseconds);
     for _ in 0..milliseconds {
@@ -166,7 +166,7 @@ impl Drivers {
             && self.sleeping.log().len() == self.ticking.log().len()
     }
 
-    /// The same, and nothing differs once all nodes know the same latest moment.
+    /// Whether they are alike, and nothing differs once all nodes know the same latest moment.
     fn are_same(&mut self) -> bool {
         self.are_alike()
             && all_settle(&mut self.sleeping, Driver::Ticks)

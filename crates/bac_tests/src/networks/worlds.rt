@@ -51,7 +51,7 @@ pub(super) fn small_world(alloc: Global) -> Option<World> {
     }
 }
 
-/// The same with clocks of those starts.
+/// A world of three nodes with the house store, with clocks of those starts.
 pub(super) fn clock_world(alloc: Global, starts: &[u32]) -> Option<World> {
     let mut nodes = Vec::new(alloc);
     if !put_nodes(alloc, &mut nodes) {

@@ -7,5 +7,6 @@ use Rattle.bac_asking.proofs.gathering.gather.Goals as goal
 
 pub returns-clause-gathered : goal.returns-clause-gathered
 returns-clause-gathered g c =
-    all_gathered (OnPort g.M.Sockets.is_bound g.M.Link.Link.failures g.M.Link.Link.calls) _ _ c.in-Ok.share _ _ _ _ _ _ _ c.new-2.ensures
-    c.in-Ok-new.ensures (ap (λ s. timed s.bound_node (g.M.Timer.Clock.told s.clock)) c.in_ok-part_with_all.ensures.same) c.in_ok-ends.ensures.ended
+    all_gathered (OnPort g.M.Sockets.is_bound g.M.Link.Link.failures g.M.Link.Link.calls) _ _ _ _ _ _ _ _ _ _ c.in_ok-ahead.ensures.plan
+    c.in_ok-ahead.ensures.fleet c.in_ok-ahead.ensures.sky (ap (λ s. timed s.bound_node (g.M.Timer.Clock.told s.clock)) c.in_ok-part_with_all.ensures.same)
+    c.in_ok-ends.ensures.ended

@@ -279,7 +279,7 @@ fn is_set(alloc: Global, store: &mut Store, object: ObjectIdentifier) -> Result<
     }
 }
 
-/// The same of the octets of log.
+/// Sets the octets of log, where one allocation alone is refused; whether a refused call leaves the store as it was.
 fn is_filled(alloc: Global, store: &mut Store, object: ObjectIdentifier) -> Result<bool, Fail> {
     let before = copied(alloc, store)?;
     match store.set_file(alloc, object, b"\xAA") {

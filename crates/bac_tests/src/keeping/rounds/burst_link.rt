@@ -17,6 +17,7 @@ pub(super) struct BurstLink<'a> {
 }
 
 impl<'a> BurstLink<'a> {
+    /// A link at which a request comes so many times, each under an invoke ID of its own.
     pub(super) fn new(steps: &'a Steps, request: &'static [u8], requests: u8) -> BurstLink<'a> {
         BurstLink {
             steps,

@@ -14,6 +14,7 @@ pub(crate) struct ListedClock<'a, R> {
 }
 
 impl<'a, R> ListedClock<'a, R> {
+    /// A clock that tells these moments, one after the other.
     pub(crate) fn new(runtime: &'a R, moments: &'static [u64]) -> ListedClock<'a, R> {
         ListedClock {
             runtime,

@@ -23,6 +23,7 @@ pub(crate) struct TellingLink<'a, R> {
 }
 
 impl<'a, R> TellingLink<'a, R> {
+    /// A link at which these octets come once, from that link, and which notes its calls.
     pub(crate) fn new(
         runtime: &'a R,
         alloc: Global,

@@ -1,4 +1,4 @@
--- The next node is on a link that was bound, beside the same clock.
+-- The next node is at another link, beside the same clock.
 use Rattle.std.proofs.Common.{refl, sym, ap, subst, ◌∙◌}
 use Rattle.bac_driver.specs.BoundNodes.{BoundNode}
 use Rattle.bac_driver.specs.Runs.{timed}
@@ -9,7 +9,6 @@ use Rattle.bac_asking.proofs.client.Client.renew.Goals as goal
 
 pub returns-clause-renewed : goal.returns-clause-renewed
 returns-clause-renewed g c =
-    let bound = c.in-Ok.bound in
     let told = g.M.Timer.Clock.told c.args.self.now.station.clock in
     subst
     (λ (b : BoundNode).
@@ -17,31 +16,7 @@ returns-clause-renewed g c =
     (timed b told))
     (sym c.replace.ensures.after)
     (record {
-      client =
-          record {
-            first_id = bound.pair.first_id;
-            at =
-                record {
-                  port = bound.pair.port;
-                  at =
-                      record {
-                        address = bound.address;
-                        node = c.in-Ok-bound_client.ensures.node;
-                        rules_are = c.in-Ok-bound_client.ensures.rules;
-                        on =
-                            record {
-                              link = bound.link;
-                              bound = c.in-Ok.ensures.bound;
-                              failed = c.in-Ok-bound_client.ensures.failures;
-                              made = c.in-Ok-bound_client.ensures.calls;
-                            };
-                      };
-                };
-          };
-      apart =
-          λ same.
-          c.in-Ok.ensures.other
-          (sym (ap (λ (n : Node). n.link) c.in-Ok-bound_client.ensures.node)
-          ∙ (same ∙ sym (c.link-own.ensures ∙ ap (λ (n : Node). n.link) c.node-node.ensures)));
+      client = c.in-Ok.ensures.node;
+      apart = λ same. c.in-Ok.ensures.apart (same ∙ sym (c.link-own.ensures ∙ ap (λ (n : Node). n.link) c.node-node.ensures));
       told = refl;
     })

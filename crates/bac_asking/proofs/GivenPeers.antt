@@ -1,0 +1,31 @@
+-- The node that arguments name.
+use Rattle.std.proofs.Common.{◌≡◌, List, ℕ, Option, Some, None, sym, subst, refl, ◌∙◌}
+use Rattle.std.specs.Option.{option_map}
+use Rattle.std.specs.Prelude.{IfSome, MatchOption, codes}
+use Rattle.clap.specs.declared.parser.matches.ArgMatches.{ArgMatches}
+use Rattle.bac_npdu.specs.Views.{route_view}
+use Rattle.bac_npdu.specs.declared.route.Route.{Route}
+use Rattle.bac_environment.specs.Given.{words_text}
+use Rattle.bac_lists.specs.Addresses.{IsLink, IsNoLink, IsNoRoute, IsRoute}
+use Rattle.bac_asking.specs.Given.{IsLinkGiven, IsRouteBy}
+
+inside : (a b : List ℕ) → Some a ≡ Some b → a ≡ b
+inside a b e = cc
+
+never : (a : List ℕ) → None ≡ Some a → ⊥
+never a e = cc
+
+pub link_given : (given : ArgMatches) (read : List ℕ) (r : Option (List ℕ)) → Some read ≡ words_text given (codes "to")
+    → MatchOption r (IsNoLink read) (IsLink read) → IfSome r (IsLinkGiven given)
+link_given given read None is told = tt
+link_given given read (Some link) is told = λ text same. subst (λ (t : List ℕ). IsLink t link) (inside read text (is ∙ same)) told
+
+pub no_link_given : (given : ArgMatches) (link : List ℕ) → None ≡ words_text given (codes "to") → IsLinkGiven given link
+no_link_given given link is = λ text same. absurd (never text (is ∙ same))
+
+pub route_given : (given : ArgMatches) (read : List ℕ) (r : Route) → Some read ≡ words_text given (codes "route") → IsRoute read (route_view r)
+    → IsRouteBy (words_text given (codes "route")) (option_map route_view (Some r))
+route_given given read r is told = subst (λ (t : Option (List ℕ)). IsRouteBy t (Some (route_view r))) is told
+
+pub no_route_given : (given : ArgMatches) → None ≡ words_text given (codes "route") → IsRouteBy (words_text given (codes "route")) (option_map route_view None)
+no_route_given given is = subst (λ (t : Option (List ℕ)). IsRouteBy t None) is refl

@@ -1,0 +1,33 @@
+-- The node is on a link that was bound, and that is another one than the node that asks now has.
+use Rattle.std.proofs.Common.{◌≢◌, ℕ, IfSome, List, sym, ap, subst}
+use Rattle.bac_world.specs.Node.{Node}
+use Rattle.bac_asking.proofs.client.new_node.Goals as goal
+
+pub returns-clause-node : goal.returns-clause-node
+returns-clause-node g c =
+    let bound = c.in-Ok.bound in
+    record {
+      first_id = bound.pair.first_id;
+      at =
+          record {
+            port = bound.pair.port;
+            at =
+                record {
+                  address = bound.address;
+                  node = c.in-Ok-bound_client.ensures.node;
+                  rules_are = c.in-Ok-bound_client.ensures.rules;
+                  on =
+                      record {
+                        link = bound.link;
+                        bound = c.in-Ok.ensures.bound;
+                        failed = c.in-Ok-bound_client.ensures.failures;
+                        made = c.in-Ok-bound_client.ensures.calls;
+                      };
+                };
+          };
+    }
+
+pub returns-clause-apart : goal.returns-clause-apart
+returns-clause-apart g c =
+    subst (λ (l : List ℕ). IfSome c.args.at.1 (λ own. l ≢ own)) (sym (ap (λ (n : Node). n.link) c.in-Ok-bound_client.ensures.node))
+    c.in-Ok.ensures.other

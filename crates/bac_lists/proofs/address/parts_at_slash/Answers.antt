@@ -1,0 +1,11 @@
+-- A text is cut at its first slash.
+use Rattle.std.proofs.Common.{arith}
+use Rattle.std.proofs.lemmas.Str.Pattern.{split_once_first}
+use Rattle.bac_lists.proofs.Addresses.{cut_so}
+use Rattle.bac_lists.specs.Addresses.{is_slash}
+use Rattle.bac_lists.proofs.address.parts_at_slash.Goals as goal
+
+pub returns : goal.returns
+returns c =
+    cut_so is_slash c.args.text.now (λ p. p.0.now) (λ p. p.1.now) c.split_once.result
+    (split_once_first 47 c.args.text.now c.split_once.result c.split_once.ensures.cases (omega arith))
