@@ -389,8 +389,8 @@ uint32_t bac_cause(const bac_node *node);
  * than 4,096 octets). The limits and lists of bac_limit and bac_allow do not hold here: they are for writes of the network. */
 bac_status bac_set_value(bac_node *node, uint16_t object_type, uint32_t instance, uint32_t property, const uint8_t *octets, size_t len);
 
-/* Copies the values of a property out, computed ones too; how many octets they are is written to len. BAC_NO_SUCH_OBJECT; BAC_NO_SUCH_PROPERTY, also where an
- * element is meant: no property is an array. */
+/* Copies out what a ReadProperty would get: the values of a property, computed ones too, or one element of an array; their number of octets is written to len.
+ * BAC_NO_SUCH_OBJECT; BAC_NO_SUCH_PROPERTY, also where there is no such element. */
 bac_status bac_get_value(const bac_node *node, const bac_reference *reference, uint8_t *out, size_t room, size_t *len);
 
 /* Sets all octets of a file, whether or not the network may write it. BAC_NO_SUCH_OBJECT, also where the object is no file; BAC_TOO_LONG (more than 60,000). */

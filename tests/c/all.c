@@ -220,6 +220,15 @@ static int described_rows(bac_node *node)
     CALL(BAC_ALREADY_STARTED, bac_problem(node, &wrong));
     CALL(BAC_OK, bac_get_value(node, &r, out, sizeof out, &n));
     HOLDS(n == sizeof list && memcmp(out, list, n) == 0);
+    r.index = 0;
+    CALL(BAC_OK, bac_get_value(node, &r, out, sizeof out, &n));
+    HOLDS(n == sizeof two && memcmp(out, two, n) == 0);
+    r.instance = 4194303; /* the device, whatever its instance */
+    r.index = 2;
+    CALL(BAC_OK, bac_get_value(node, &r, out, sizeof out, &n));
+    HOLDS(n == 5 && memcmp(out, list + 5, n) == 0);
+    r.index = 3;
+    CALL(BAC_NO_SUCH_PROPERTY, bac_get_value(node, &r, out, sizeof out, &n));
     CALL(BAC_BAD_VALUE, bac_set_value(node, 13, 1, 85, zero, 2));
     CALL(BAC_OK, bac_set_value(node, 13, 1, 85, two, 2));
     bac_close(node);

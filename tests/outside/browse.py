@@ -3,7 +3,8 @@
 
 It serves docs/plant.toml, or another described document. Like YABE and BACpypes3 it reads what the device says of itself, then the object-list, whole and by
 index, and of each object the properties that clause 12 requires of its type. It counts answers and Errors. An Error for one of these properties is wrong.
-What `bac serve` does not do is told in a line of its own: elements of arrays, the wildcard instance, and priorities of outputs.
+The object-list has to come element by element too, and of the wildcard instance. What `bac serve` does not do is told in a line of its own: priorities of
+outputs.
 """
 
 import sys
@@ -111,26 +112,38 @@ def browse(client, instance, is_given):
     return len(objects), answers, errors, wrong
 
 
-def left_out(client, instance, objects):
-    """What the server refuses: elements of arrays, the wildcard, and priorities of outputs; each with how it answers."""
+def by_index(client, instance):
+    """Reads the object-list element by element, and by the wildcard instance. Answers what is wrong."""
     whole = client.read(DEVICE, instance, OBJECT_LIST)
-    told = {'object-list[0]': client.read(DEVICE, instance, OBJECT_LIST, 0), 'object-list[1]': client.read(DEVICE, instance, OBJECT_LIST, 1),
-            f'device:{WILDCARD}': client.read(DEVICE, WILDCARD, 77)}
-    outputs = [(kind, number) for kind, number in objects_in(whole) if kind in OUTPUTS]
-    for name, code in OUTPUT.items():
-        if outputs:
-            told[name] = client.read(*outputs[0], code)
+    count = client.read(DEVICE, instance, OBJECT_LIST, 0)
+    wanted = len(objects_in(whole))
+    wrong = [] if isinstance(count, bytes) and int.from_bytes(count[1:], 'big') == wanted else [('object-list[0]', count)]
+    elements = [client.read(DEVICE, instance, OBJECT_LIST, place) for place in range(1, wanted + 1)]
+    if any(not isinstance(element, bytes) for element in elements) or b''.join(elements) != whole:
+        wrong.append(('object-list[i]', elements))
+    if isinstance(client.read(DEVICE, instance, OBJECT_LIST, wanted + 1), bytes):
+        wrong.append((f'object-list[{wanted + 1}]', 'answered'))
+    if client.read(DEVICE, WILDCARD, OBJECT_LIST) != whole:
+        wrong.append((f'device:{WILDCARD}', 'object-list'))
+    return wrong
+
+
+def left_out(client, instance):
+    """What the server refuses: priorities of outputs; each with how it answers."""
+    outputs = [(kind, number) for kind, number in objects_in(client.read(DEVICE, instance, OBJECT_LIST)) if kind in OUTPUTS]
+    told = {name: client.read(*outputs[0], code) for name, code in OUTPUT.items() if outputs}
     return ', '.join(f'{name}: {"answered" if isinstance(answer, bytes) else answer}' for name, answer in told.items())
 
 
 def main(words):
     document = Path(words[2]) if len(words) > 2 else TOP / 'docs' / 'plant.toml'
-    with Server(words[1], 1000000, options=['--objects', str(document)]) as server:
+    with Server(words[1], 1000000, options=['--objects', str(document), '--reuse']) as server:
         client, instance = Client(server.port), device_of(document)
         count, answers, errors, wrong = browse(client, instance, len(words) > 2)
+        wrong += by_index(client, instance)
         for entry in wrong:
             print('WRONG:', *entry)
-        print('not served:', left_out(client, instance, count))
+        print('not served:', left_out(client, instance))
     print(f'objects={count} answers={answers} errors={errors} wrong={len(wrong)}')
     return len(wrong)
 

@@ -34,15 +34,15 @@ is_number (string s) = false
 is_number (array ds) = false
 is_number (object ms) = false
 
-abbrev pub both : Option Data → Option Data → Option (Data × Data)
-both None d = None
-both (Some c) None = None
-both (Some c) (Some d) = Some (c, d)
+abbrev pub zip : Option Data → Option Data → Option (Data × Data)
+zip None d = None
+zip (Some c) None = None
+zip (Some c) (Some d) = Some (c, d)
 
 -- the kind and the value of the only element, where it is a value
 abbrev pub sole_value : Items → Option (Data × Data)
 sole_value no_items = None
-sole_value (item d no_items) = both (get (codes "kind") d) (get (codes "value") d)
+sole_value (item d no_items) = zip (get (codes "kind") d) (get (codes "value") d)
 sole_value (item d (item e es)) = None
 
 -- what `bac ask --text` prints behind the word `answered`

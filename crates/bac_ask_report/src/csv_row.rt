@@ -5,7 +5,7 @@ ghost use Rattle.std.specs.Io.KnownBytes.{Appends};
 ghost use Rattle.bac_ask_report.specs.Answers.{answer_view};
 ghost use Rattle.bac_ask_report.specs.Cells.{cells_view};
 ghost use Rattle.bac_ask_report.specs.Records.{name_view, record_view};
-ghost use Rattle.bac_ask_report.specs.Rows.{AreCells, AreSoleCells, AreValueCells, IsCell, IsRow, behind_answered, both, fields_of, header, header_text, is_number, name_fields, no_cells};
+ghost use Rattle.bac_ask_report.specs.Rows.{AreCells, AreSoleCells, AreValueCells, IsCell, IsRow, behind_answered, fields_of, header, header_text, is_number, name_fields, no_cells, zip};
 ghost use Rattle.bac_ask_report.specs.Rows.{sole_value, status_cell, value_field, word_cells};
 ghost use Rattle.bac_json_report.specs.Lines.{IsJsonText};
 ghost use Rattle.bac_text.specs.Texts.{AppendsText};
@@ -65,8 +65,8 @@ fn is_number(json: &Json) -> bool
 }
 
 /// Both, where there are both.
-fn both<'a>(first: Option<&'a Json>, second: Option<&'a Json>) -> Option<(&'a Json, &'a Json)>
-    ensures { option_map (λ p. (view p.0.now, view p.1.now)) result ≡ both (option_map (λ v. view v.now) first.entry) (option_map (λ v. view v.now) second.entry) }
+fn zip<'a>(first: Option<&'a Json>, second: Option<&'a Json>) -> Option<(&'a Json, &'a Json)>
+    ensures { option_map (λ p. (view p.0.now, view p.1.now)) result ≡ zip (option_map (λ v. view v.now) first.entry) (option_map (λ v. view v.now) second.entry) }
 {
     let first = first?;
     let second = second?;
@@ -79,7 +79,7 @@ fn sole_value(elements: &[Json]) -> Option<(&Json, &Json)>
 {
     match elements {
         [] => None,
-        [element] => both(element.get("kind"), element.get("value")),
+        [element] => zip(element.get("kind"), element.get("value")),
         [_, _, ..] => None,
     }
 }

@@ -29,7 +29,7 @@ pub record IsStyle (given : ArgMatches) (s : Style) : Type 0 where
   pub text_is : IsFlag given (codes "text") text
   pub is : s ≡ style_by raw text
 
-pub record IsManner (given : ArgMatches) (m : OutputFormat) : Type 0 where
+pub record IsOutputFormat (given : ArgMatches) (m : OutputFormat) : Type 0 where
   pub style : IsStyle given m.style
   pub strict : IsFlag given (codes "fail") m.strict
 
@@ -75,7 +75,7 @@ pub record AreRoundsOf (given : ArgMatches) (rounds : Option Rounds) : Type 0 wh
 
 -- how it is printed, or as which records, how long it waits, and how often and how many at once it asks
 pub record IsGiven (given : ArgMatches) (asking : Asking) : Type 0 where
-  pub output_format : IsManner given asking.output_format
+  pub output_format : IsOutputFormat given asking.output_format
   pub records : AreRecordsOf given asking.records
   pub timeout : IsPatience given asking.timeout
   pub rounds : AreRoundsOf given asking.rounds

@@ -5,7 +5,7 @@ ghost use Rattle.bac_npdu.specs.Views.{peer_view, route_view};
 ghost use Rattle.bac_environment.specs.Given.{words_text};
 ghost use Rattle.bac_asking.specs.Asked.{for_lines};
 ghost use Rattle.bac_asking.specs.Asking.{patience_for};
-ghost use Rattle.bac_asking.specs.Given.{AreRecordsOf, AreRoundsOf, IsGiven, IsLinkGiven, IsManner, IsPace, IsPatience, IsPeerGiven, IsRouteBy, cell_text_by, is_json, is_raw, records_by, rounds_by, style_by};
+ghost use Rattle.bac_asking.specs.Given.{AreRecordsOf, AreRoundsOf, IsGiven, IsLinkGiven, IsOutputFormat, IsPace, IsPatience, IsPeerGiven, IsRouteBy, cell_text_by, is_json, is_raw, records_by, rounds_by, style_by};
 ghost use Rattle.bac_asking.specs.Rounds.{next_from};
 ghost use Rattle.bac_environment.specs.Limits.{turns_of};
 
@@ -215,8 +215,9 @@ fn style_by(raw: bool, text: bool) -> Style
     }
 }
 
-fn manner_of(given: &ArgMatches<'_>) -> OutputFormat
-    ensures { IsManner given.now result }
+/// How outcomes are printed, by the words that were given.
+fn output_format_of(given: &ArgMatches<'_>) -> OutputFormat
+    ensures { IsOutputFormat given.now result }
 {
     let raw = flag_of(given, "raw");
     let text = flag_of(given, "text");
@@ -319,7 +320,7 @@ pub fn asking_of(given: &ArgMatches<'_>, shows_progress: bool) -> Asking
     Asking {
         host: EVERY_HOST,
         timeout: patience_of(given),
-        output_format: manner_of(given),
+        output_format: output_format_of(given),
         records: records_of(given),
         shows_progress,
         has_names: false,

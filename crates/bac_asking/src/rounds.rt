@@ -162,7 +162,7 @@ fn ask_all<M: ClientSockets, O: Write, E: Write>(
 }
 
 /// Until a moment a node hears what comes late, and does what is due.
-fn rest<L: Link, C: Clock, E: Write>(
+fn hear_until<L: Link, C: Clock, E: Write>(
     station: &mut Station<L, C>,
     moment: u64,
     err: &mut E,
@@ -214,7 +214,7 @@ fn ask_round<M: ClientSockets, O: Write, E: Write>(
 {
     client.rounds = client.rounds.saturating_add(1);
     let ended = client.station.bound_node.node().latest();
-    rest(&mut client.station, from, err)?;
+    hear_until(&mut client.station, from, err)?;
     let has_rested = client.station.bound_node.node().latest() > ended;
     let began = client.station.clock.now();
     let late = began.saturating_sub(from);
@@ -251,7 +251,7 @@ fn ask_rounds<M: ClientSockets, O: Write, E: Write>(
 }
 
 /// A node asks all that: once, or in the rounds that are wanted. Answers whether all asks succeeded.
-fn ask_so<M: ClientSockets, O: Write, E: Write>(
+fn ask_once_or_in_rounds<M: ClientSockets, O: Write, E: Write>(
     asking: &Asking,
     client: &mut Client<'_, M>,
     asked: &Asked,
@@ -270,7 +270,7 @@ fn ask_so<M: ClientSockets, O: Write, E: Write>(
     }
 }
 
-/// The same, below what stands above records.
+/// A node asks all that, below the line that stands above records, if any. Answers whether all asks succeeded.
 fn ask_headed<M: ClientSockets, O: Write, E: Write>(
     asking: &Asking,
     client: &mut Client<'_, M>,
@@ -285,10 +285,10 @@ fn ask_headed<M: ClientSockets, O: Write, E: Write>(
     ensures failed { IfErr result IsFailure }
 {
     print_header(client.station.alloc, asking, out, err)?;
-    ask_so(asking, client, asked, out, err)
+    ask_once_or_in_rounds(asking, client, asked, out, err)
 }
 
-/// The same, and the status says whether all asks succeeded, or why asking stopped.
+/// A node asks all that, headed. The status says whether all asks succeeded, or why asking stopped.
 #[tactic(auto, using(bac_commands::proofs::Statuses::failed))]
 fn ask_and_report<M: ClientSockets, O: Write, E: Write>(
     asking: &Asking,

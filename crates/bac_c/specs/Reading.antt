@@ -1,20 +1,31 @@
 -- What a C program reads of the store of its own node.
-use Rattle.std.specs.Prelude.{◌≡◌, ℕ, true, is_some, if◌then◌else◌, List, Option, Some, None, MatchOption}
+use Rattle.std.specs.Prelude.{◌≡◌, ℕ, true, List, Option, Some, None, MatchOption}
 use Rattle.std.specs.Option.{option_map}
 use Rattle.bac_service.specs.Values as service
 use Rattle.bac_value.specs.Value.{ObjectId}
+use Rattle.bac_store.specs.Arrays.{element_of, elements_of}
 use Rattle.bac_store.specs.Replies.{file_of as file_in}
 use Rattle.bac_store.specs.Stores.{Store, Object, Property, object_in, property_in}
+use Rattle.bac_store.specs.Targets.{read_in}
 use Rattle.bac_c.specs.Asking.{file_of, reference_of}
 use Rattle.bac_c.specs.Devices.{Runs}
 use Rattle.bac_c.specs.Ranges.{is_instance, is_reference}
 use Rattle.bac_c.specs.declared.device.Device.{Device}
 use Rattle.bac_c.specs.declared.records.Reference.{Reference}
 
--- no property is an array: none has elements
+-- the element with an index, if the property is an array
+abbrev pub element_at : (index : ℕ) → Option (List (List ℕ)) → Option (List ℕ)
+element_at index None = None
+element_at index (Some elements) = element_of elements index
+
+-- all values of a property, or by an index one element
+abbrev pub indexed_values : Property → (index : Option ℕ) → Option (List ℕ)
+indexed_values p None = Some p.values
+indexed_values p (Some index) = element_at index (elements_of p)
+
 abbrev pub values_at : service.Reference → Option Property → Option (List ℕ)
 values_at r None = None
-values_at r (Some p) = if is_some r.index then None else Some p.values
+values_at r (Some p) = indexed_values p r.index
 
 -- the values of a property of an object, listed or computed
 abbrev pub values_in : service.Reference → Object → Option (List ℕ)
@@ -28,17 +39,17 @@ octets_in s id = option_map (λ f. f.octets) (file_in (object_in s id))
 abbrev pub OfOctets : (List ℕ → Type 0) → Option (List ℕ) → Type 0
 OfOctets p octets = MatchOption octets ⊥ p
 
--- of the values of a property this holds
+-- of the values of a property, or of one element, this holds; the object is the one that a ReadProperty reads
 abbrev pub OfValues : (List ℕ → Type 0) → service.Reference → Store → Type 0
-OfValues p r s = MatchOption (object_in s r.object) ⊥ (λ o. OfOctets p (values_in r o))
+OfValues p r s = MatchOption (read_in s r.object) ⊥ (λ o. OfOctets p (values_in r o))
 
 -- there is no such object
 abbrev pub LacksObject : service.Reference → Store → Type 0
-LacksObject r s = object_in s r.object ≡ None
+LacksObject r s = read_in s r.object ≡ None
 
--- the object has no such property, or an element of one is meant
+-- the object has no such property, or an element is meant and there is none
 abbrev pub LacksProperty : service.Reference → Store → Type 0
-LacksProperty r s = MatchOption (object_in s r.object) ⊥ (λ o. values_in r o ≡ None)
+LacksProperty r s = MatchOption (read_in s r.object) ⊥ (λ o. values_in r o ≡ None)
 
 -- of the octets of a file this holds
 abbrev pub OfFile : (List ℕ → Type 0) → ObjectId → Store → Type 0

@@ -24,7 +24,7 @@ use std::alloc::Global;
 /// The code of an Error where there is no such object (clause 18).
 const UNKNOWN_OBJECT: u32 = 31;
 
-/// Copies the values of a property out: how many octets they are.
+/// Copies the values of a property, or one element of an array, out: how many octets they are.
 fn value_out(
     alloc: Global,
     store: &Store,
@@ -86,7 +86,7 @@ fn file_out(
 }
 
 impl Device {
-    /// Copies the values of a property of the node's own store out: how many octets they are.
+    /// Copies the values of a property of the node's own store, or one element of an array, out: how many octets they are.
     pub fn get_value(
         &self,
         alloc: Global,
@@ -133,8 +133,8 @@ impl Device {
     }
 }
 
-/// Copies the values of a property of the node's own store out, as octets of data; how many they are is put out. Where they are more than there is room, none
-/// is copied.
+/// Copies the values of a property of the node's own store, or one element of an array, out, as octets of data; how many they are is put out. Where they are
+/// more than there is room, none is copied.
 #[unsafe(no_mangle)]
 pub extern "C" fn bac_get_value(
     alloc: Global,

@@ -1,3 +1,4 @@
+pub mod Clocks
 pub mod Counts
 pub mod Turned
 pub mod Loops

@@ -1,6 +1,6 @@
 -- What is known of each world that a run of a fresh one leads to.
 use Rattle.std.proofs.Common.{◌≡◌, ℕ, suc, ◌+◌, ◌<◌, ◌≤◌, ◌⊎◌, Bool, true, false, List, [], ◌∷◌, Option, Some, None, slice_get, if◌then◌else◌}
-use Rattle.std.proofs.Common.{min, nat_eq, nat_lt, refl, sym, ap, subst, inl, inr, ◌∙◌, arith}
+use Rattle.std.proofs.Common.{length, min, nat_eq, nat_lt, refl, sym, ap, subst, inl, inr, ◌∙◌, arith}
 use Rattle.std.proofs.lemmas.Bool.Decides.{nat_tests}
 use Rattle.std.specs.Option.{option_map}
 use Rattle.bac_apdu.specs.Apdu.{Apdu, Limits}
@@ -36,7 +36,8 @@ use Rattle.bac_world.proofs.Pairs.{IsPaired, pairwise_get}
 use Rattle.bac_world.proofs.Bridge.{IsCopyOf, IsBetween, framed_means}
 use Rattle.bac_world.proofs.Steps.{Over, decide_number, each_with}
 use Rattle.bac_world.proofs.Asking.{accepted_is}
-use Rattle.bac_world.proofs.Headline.{run_over_so, rules_of, rules_bounded, fresh_over}
+use Rattle.bac_world.proofs.Headline.{run_over_so, rules_of, rules_bounded, fresh_over, reached_once_more, long_bounded, room}
+use Rattle.bac_world.specs.LongApdus.{AllAskLong, RepliesFit, TakeLongApdus}
 use Rattle.bac_world.proofs.Heard.{IsHeardIn, IsHeardInBy, heard_in}
 use Rattle.bac_world.proofs.AsEver.{run_as}
 use Rattle.bac_journal.specs.Entering.{CanGoOn, CanGoOnSo, note_of, with_ticket, tickets_of}
@@ -425,3 +426,12 @@ pub runs_can_go_on : (W overtake : ℕ) (w w' : World) → IsFresh w → IsTimel
     → WorldRun overtake w events w' → CanGoOn W overtake w'
 runs_can_go_on W overtake w w' f timely b events run =
     runs_can_go_on_so (λ node. false) W overtake w w' f timely b events (run_as overtake w events w' run)
+
+-- where all nodes take APDUs of 480 octets or more, whatever overtakes what; and after one event more
+pub runs_can_go_on_long : (u : Reuses) (W overtake : ℕ) (w w' : World) → IsFresh w → IsTimely w.time.pace → TakeLongApdus W w → (events : List Event)
+    → AllAskLong events → WorldRunSo overtake u w events w' → RepliesFit w'.log → (more : List Event) (v : World) → length more ≤ 1
+    → WorldRunSo overtake u w' more v → CanGoOnSo u W overtake v
+runs_can_go_on_long u W overtake w w' f timely t events asks run fits more v few last =
+    let reached = reached_once_more (Some u) W overtake w w' f timely t events asks run fits more v few last in
+    opens (link_at w.nodes) f.apart W (rules_of (room W) w) (rules_bounded W (room W) w (long_bounded W w t)) u v reached.0 reached.1
+    (tidy_run overtake u more w' v (tidy_run overtake u events w w' (tidy_fresh w f timely) run) last) overtake

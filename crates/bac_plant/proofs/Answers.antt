@@ -5,13 +5,14 @@ use Rattle.bac_service.specs.Replies.{Reply}
 use Rattle.bac_service.specs.Values.{Request}
 use Rattle.bac_transaction.specs.Meanings.Ending.{Answered}
 use Rattle.bac_world.specs.Claims.{AreReplayed}
+use Rattle.bac_world.specs.LongApdus.{AllAskLong, RepliesFit, TakeLongApdus}
 use Rattle.bac_world.specs.Once.{Fact, Has, IsOnce, Stores}
 use Rattle.bac_world.specs.Once.Fact.{Asked, Ended, Performed}
 use Rattle.bac_world.specs.ReusingLogs.{IsOnceSo, Reuses}
 use Rattle.bac_world.specs.ReusingWorlds.{WorldRunSo}
 use Rattle.bac_world.specs.World.{Event, IsBounded, IsFresh, World, stores_of}
 use Rattle.bac_world.proofs.AsEver.{once_as}
-use Rattle.bac_world.proofs.Headline.{headline_so}
+use Rattle.bac_world.proofs.Headline.{headline_long_so, headline_so}
 use Rattle.bac_plant.specs.Answers.{AnswersAreReplies, WasReply}
 use Rattle.bac_plant.proofs.AnswersLogs.{replayed, right_before, same_ask}
 
@@ -74,3 +75,15 @@ module _ (W overtake : ℕ) (u : Reuses) (w w' : World) (fresh : IsFresh w) (tim
 
   pub stores_in_runs : AreReplayed (stores_of w.nodes) w'.log (stores_of w'.nodes)
   stores_in_runs = replayed u (stores_of w.nodes) w'.log (stores_of w'.nodes) once
+
+-- the same where all nodes take APDUs of 480 octets or more
+module _ (W overtake : ℕ) (u : Reuses) (w w' : World) (fresh : IsFresh w) (timely : IsTimely w.time.pace) (long : TakeLongApdus W w)
+    (events : List Event) (asks : AllAskLong events) (run : WorldRunSo overtake u w events w') (fits : RepliesFit w'.log) where
+  once_long : IsOnceSo u (stores_of w.nodes) w'.log (stores_of w'.nodes)
+  once_long = headline_long_so u W overtake w w' fresh timely long events asks run fits
+
+  pub in_long_runs : AnswersAreReplies (stores_of w.nodes) w'.log
+  in_long_runs = in_logs u (stores_of w.nodes) w'.log (stores_of w'.nodes) once_long
+
+  pub stores_in_long_runs : AreReplayed (stores_of w.nodes) w'.log (stores_of w'.nodes)
+  stores_in_long_runs = replayed u (stores_of w.nodes) w'.log (stores_of w'.nodes) once_long

@@ -1,5 +1,6 @@
 -- The moment of a run at which a request is performed.
 use Rattle.std.proofs.Common.{◌≡◌, ℕ, ◌⊎◌, Bool, true, false, List, [], ◌∷◌, ◌++◌, Option, Some, None, slice_get, refl, sym, ap, subst, inl, inr, ◌∙◌}
+use Rattle.std.proofs.lemmas.List.{append-nil}
 use Rattle.std.specs.Option.{option_map}
 use Rattle.bac_protocol.specs.Pace.{IsTimely}
 use Rattle.bac_service.specs.Replies.{Reply}
@@ -9,6 +10,7 @@ use Rattle.bac_store.specs.Stores.{Store}
 use Rattle.bac_transaction.specs.Meanings.{EndedView, Ending}
 use Rattle.bac_transaction.specs.Meanings.Ending.{Answered}
 use Rattle.bac_world.specs.Claims.{stores_by}
+use Rattle.bac_world.specs.LongApdus.{AllAskLong, RepliesFit, TakeLongApdus}
 use Rattle.bac_world.specs.Node.{Node, Outcome}
 use Rattle.bac_world.specs.Once.{Fact, Has, IsUnended, Stores}
 use Rattle.bac_world.specs.Once.Fact.{Asked, AskedAway, Changed, Ended, EndedAway, Performed, Restarted, Served}
@@ -17,7 +19,8 @@ use Rattle.bac_world.specs.ReusingWorlds.{ActsSo, AreLoggedSo, DeliversIfSo, IsS
 use Rattle.bac_world.specs.Services as service
 use Rattle.bac_world.specs.World.{AreEnded, Copy, Event, IsBounded, IsFresh, IsLogged, IsServedTo, Note, World, ending_fact, is_away, is_deliverable, stores_of}
 use Rattle.bac_world.specs.World.Event.{Advance, Ask, AskAway, Begin, BeginAgain, Change, Deliver, Noise, Restart, Stray, Tick}
-use Rattle.bac_world.proofs.Headline.{headline_so}
+use Rattle.bac_world.proofs.Headline.{headline_long_so, headline_so}
+use Rattle.bac_world.proofs.ReplyLengths.{run_fits}
 use Rattle.bac_world.proofs.Steps.{acts_as}
 use Rattle.bac_plant.specs.Answers.{WasReply}
 use Rattle.bac_plant.specs.Moments.{AnswersAreOfMoments, WasReplyAtMoment}
@@ -216,17 +219,18 @@ node_of : (o : Option Node) (s : Store) → option_map (λ (a : Node). a.store) 
 node_of None s e = absurd cc
 node_of (Some a) s e = (a, refl, cc)
 
-module _ (W overtake : ℕ) (u : Reuses) (w w' : World) (fresh : IsFresh w) (timely : IsTimely w.time.pace) (bounded : IsBounded W overtake w)
-    (events : List Event) (run : WorldRunSo overtake u w events w') where
+module _ (overtake : ℕ) (u : Reuses) (w w' : World) (fresh : IsFresh w) (events : List Event) (run : WorldRunSo overtake u w events w')
+    (right : (es later : List Event) (v : World) → events ≡ es ++ later → WorldRunSo overtake u w es v → WorldRunSo overtake u v later w'
+    → IsOnceSo u (stores_of w.nodes) v.log (stores_of v.nodes)) where
   abbrev opening : Stores
   opening = stores_of w.nodes
 
-  once_at : (es : List Event) (v : World) → WorldRunSo overtake u w es v → IsOnceSo u opening v.log (stores_of v.nodes)
-  once_at es v led = headline_so u W overtake w v fresh timely bounded es led
+  once_at_end : IsOnceSo u opening w'.log (stores_of w'.nodes)
+  once_at_end = right events [] w' (sym (append-nil events)) run refl
 
   module _ (n : ℕ) (p : Reply) (newer older : List Fact) (is : w'.log ≡ newer ++ Ended n (Answered p) ∷ older) where
     given : WasReply opening n p older
-    given = in_logs u opening w'.log (stores_of w'.nodes) (once_at events w' run) newer older n p is
+    given = in_logs u opening w'.log (stores_of w'.nodes) once_at_end newer older n p is
 
     -- the ask, before all of it
     asked : Has (Asked n given.client given.server given.request) w'.log
@@ -260,11 +264,12 @@ module _ (W overtake : ℕ) (u : Reuses) (w w' : World) (fresh : IsFresh w) (tim
     unended = unended_there before.notes before.node n before.ends entered.moment.log given.earlier before.ended
         (unended_before_one n (Performed n given.request p) given.earlier
         (unended_before n given.later (Performed n given.request p ∷ given.earlier) (subst (λ (l : List Fact). IsUnended n l) given.is
-        (right_at u opening w'.log newer older (Ended n (Answered p)) (stores_of w'.nodes) is (once_at events w' run)).1.1.1)))
+        (right_at u opening w'.log newer older (Ended n (Answered p)) (stores_of w'.nodes) is once_at_end).1.1.1)))
 
     node_there : (a : Node) × (slice_get entered.moment.nodes given.server ≡ Some a) × (given.store ≡ a.store)
     node_there = node_of (slice_get entered.moment.nodes given.server) given.store
-        (replayed u opening entered.moment.log (stores_of entered.moment.nodes) (once_at entered.earlier entered.moment entered.led) given.server
+        (replayed u opening entered.moment.log (stores_of entered.moment.nodes)
+        (right entered.earlier entered.later entered.moment entered.are entered.led entered.leads) given.server
         ∙ sym (stores_there before.notes before.node opening given.server before.ends entered.moment.log given.earlier before.ended)
         ∙ given.at)
 
@@ -281,12 +286,29 @@ module _ (W overtake : ℕ) (u : Reuses) (w w' : World) (fresh : IsFresh w) (tim
       request = given.request;
       asked = asked_there before.notes before.node n given.client given.server given.request before.ends entered.moment.log given.earlier before.ended given.asked;
       only = λ c s q other. whole_ask n c s given.client given.server q given.request
-          (same_ask u opening n c s given.client given.server q given.request w'.log (stores_of w'.nodes) (once_at events w' run) other asked);
+          (same_ask u opening n c s given.client given.server q given.request w'.log (stores_of w'.nodes) once_at_end other asked);
       unended = unended;
       node = node_there.0;
       at = node_there.1;
       reply = given.reply ∙ ap (λ (s : Store). reply_to s given.request) node_there.2;
     }
 
-  pub moments_in_runs : AnswersAreOfMoments overtake u w events w'
-  moments_in_runs n p has = let k = place_of (Ended n (Answered p)) w'.log has in at_moment n p k.0 k.1 k.2
+  moments : AnswersAreOfMoments overtake u w events w'
+  moments n p has = let k = place_of (Ended n (Answered p)) w'.log has in at_moment n p k.0 k.1 k.2
+
+pub moments_in_runs : (W overtake : ℕ) (u : Reuses) (w w' : World) → IsFresh w → IsTimely w.time.pace → IsBounded W overtake w → (events : List Event)
+    → WorldRunSo overtake u w events w' → AnswersAreOfMoments overtake u w events w'
+moments_in_runs W overtake u w w' fresh timely bounded events run =
+    moments overtake u w w' fresh events run (λ es later v are led leads. headline_so u W overtake w v fresh timely bounded es led)
+
+-- The same where all nodes take APDUs of 480 octets or more.
+
+first_long : (es later : List Event) → AllAskLong (es ++ later) → AllAskLong es
+first_long [] later asks = tt
+first_long (e ∷ es) later asks = (asks.0, first_long es later asks.1)
+
+pub moments_in_long_runs : (W overtake : ℕ) (u : Reuses) (w w' : World) → IsFresh w → IsTimely w.time.pace → TakeLongApdus W w → (events : List Event)
+    → AllAskLong events → WorldRunSo overtake u w events w' → RepliesFit w'.log → AnswersAreOfMoments overtake u w events w'
+moments_in_long_runs W overtake u w w' fresh timely long events asks run fits =
+    moments overtake u w w' fresh events run (λ es later v are led leads. headline_long_so u W overtake w v fresh timely long es
+    (first_long es later (subst AllAskLong are asks)) led (run_fits overtake u later v w' leads fits))

@@ -2,16 +2,19 @@
 use Rattle.std.proofs.Common.{◌≡◌, ℕ, List, [], ◌∷◌, refl}
 use Rattle.bac_protocol.specs.Pace.{IsTimely}
 use Rattle.bac_protocol.specs.Pace.{clock_at}
+use Rattle.bac_world.specs.LongApdus.{TakeLongApdus}
 use Rattle.bac_world.specs.World.{IsBounded, IsFresh}
 use Rattle.bac_world.specs.Node.{begun_again, restarted, store_after_restart}
 use Rattle.bac_world.specs.World.{passes}
 use Rattle.bac_driver.specs.BoundNodes.{BoundNode}
 use Rattle.bac_plant.specs.Composed.{AreCalled, IsCalled, IsComposed, upon}
-use Rattle.bac_plant.specs.NextSteps.{IsReached, LeadsTo}
+use Rattle.bac_plant.specs.LongApdus.{AllAskLong, IsReachedLong, RepliesFitBefore}
+use Rattle.bac_plant.specs.NextSteps.{AsksGoOn, HeldTurnsGoOn, IsReached, LeadsTo, TurnsGoOn}
 use Rattle.bac_plant.specs.Plants.{Plant, world_of}
 use Rattle.bac_plant.specs.Steps.{PlantRun, PlantStep, Step}
 use Rattle.bac_plant.specs.Steps.Step.{Begins, BeginsAway, Changes, FailsToReceive, Holds, Passes, Restarts, SendsHeld, Starts, StartsAgain, Takes}
-use Rattle.bac_plant.proofs.Next.{asks_go_on, changes_go_on, failures_go_on, held_sends_go_on, held_turns_go_on, restarts_go_on, starts_again_go_on, starts_go_on, strangers_asked_go_on, turns_go_on}
+use Rattle.bac_plant.proofs.Next.{asks_go_on, asks_go_on_long, changes_go_on, failures_go_on, held_sends_go_on, held_turns_go_on, held_turns_go_on_long, restarts_go_on}
+use Rattle.bac_plant.proofs.Next.{starts_again_go_on, starts_go_on, strangers_asked_go_on, turns_go_on, turns_go_on_long}
 
 -- a plant after a step
 Next : (overtake : ℕ) → Plant → Step → Type 0
@@ -21,16 +24,16 @@ led : (overtake : ℕ) (p : Plant) (step : Step) (i : ℕ) (after : BoundNode) �
 unfolding Next
 led overtake p step i after l = (l.new, l.goes)
 
-module _ (W overtake : ℕ) (p : Plant) (r : IsReached W overtake p) where
+module _ (overtake : ℕ) (p : Plant) (turns : TurnsGoOn overtake p) (held : HeldTurnsGoOn overtake p) (asks : AsksGoOn overtake p) where
   called : (step : Step) → IsCalled overtake p step → Next overtake p step
   unfolding Next
   called (Passes by own) c = (record p { time = passes p.time by own }, refl)
   called (Takes i source turn) c =
-      led overtake p (Takes i source turn) i c.after (turns_go_on W overtake p r i c.before c.at c.full turn c.after c.turned source c.came)
+      led overtake p (Takes i source turn) i c.after (turns i c.before c.at c.full turn c.after c.turned source c.came)
   called (FailsToReceive i) c = led overtake p (FailsToReceive i) i c.new.bound_node (failures_go_on overtake p i c.old c.new c.at c.failed)
   called (Begins i server limits request) c =
       led overtake p (Begins i server limits request) i c.after
-      (asks_go_on W overtake p r i server c.before c.at c.link c.peer limits request c.ticket c.after c.begun)
+      (asks i server c.before c.at c.link c.peer limits request c.ticket c.after c.begun)
   called (BeginsAway i peer limits request) c =
       led overtake p (BeginsAway i peer limits request) i c.after
       (strangers_asked_go_on overtake p i c.before c.at peer c.stranger limits request c.ticket c.after c.begun)
@@ -48,8 +51,8 @@ module _ (W overtake : ℕ) (p : Plant) (r : IsReached W overtake p) where
       led overtake p (StartsAgain i exact first_id store) i after
       (starts_again_go_on overtake p i before c.there.at c.quiet exact first_id store after refl refl)
   called (Holds i source turn) c =
-      led overtake p (Holds i source turn) i c.after (held_turns_go_on W overtake p r i c.before c.at c.full turn c.after c.turned source c.came)
-  called (SendsHeld i turns) c = led overtake p (SendsHeld i turns) i c.after (held_sends_go_on overtake p i c.before c.at turns c.after c.sent)
+      led overtake p (Holds i source turn) i c.after (held i c.before c.at c.full turn c.after c.turned source c.came)
+  called (SendsHeld i sent) c = led overtake p (SendsHeld i sent) i c.after (held_sends_go_on overtake p i c.before c.at sent c.after c.sent)
 
 pub composed : (W overtake : ℕ) (first : Plant) → IsFresh (world_of first) → IsTimely first.time.pace → IsBounded W overtake (world_of first)
     → (so_far : List Step) (p : Plant) → PlantRun overtake so_far first p → (later : List Step) → AreCalled overtake later p
@@ -57,5 +60,18 @@ pub composed : (W overtake : ℕ) (first : Plant) → IsFresh (world_of first) �
 unfolding Next
 composed W overtake first fresh timely bounded so_far p run [] calls = record { last = p; run = run }
 composed W overtake first fresh timely bounded so_far p run (step ∷ later) calls =
-    let next = called W overtake p (record { first = first; fresh = fresh; timely = timely; bounded = bounded; steps = so_far; run = run }) step calls.0 in
+    let r : IsReached W overtake p = record { first = first; fresh = fresh; timely = timely; bounded = bounded; steps = so_far; run = run } in
+    let next = called overtake p (turns_go_on W overtake p r) (held_turns_go_on W overtake p r) (asks_go_on W overtake p r) step calls.0 in
     composed W overtake first fresh timely bounded (step ∷ so_far) next.0 (record { middle = p; so_far = run; last = next.1 }) later (calls.1 next.0 next.1)
+
+pub composed_long : (W overtake : ℕ) (first : Plant) → IsFresh (world_of first) → IsTimely first.time.pace → TakeLongApdus W (world_of first)
+    → (so_far : List Step) → AllAskLong so_far → (p : Plant) → PlantRun overtake so_far first p → (later : List Step) → AllAskLong later
+    → AreCalled overtake later p → RepliesFitBefore overtake later p → IsComposed overtake first (upon later so_far)
+unfolding Next
+composed_long W overtake first fresh timely long so_far asked p run [] asks calls fit = record { last = p; run = run }
+composed_long W overtake first fresh timely long so_far asked p run (step ∷ later) asks calls fit =
+    let r : IsReachedLong W overtake p =
+    record { first = first; fresh = fresh; timely = timely; long = long; steps = so_far; asks = asked; run = run; fits = fit.0 } in
+    let next = called overtake p (turns_go_on_long W overtake p r) (held_turns_go_on_long W overtake p r) (asks_go_on_long W overtake p r) step calls.0 in
+    composed_long W overtake first fresh timely long (step ∷ so_far) (asks.0, asked) next.0 (record { middle = p; so_far = run; last = next.1 }) later asks.1
+    (calls.1 next.0 next.1) (fit.1 next.0 next.1)

@@ -2,6 +2,8 @@ pub mod AsEver
 pub mod Settings
 pub mod Turned
 pub mod Runs
+pub mod StoresReply
+pub mod LongApdus
 pub mod Chained
 pub mod Rounded
 pub mod Next

@@ -1,6 +1,6 @@
 -- Whatever a call promises after a run can be the next step.
-use Rattle.std.proofs.Common.{◌≡◌, ℕ, Bool, true, false, List, [], ◌∷◌, ◌++◌, ◌⊎◌, length, take, Option, Some, None, slice_get, slice_set}
-use Rattle.std.proofs.Common.{refl, sym, ap, subst, inl, inr, ◌∙◌}
+use Rattle.std.proofs.Common.{◌≡◌, ◌≤◌, ℕ, Bool, true, false, List, [], ◌∷◌, ◌++◌, ◌⊎◌, length, take, Option, Some, None, slice_get, slice_set}
+use Rattle.std.proofs.Common.{refl, sym, ap, subst, inl, inr, ◌∙◌, arith}
 use Rattle.std.proofs.lemmas.Option.{slice_get_within}
 use Rattle.bac_apdu.specs.Apdu.{Limits}
 use Rattle.bac_service.specs.Values.{Request}
@@ -17,7 +17,7 @@ use Rattle.bac_world.specs.ReusingWorlds.{AreLoggedSo, WorldRunSo}
 use Rattle.bac_world.specs.World.{AreCopied, AreEnded, AreLogged, Copy, Event, IsCopied, IsOfNone, IsOutside, Note, World}
 use Rattle.bac_world.specs.World.{ending_fact, is_away, link_at, peer_at, told, with_act, with_ask, with_clock, with_restart}
 use Rattle.bac_journal.specs.Entering.{AreOfPeer, AreOfPeerSo, CanBeCopied, CanEnterSo, CanGoOnSo, CanLeave, Every, IsNoted, IsOfClient, IsOfStranger}
-use Rattle.bac_journal.proofs.GoingOn.{runs_can_go_on_so}
+use Rattle.bac_journal.proofs.GoingOn.{runs_can_go_on_long, runs_can_go_on_so}
 use Rattle.bac_journal.proofs.Lists.{get_set}
 use Rattle.bac_transaction.specs.Views.{read_rule_view, rules_view}
 use Rattle.bac_transaction.specs.declared.rules.Rules.{Rules}
@@ -31,6 +31,8 @@ use Rattle.bac_driver.specs.Turns as turns
 use Rattle.bac_driver.specs.Turns.{Turn, ended_of, performed_of, sends_of}
 use Rattle.bac_plant.specs.Network.{HandsOver, IsOfStation, Source}
 use Rattle.bac_plant.specs.Network.Source.{Noise, Nowhere, Station, Stranger}
+use Rattle.bac_plant.specs.LongApdus.{IsReachedLong}
+use Rattle.bac_plant.proofs.LongApdus.{run_long}
 use Rattle.bac_plant.specs.NextSteps.{AsksGoOn, ChangesGoOn, FailuresGoOn, HeldSendsGoOn, HeldTurnsGoOn, IsReached, LeadsTo, RestartsGoOn, StartsAgainGoOn, StartsGoOn, StrangersAskedGoOn, TurnsGoOn}
 use Rattle.bac_plant.specs.Plants.{IsSetTo, Plant, RemembersInFull, nodes_of, settings_of, shows, world_of}
 use Rattle.bac_plant.specs.Steps.{HappensAt, HoldsSomeTurn, IsSomeTurn, away_note, heard_lives, note_of, turn_lives, question, with_station}
@@ -167,11 +169,41 @@ reached_world W overtake p r es w run =
     runs_can_go_on_so u W overtake (world_of r.first) w r.fresh r.timely r.bounded (events_of r.steps ++ es)
     (run_join overtake u (events_of r.steps) es (world_of r.first) (world_of p) w (run_by overtake u r.steps r.first p (λ j. refl) r.run) run)
 
+-- a plant that a run led to, whose world can go on, by one event more too
+pub record CanGo (W overtake : ℕ) (p : Plant) : Type 0 where
+  pub first : Plant
+  pub steps : List Step
+  pub run : PlantRun overtake steps first p
+  pub on : (es : List Event) (w : World) → length es ≤ 1 → WorldRunSo overtake (settings_of first) (world_of p) es w
+      → CanGoOnSo (settings_of first) W overtake w
+
+go_of : (W overtake : ℕ) (p : Plant) → IsReached W overtake p → CanGo W overtake p
+go_of W overtake p r = record { first = r.first; steps = r.steps; run = r.run; on = λ es w few run. reached_world W overtake p r es w run }
+
+go_long : (W overtake : ℕ) (p : Plant) → IsReachedLong W overtake p → CanGo W overtake p
+go_long W overtake p r = record {
+  first = r.first;
+  steps = r.steps;
+  run = r.run;
+  on = λ es w few run. runs_can_go_on_long (settings_of r.first) W overtake (world_of r.first) (world_of p) r.fresh r.timely r.long (events_of r.steps)
+      (run_long r.steps r.asks) (run_by overtake (settings_of r.first) r.steps r.first p (λ j. refl) r.run) r.fits es w few run;
+}
+
+-- hearing is one event at most
+few_heard : (i : ℕ) (source : Source) (heard : Option Outcome) → length (heard_events i source heard) ≤ 1
+few_heard i Nowhere heard = omega arith
+few_heard i (Station number) None = omega arith
+few_heard i (Station number) (Some o) = omega arith
+few_heard i (Stranger from octets) None = omega arith
+few_heard i (Stranger from octets) (Some o) = omega arith
+few_heard i (Noise from octets) None = omega arith
+few_heard i (Noise from octets) (Some o) = omega arith
+
 reads_viewed : (r : rule.ReadRule) → read_rule_view r ≡ reads_of (reads_anew (read_rule_view r))
 reads_viewed rule_case.Kept = refl
 reads_viewed rule_case.Fresh = refl
 
-module _ (W overtake : ℕ) (p : Plant) (r : IsReached W overtake p) (i : ℕ) (before : BoundNode) (at : slice_get p.stations i ≡ Some before) where
+module _ (W overtake : ℕ) (p : Plant) (r : CanGo W overtake p) (i : ℕ) (before : BoundNode) (at : slice_get p.stations i ≡ Some before) where
   abbrev first_at : slice_get (nodes_of p.stations) i ≡ Some before.node
   first_at = node_at p.stations i before at
 
@@ -186,7 +218,7 @@ module _ (W overtake : ℕ) (p : Plant) (r : IsReached W overtake p) (i : ℕ) (
   }
 
   goes_on : CanGoOnSo u W overtake (world_of p)
-  goes_on = reached_world W overtake p r [] (world_of p) refl
+  goes_on = r.on [] (world_of p) (omega arith) refl
 
   stands : (after : BoundNode) → slice_get (slice_set p.stations i after) i ≡ Some after
   stands after = get_set p.stations i after (slice_get_within p.stations i before at)
@@ -217,7 +249,7 @@ module _ (W overtake : ℕ) (p : Plant) (r : IsReached W overtake p) (i : ℕ) (
     second_at = get_set (nodes_of p.stations) i middle (slice_get_within (nodes_of p.stations) i before.node first_at)
 
     second : MayEnter false Middle i after.node turn.ticked
-    second = tick_enters u W overtake Middle (reached_world W overtake p r (heard_events i source turn.heard) Middle went) i middle after.node second_at
+    second = tick_enters u W overtake Middle (r.on (heard_events i source turn.heard) Middle (few_heard i source turn.heard) went) i middle after.node second_at
         turn.ticked ticks
 
     linked : (j : ℕ) → link_at (nodes_of p.stations) j ≡ link_at Middle.nodes j
@@ -296,10 +328,10 @@ module _ (W overtake : ℕ) (p : Plant) (r : IsReached W overtake p) (i : ℕ) (
       }
 
 pub turns_go_on : (W overtake : ℕ) (p : Plant) → IsReached W overtake p → TurnsGoOn overtake p
-turns_go_on W overtake p r i before at full turn after t source from = turn_leads W overtake p r i before at full turn after t source from
+turns_go_on W overtake p r i before at full turn after t source from = turn_leads W overtake p (go_of W overtake p r) i before at full turn after t source from
 
 pub held_turns_go_on : (W overtake : ℕ) (p : Plant) → IsReached W overtake p → HeldTurnsGoOn overtake p
-held_turns_go_on W overtake p r i before at full turn after t source from = held_leads W overtake p r i before at full turn after t source from
+held_turns_go_on W overtake p r i before at full turn after t source from = held_leads W overtake p (go_of W overtake p r) i before at full turn after t source from
 
 pub held_sends_go_on : (overtake : ℕ) (p : Plant) → HeldSendsGoOn overtake p
 held_sends_go_on overtake p i before at turns after sends = record {
@@ -310,7 +342,7 @@ held_sends_go_on overtake p i before at turns after sends = record {
 
 pub asks_go_on : (W overtake : ℕ) (p : Plant) → IsReached W overtake p → AsksGoOn overtake p
 asks_go_on W overtake p r i server before at link there limits request ticket after b =
-    ask_leads W overtake p r i before at server link there limits request ticket after b
+    ask_leads W overtake p (go_of W overtake p r) i before at server link there limits request ticket after b
 
 pub strangers_asked_go_on : (overtake : ℕ) (p : Plant) → StrangersAskedGoOn overtake p
 strangers_asked_go_on overtake p i before at peer stranger limits request ticket after b = record {
@@ -372,3 +404,17 @@ starts_again_go_on overtake p i before at quiet exact first_id store after is ru
   goes = record { before = before; at = at; quiet = quiet; after = after; node = is; rules = rules; is = refl };
   there = get_set p.stations i after (slice_get_within p.stations i before at);
 }
+
+-- The same where all stations take APDUs of 480 octets or more.
+
+pub turns_go_on_long : (W overtake : ℕ) (p : Plant) → IsReachedLong W overtake p → TurnsGoOn overtake p
+turns_go_on_long W overtake p r i before at full turn after t source from =
+    turn_leads W overtake p (go_long W overtake p r) i before at full turn after t source from
+
+pub held_turns_go_on_long : (W overtake : ℕ) (p : Plant) → IsReachedLong W overtake p → HeldTurnsGoOn overtake p
+held_turns_go_on_long W overtake p r i before at full turn after t source from =
+    held_leads W overtake p (go_long W overtake p r) i before at full turn after t source from
+
+pub asks_go_on_long : (W overtake : ℕ) (p : Plant) → IsReachedLong W overtake p → AsksGoOn overtake p
+asks_go_on_long W overtake p r i server before at link there limits request ticket after b =
+    ask_leads W overtake p (go_long W overtake p r) i before at server link there limits request ticket after b

@@ -16,3 +16,4 @@ pub mod Moments
 pub mod WritesExamples
 pub mod Writes
 pub mod PowerCuts
+pub mod LongApdus

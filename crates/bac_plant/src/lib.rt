@@ -4,6 +4,7 @@
 #![tactic(auto)]
 
 pub mod examples;
+mod overtaking;
 mod power;
 mod replies;
 mod strangers;
@@ -45,8 +46,11 @@ ghost use Rattle.bac_plant.specs.Steps.Step.{SendsHeld};
 
 use bac_driver::Observer;
 use bac_keep::Keeper;
+pub use overtaking::{
+    calls_compose_with_long_apdus, calls_go_on_with_long_apdus, long_apdus_need_no_bound_on_overtaking, replies_of_stores_fit,
+};
 pub use power::power_cuts_are_restarts;
-pub use replies::answers_are_replies;
+pub use replies::{answers_are_replies, answers_are_replies_with_long_apdus};
 pub use strangers::strangers_writes_act_once;
 
 /// The turns that stations take are events of a world, and so are the turns of a round, whose sends are held, and their asks, changes and restarts. A

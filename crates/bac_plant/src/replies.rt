@@ -4,6 +4,7 @@
 ghost use Rattle.std.specs.Prelude.{ℕ, List};
 ghost use Rattle.bac_protocol.specs.Pace.{IsTimely};
 ghost use Rattle.bac_world.specs.Claims.{AreReplayed};
+ghost use Rattle.bac_world.specs.LongApdus.{AllAskLong, RepliesFit, TakeLongApdus};
 ghost use Rattle.bac_world.specs.Once.{Fact, IsOnce, Stores};
 ghost use Rattle.bac_world.specs.ReusingLogs.{IsOnceSo, Reuses};
 ghost use Rattle.bac_world.specs.ReusingWorlds.{WorldRunSo};
@@ -29,4 +30,15 @@ pub fn answers_are_replies()
         → WorldRunSo overtake u w events w' → AreReplayed (stores_of w.nodes) w'.log (stores_of w'.nodes) }
     ensures logs { (u : Reuses) (opening : Stores) (log : List Fact) (stores : Stores) → IsOnceSo u opening log stores → AnswersAreReplies opening log }
     ensures headline { (opening : Stores) (log : List Fact) (stores : Stores) → IsOnce opening log stores → AnswersAreReplies opening log }
+{}
+
+/// The same whatever overtakes what, if all nodes take APDUs of 480 octets or more, and who asks one knows that. No reply in the log is longer than can be sent,
+/// as none of a store of this stack is.
+pub fn answers_are_replies_with_long_apdus()
+    ensures runs { (W overtake : ℕ) (u : Reuses) (w w' : World) → IsFresh w → IsTimely w.time.pace → TakeLongApdus W w → (events : List Event)
+        → AllAskLong events → WorldRunSo overtake u w events w' → RepliesFit w'.log → AnswersAreReplies (stores_of w.nodes) w'.log }
+    ensures moments { (W overtake : ℕ) (u : Reuses) (w w' : World) → IsFresh w → IsTimely w.time.pace → TakeLongApdus W w → (events : List Event)
+        → AllAskLong events → WorldRunSo overtake u w events w' → RepliesFit w'.log → AnswersAreOfMoments overtake u w events w' }
+    ensures stores { (W overtake : ℕ) (u : Reuses) (w w' : World) → IsFresh w → IsTimely w.time.pace → TakeLongApdus W w → (events : List Event)
+        → AllAskLong events → WorldRunSo overtake u w events w' → RepliesFit w'.log → AreReplayed (stores_of w.nodes) w'.log (stores_of w'.nodes) }
 {}

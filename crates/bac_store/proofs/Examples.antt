@@ -1,7 +1,8 @@
 -- The rows of the reply tables, computed from the definitions.
-use Rattle.std.specs.Prelude.{◌≡◌, ℕ, pos, negsuc, true, false, List, [], ◌∷◌, Option, Some, None}
+use Rattle.std.specs.Prelude.{◌≡◌, ℕ, ◌<◌, ◌==◌, pos, negsuc, Bool, true, false, List, [], ◌∷◌, Option, Some, None}
 use Rattle.std.specs.Option.{option_map}
-use Rattle.std.proofs.Common.{refl}
+use Rattle.std.proofs.Common.{refl, ap, arith}
+use Rattle.std.proofs.lemmas.Bool.Decides.{nat_tests}
 use Rattle.bac_value.specs.Value.{ObjectId}
 use Rattle.bac_value.specs.Spelling.{tag_spelling}
 use Rattle.bac_value.specs.Number.{unsigned_octets}
@@ -12,9 +13,14 @@ use Rattle.bac_service.specs.Values.WriteAccess.{WriteStream, WriteRecords}
 use Rattle.bac_service.specs.Values.Request.{ReadFile, WriteFile, ReadProperty, WriteProperty}
 use Rattle.bac_service.specs.Values.Complex.{FileRead, StreamWritten, PropertyRead}
 use Rattle.bac_service.specs.Replies.Reply.{Simple, Complex, Error}
+use Rattle.bac_store.specs.Allowing.Allowed.{Any}
+use Rattle.bac_store.specs.Arrays.{values_from}
 use Rattle.bac_store.specs.Kinds.{kind_of}
-use Rattle.bac_store.specs.Stores.{Store, object_in}
-use Rattle.bac_store.specs.Replies.{reply_to, file_of, is_right_state}
+use Rattle.bac_store.specs.Targets.{described_device, device, lists_objects, or_object}
+use Rattle.bac_store.proofs.ReadTargets.{among_first}
+use Rattle.bac_service.specs.Replies.{Reply}
+use Rattle.bac_store.specs.Stores.{Object, Store, object_in}
+use Rattle.bac_store.specs.Replies.{reply_to, file_of, is_right_state, of_property, read_reply}
 use Rattle.bac_store.specs.Changes.{after}
 use Rattle.bac_store.specs.House.{house}
 
@@ -97,6 +103,79 @@ refused_write_changes_nothing = refl
 
 read_changes_nothing : after house (ReadProperty (to 0 5 85)) ≡ house
 read_changes_nothing = refl
+
+-- ---- a described store: a device, a file, and an array that is none
+
+abbrev described : Store
+described =
+    record {
+      id = id 8 7;
+      name = 0x67 ∷ [];
+      properties = record { number = 76; values = 0xC4 ∷ 2 ∷ 0 ∷ 0 ∷ 7 ∷ 0xC4 ∷ 2 ∷ 0x80 ∷ 0 ∷ 1 ∷ []; writable = false; kind = None; allowed = Any }
+          ∷ record { number = 371; values = 0x2E ∷ 0x2F ∷ []; writable = false; kind = None; allowed = Any }
+          ∷ record { number = 512; values = 0x21 ∷ 1 ∷ 0x21 ∷ 2 ∷ []; writable = false; kind = None; allowed = Any }
+          ∷ [];
+      file = None;
+    }
+    ∷ record { id = id 10 1; name = 0x66 ∷ []; properties = []; file = Some (record { octets = 0x4F ∷ 0x4B ∷ []; writable = true }) }
+    ∷ []
+
+abbrev nth : ℕ → ℕ → ℕ → ℕ → Reference
+nth kind instance number index = record { object = id kind instance; property = number; index = Some index }
+
+earlier_device : (i : ℕ) → i < 7 → lists_objects (object_in described (device i)) ≡ false
+earlier_device i less = go (7 == i) refl
+  where
+    go : (b : Bool) → (7 == i) ≡ b → lists_objects (object_in described (device i)) ≡ false
+    go true e = absurd (grind (arith, nat_tests))
+    go false e = let other : (i == 7) ≡ false = grind (arith, nat_tests) in rw other refl
+
+found_device : described_device described ≡ object_in described (id 8 7)
+found_device = among_first described 7 refl earlier_device 4194304 0 (omega arith) (omega arith)
+
+abbrev by_device : Reference → Option Object → Reply
+by_device r x = of_property (or_object x None) r (read_reply r)
+
+any_device : reply_to described (ReadProperty (to 8 4194303 75)) ≡ Complex (PropertyRead (to 8 4194303 75) (0xC4 ∷ 2 ∷ 0 ∷ 0 ∷ 7 ∷ []))
+unfolding tag_spelling
+any_device = ap (by_device (to 8 4194303 75)) found_device
+
+any_file : reply_to described (ReadProperty (to 10 4194303 75)) ≡ Error 1 31
+any_file = refl
+
+device_itself : reply_to described (ReadProperty (to 8 7 77)) ≡ Complex (PropertyRead (to 8 7 77) (0x72 ∷ 0 ∷ 0x67 ∷ []))
+unfolding tag_spelling
+device_itself = refl
+
+any_device_is_not_written : reply_to described (WriteProperty (to 8 4194303 76) [] None) ≡ Error 1 31
+any_device_is_not_written = refl
+
+how_many : reply_to described (ReadProperty (nth 8 7 76 0)) ≡ Complex (PropertyRead (nth 8 7 76 0) (0x21 ∷ 2 ∷ []))
+unfolding values_from element_at tag_at tag_number_at form_at length_at contents_at class_at kind_at raw_at tag_spelling unsigned_octets
+how_many = refl
+
+first_element : reply_to described (ReadProperty (nth 8 7 76 1)) ≡ Complex (PropertyRead (nth 8 7 76 1) (0xC4 ∷ 2 ∷ 0 ∷ 0 ∷ 7 ∷ []))
+unfolding values_from element_at tag_at tag_number_at form_at length_at contents_at class_at kind_at raw_at
+first_element = refl
+
+last_element : reply_to described (ReadProperty (nth 8 4194303 76 2)) ≡ Complex (PropertyRead (nth 8 4194303 76 2) (0xC4 ∷ 2 ∷ 0x80 ∷ 0 ∷ 1 ∷ []))
+unfolding values_from element_at tag_at tag_number_at form_at length_at contents_at class_at kind_at raw_at
+last_element = ap (by_device (nth 8 4194303 76 2)) found_device
+
+no_element : reply_to described (ReadProperty (nth 8 7 76 3)) ≡ Error 2 42
+unfolding values_from element_at tag_at tag_number_at form_at length_at contents_at class_at kind_at raw_at
+no_element = refl
+
+-- the number of an array, but other elements; and values of a property that is no array
+no_values : reply_to described (ReadProperty (nth 8 7 371 1)) ≡ Error 2 50
+unfolding values_from element_at tag_at tag_number_at form_at length_at contents_at class_at kind_at raw_at
+no_values = refl
+
+not_an_array : reply_to described (ReadProperty (nth 8 7 512 1)) ≡ Error 2 50
+not_an_array = refl
+
+element_is_not_written : reply_to described (WriteProperty (nth 8 7 76 1) (0xC4 ∷ 2 ∷ 0 ∷ 0 ∷ 8 ∷ []) None) ≡ Error 2 50
+element_is_not_written = refl
 
 -- ---- the file of the house
 

@@ -19,3 +19,5 @@ pub mod WriteLaws
 pub mod GrantLaws
 pub mod Viewed
 pub mod ObjectLists
+pub mod ReadTargets
+pub mod ArrayLaws

@@ -11,6 +11,8 @@ use Rattle.bac_store.specs.Objects.{AreLike, IsLike, IsStoreOf}
 use Rattle.bac_store.specs.Replies.{at_file, at_object, at_property, file_of, read_file_reply, read_reply, reply_to, write_file_reply, write_reply, written}
 use Rattle.bac_store.specs.Stores.{Object, Property, Store, first_that, is_number, is_object, is_same}
 use Rattle.bac_store.specs.Stores.{listed_in, object_in, property_in}
+use Rattle.bac_store.specs.Targets.{read_in}
+use Rattle.bac_store.proofs.ReadTargets.{read_like}
 
 -- ---- look-ups in a list with changes
 
@@ -121,7 +123,7 @@ same_reply objects s is (ReadFile id access) = ap (λ f. at_file f (read_file_re
 same_reply objects s is (WriteFile id access) = ap (λ f. at_file f (write_file_reply access)) (file_like (object_in s id) (object_in objects id) (is id))
 same_reply objects s is (ReadProperty r) =
     at_like (λ o. at_property (property_in o r.property) (read_reply r))
-    (λ a b l. ap (λ p. at_property p (read_reply r)) (property_like r.property a b l)) (object_in s r.object) (object_in objects r.object) (is r.object)
+    (λ a b l. ap (λ p. at_property p (read_reply r)) (property_like r.property a b l)) (read_in s r.object) (read_in objects r.object) (read_like objects s is r.object)
 same_reply objects s is (WriteProperty r values priority) =
     at_like (λ o. at_property (property_in o r.property) (write_reply r values))
     (λ a b l. ap (λ p. at_property p (write_reply r values)) (property_like r.property a b l)) (object_in s r.object) (object_in objects r.object) (is r.object)

@@ -7,11 +7,14 @@ use Rattle.bac_service.specs.Values.ReadAccess.{ReadStream, ReadRecords}
 use Rattle.bac_service.specs.Values.WriteAccess.{WriteStream, WriteRecords}
 use Rattle.bac_service.specs.Values.Request.{ReadFile, WriteFile, ReadProperty, WriteProperty}
 use Rattle.bac_service.specs.Replies.Reply.{Simple, Complex}
-use Rattle.bac_service.specs.Values.Complex.{StreamWritten, PropertyRead}
+use Rattle.bac_service.specs.Values.Complex.{StreamWritten}
 use Rattle.bac_store.specs.Limits.{VALUE_LIMIT, FILE_LIMIT}
 use Rattle.bac_store.specs.ReplyKinds.{FitsChoice}
 use Rattle.bac_store.specs.Replies.{PROPERTY_IS_NOT_AN_ARRAY, WRITE_ACCESS_DENIED, INVALID_DATA_TYPE, VALUE_OUT_OF_RANGE}
 use Rattle.bac_store.specs.Replies.{NO_SPACE_TO_WRITE, FILE_ACCESS_DENIED, INVALID_FILE_START_POSITION, ◌⟶◌, first_case, at_property, at_object, at_file}
+use Rattle.bac_store.specs.Arrays.{element_of, elements_of}
+use Rattle.bac_store.specs.Replies.{array_reply, element_reply, indexed_reply}
+use Rattle.bac_store.specs.Targets.{read_in}
 use Rattle.bac_store.specs.Replies.{read_reply, write_reply, read_file_reply, write_file_reply, file_of, file_read, read_start, is_no_read_start}
 use Rattle.bac_store.specs.Replies.{is_no_write_start, written, write_start, is_of_kind, is_out_of_range, reply_to}
 use Rattle.bac_store.specs.Stores.{Store, Object, Property, File, object_in, property_in}
@@ -29,10 +32,21 @@ case_fits : (choice : ℕ) (cs : List (Bool × Reply)) (last : Reply) → Fit ch
 case_fits choice [] last fit l = l
 case_fits choice (c ∷ cs) last fit l = either choice c.0 c.1 (first_case cs last) fit.0 (case_fits choice cs last fit.1 l)
 
+element_fits : (r : Reference) (x : Option (List ℕ)) → FitsChoice READ_PROPERTY (element_reply r x)
+element_fits r None = tt
+element_fits r (Some values) = refl
+
+array_fits : (r : Reference) (index : ℕ) (x : Option (List (List ℕ))) → FitsChoice READ_PROPERTY (array_reply r index x)
+array_fits r index None = tt
+array_fits r index (Some es) = element_fits r (element_of es index)
+
+indexed_fits : (r : Reference) (p : Property) (index : Option ℕ) → FitsChoice READ_PROPERTY (indexed_reply r p index)
+indexed_fits r p None = refl
+indexed_fits r p (Some index) = array_fits r index (elements_of p)
+
 read_fits : (x : Option Property) (r : Reference) → FitsChoice READ_PROPERTY (at_property x (read_reply r))
 read_fits None r = tt
-read_fits (Some p) r =
-    case_fits READ_PROPERTY ((is_some r.index ⟶ PROPERTY_IS_NOT_AN_ARRAY) ∷ []) (Complex (PropertyRead r p.values)) (tt, tt) refl
+read_fits (Some p) r = indexed_fits r p r.index
 
 write_fits : (x : Option Property) (r : Reference) (values : List ℕ) → FitsChoice WRITE_PROPERTY (at_property x (write_reply r values))
 write_fits None r values = tt
@@ -73,7 +87,7 @@ pub replies_fit : (s : Store) (r : Request) → FitsChoice (choice_of r) (reply_
 replies_fit s (ReadFile id access) = read_file_fits access (file_of (object_in s id))
 replies_fit s (WriteFile id access) = write_file_fits access (file_of (object_in s id))
 replies_fit s (ReadProperty r) =
-    object_fits READ_PROPERTY (object_in s r.object) (λ o. at_property (property_in o r.property) (read_reply r))
+    object_fits READ_PROPERTY (read_in s r.object) (λ o. at_property (property_in o r.property) (read_reply r))
     (λ o. read_fits (property_in o r.property) r)
 replies_fit s (WriteProperty r values priority) =
     object_fits WRITE_PROPERTY (object_in s r.object) (λ o. at_property (property_in o r.property) (write_reply r values))

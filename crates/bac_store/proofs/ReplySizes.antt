@@ -1,6 +1,7 @@
 -- No reply of a store has more service data than can be sent.
-use Rattle.std.proofs.Common.{◌≡◌, ℕ, ℤ, pos, not, nat_lt, ◌+◌, ◌≤◌, Bool, true, false, ◌==◌, List, [], ◌∷◌, length}
+use Rattle.std.proofs.Common.{◌≡◌, ℕ, zero, suc, ℤ, pos, not, nat_lt, ◌+◌, ◌≤◌, Bool, true, false, ◌==◌, List, [], ◌∷◌, length}
 use Rattle.std.proofs.Common.{Option, Some, None, is_some, IfSome, if◌then◌else◌, refl, subst, arith}
+use Rattle.std.specs.List.{slice_get}
 use Rattle.std.specs.Option.{option_map}
 use Rattle.std.proofs.lemmas.Bool.Decides.{nat_tests}
 use Rattle.std.proofs.lemmas.List.{length-append, length-take, length-drop}
@@ -24,12 +25,17 @@ use Rattle.bac_store.specs.Kept.{IsInOrder, IsKept, IsShort}
 use Rattle.bac_store.specs.Limits.{FILE_LIMIT, VALUE_LIMIT, FILE_ACCESS_METHOD, FILE_SIZE, OBJECT_IDENTIFIER, OBJECT_NAME, OBJECT_TYPE, STREAM_ACCESS}
 use Rattle.bac_store.specs.ReplyLengths.{DATA_LIMIT, reply_length}
 use Rattle.bac_store.specs.Replies.{◌⟶◌, at_file, at_object, at_property, file_of, file_read, first_case, octets_from, read_file_reply, read_reply}
+use Rattle.bac_store.specs.Arrays.{elements_of, is_array, values_in}
+use Rattle.bac_store.specs.Replies.{array_reply, element_reply, indexed_reply}
+use Rattle.bac_store.specs.Targets.{read_in}
 use Rattle.bac_store.specs.Replies.{read_start, reply_to, is_out_of_range, is_no_read_start, is_no_write_start, is_of_kind, write_file_reply, write_reply}
 use Rattle.bac_store.specs.Replies.{write_start, written, PROPERTY_IS_NOT_AN_ARRAY, WRITE_ACCESS_DENIED, INVALID_DATA_TYPE, VALUE_OUT_OF_RANGE}
 use Rattle.bac_store.specs.Replies.{NO_SPACE_TO_WRITE, FILE_ACCESS_DENIED, INVALID_FILE_START_POSITION}
 use Rattle.bac_store.specs.Stores.{File, Object, Property, Store, access_method, computed}
 use Rattle.bac_store.specs.Stores.{file_size, is_number, is_object, listed_in, object_in, property_in}
+use Rattle.bac_store.proofs.ArrayLaws.{value_short}
 use Rattle.bac_store.proofs.Distinct.{some_first}
+use Rattle.bac_store.proofs.ReadTargets.{read_in_store}
 use Rattle.bac_store.proofs.ValueData.{length_octets_most}
 
 -- ---- lengths of spellings
@@ -129,12 +135,36 @@ cases_within (c ∷ cs) last few l = within c.0 c.1 (first_case cs last) few.0 (
 zero_within : 0 ≤ DATA_LIMIT
 zero_within = omega arith
 
+values_within : (r : Reference) (values : List ℕ) → length values ≤ 5000 → reply_length (Complex (PropertyRead r values)) ≤ DATA_LIMIT
+values_within r values most = omega (arith, unsigned_most r.property, index_most r.index)
+
+element_within : (r : Reference) (x : Option (List ℕ)) → ((v : List ℕ) → x ≡ Some v → length v ≤ 5000) → reply_length (element_reply r x) ≤ DATA_LIMIT
+element_within r None few = omega arith
+element_within r (Some v) few = values_within r v (few v refl)
+
+array_within : (r : Reference) (index : ℕ) (x : Option (List (List ℕ)))
+    → ((vs : List (List ℕ)) → x ≡ Some vs → (at : ℕ) (v : List ℕ) → slice_get vs at ≡ Some v → length v ≤ 5000)
+    → reply_length (array_reply r index x) ≤ DATA_LIMIT
+array_within r index None few = omega arith
+array_within r zero (Some es) few = values_within r (value_spelling (unsigned (length es))) (size_few (length es))
+array_within r (suc at) (Some es) few = element_within r (slice_get es at) (few es refl at)
+
+elements_few : (p : Property) → length p.values ≤ 5000 → (vs : List (List ℕ)) → elements_of p ≡ Some vs → (at : ℕ) (v : List ℕ) → slice_get vs at ≡ Some v
+    → length v ≤ 5000
+elements_few p most vs e at v h = go (is_array p.number) e
+  where
+    go : (b : Bool) → (if b then values_in p.values else None) ≡ Some vs → length v ≤ 5000
+    go true is = omega (arith, value_short p.values (length p.values) vs is at v h, most)
+    go false is = cc
+
+indexed_within : (r : Reference) (p : Property) → length p.values ≤ 5000 → (index : Option ℕ) → reply_length (indexed_reply r p index) ≤ DATA_LIMIT
+indexed_within r p most None = values_within r p.values most
+indexed_within r p most (Some index) = array_within r index (elements_of p) (elements_few p most)
+
 read_within : (x : Option Property) → AreFew x → (r : Reference) → reply_length (at_property x (read_reply r)) ≤ DATA_LIMIT
 unfolding AreFew
 read_within None f r = omega arith
-read_within (Some p) f r =
-    cases_within ((is_some r.index ⟶ PROPERTY_IS_NOT_AN_ARRAY) ∷ []) (Complex (PropertyRead r p.values)) (zero_within, tt)
-    (let most : length p.values ≤ 5000 = f p refl in omega (arith, unsigned_most r.property, index_most r.index))
+read_within (Some p) f r = indexed_within r p (f p refl) r.index
 
 write_within : (x : Option Property) (r : Reference) (values : List ℕ) → reply_length (at_property x (write_reply r values)) ≤ DATA_LIMIT
 write_within None r values = omega arith
@@ -177,6 +207,9 @@ write_file_within (WriteStream start new) (Some f) =
 kept_object : (s : Store) → IsInOrder s → (id : ObjectId) (o : Object) → object_in s id ≡ Some o → IsKept o
 kept_object s k id o e = All-contains IsKept s o k.each (some_first (is_object id) s o e).0
 
+kept_target : (s : Store) → IsInOrder s → (id : ObjectId) (o : Object) → read_in s id ≡ Some o → IsKept o
+kept_target s k id o e = let f = read_in_store s id o e in kept_object s k f.id o f.found
+
 at_object_within : (x : Option Object) (answer : Object → Reply) → ((o : Object) → x ≡ Some o → reply_length (answer o) ≤ DATA_LIMIT)
     → reply_length (at_object x answer) ≤ DATA_LIMIT
 at_object_within None answer f = omega arith
@@ -190,8 +223,8 @@ pub replies_within : (s : Store) → IsInOrder s → (r : Request) → reply_len
 replies_within s k (ReadFile id access) = read_file_within access (file_of (object_in s id)) (file_fits (object_in s id) (kept_object s k id))
 replies_within s k (WriteFile id access) = write_file_within access (file_of (object_in s id))
 replies_within s k (ReadProperty r) =
-    at_object_within (object_in s r.object) (λ o. at_property (property_in o r.property) (read_reply r))
-    (λ o e. read_within (property_in o r.property) (property_few o (kept_object s k r.object o e) r.property) r)
+    at_object_within (read_in s r.object) (λ o. at_property (property_in o r.property) (read_reply r))
+    (λ o e. read_within (property_in o r.property) (property_few o (kept_target s k r.object o e) r.property) r)
 replies_within s k (WriteProperty r values priority) =
     at_object_within (object_in s r.object) (λ o. at_property (property_in o r.property) (write_reply r values))
     (λ o e. write_within (property_in o r.property) r values)

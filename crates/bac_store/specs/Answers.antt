@@ -9,6 +9,7 @@ abbrev pub refused : Refusal → Reply
 refused case.UnknownObject = reply.UNKNOWN_OBJECT
 refused case.UnknownProperty = reply.UNKNOWN_PROPERTY
 refused case.PropertyIsNotAnArray = reply.PROPERTY_IS_NOT_AN_ARRAY
+refused case.InvalidArrayIndex = reply.INVALID_ARRAY_INDEX
 refused case.WriteAccessDenied = reply.WRITE_ACCESS_DENIED
 refused case.InvalidDataType = reply.INVALID_DATA_TYPE
 refused case.ValueOutOfRange = reply.VALUE_OUT_OF_RANGE

@@ -3,6 +3,8 @@ pub mod Kinds
 pub mod Ranks
 pub mod Allowing
 pub mod Stores
+pub mod Arrays
+pub mod Targets
 pub mod Replies
 pub mod Changes
 pub mod Plans

@@ -90,6 +90,20 @@ OBJECT_TYPE = code.OBJECT_TYPE
 abbrev pub PRESENT_VALUE : ℕ
 PRESENT_VALUE = code.PRESENT_VALUE
 
+-- arrays of application values
+
+abbrev pub ACTION_TEXT : ℕ
+ACTION_TEXT = code.ACTION_TEXT
+
+abbrev pub STATE_TEXT : ℕ
+STATE_TEXT = code.STATE_TEXT
+
+abbrev pub CONFIGURATION_FILES : ℕ
+CONFIGURATION_FILES = code.CONFIGURATION_FILES
+
+abbrev pub PROPERTY_LIST : ℕ
+PROPERTY_LIST = code.PROPERTY_LIST
+
 -- the access method of every file (BACnetFileAccessMethod)
 abbrev pub STREAM_ACCESS : ℕ
 STREAM_ACCESS = code.STREAM_ACCESS

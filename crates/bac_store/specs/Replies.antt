@@ -13,7 +13,9 @@ use Rattle.bac_service.specs.Replies.Reply.{Simple, Complex, Error}
 use Rattle.bac_store.specs.Limits.{PRESENT_VALUE, VALUE_LIMIT, FILE_LIMIT}
 use Rattle.bac_store.specs.Allowing.{is_allowed}
 use Rattle.bac_store.specs.Kinds.{is_state_of, is_tag, kind_of}
+use Rattle.bac_store.specs.Arrays.{element_of, elements_of}
 use Rattle.bac_store.specs.Stores.{Store, Object, Property, File, object_in, property_in}
+use Rattle.bac_store.specs.Targets.{read_in}
 
 -- ---- class and code of each Error (clause 18)
 
@@ -25,6 +27,9 @@ UNKNOWN_PROPERTY = Error 2 32
 
 abbrev pub PROPERTY_IS_NOT_AN_ARRAY : Reply
 PROPERTY_IS_NOT_AN_ARRAY = Error 2 50
+
+abbrev pub INVALID_ARRAY_INDEX : Reply
+INVALID_ARRAY_INDEX = Error 2 42
 
 abbrev pub WRITE_ACCESS_DENIED : Reply
 WRITE_ACCESS_DENIED = Error 2 40
@@ -68,11 +73,24 @@ at_object None answer = UNKNOWN_OBJECT
 at_object (Some o) answer = answer o
 
 -- the reply if there is no such object or no such property
-abbrev pub of_property : Store → Reference → (Property → Reply) → Reply
-of_property s r answer = at_object (object_in s r.object) (λ o. at_property (property_in o r.property) answer)
+abbrev pub of_property : Option Object → Reference → (Property → Reply) → Reply
+of_property found r answer = at_object found (λ o. at_property (property_in o r.property) answer)
+
+abbrev pub element_reply : Reference → Option (List ℕ) → Reply
+element_reply r None = INVALID_ARRAY_INDEX
+element_reply r (Some values) = Complex (PropertyRead r values)
+
+abbrev pub array_reply : Reference → ℕ → Option (List (List ℕ)) → Reply
+array_reply r index None = PROPERTY_IS_NOT_AN_ARRAY
+array_reply r index (Some es) = element_reply r (element_of es index)
+
+-- all values, or by an index one element of an array
+abbrev pub indexed_reply : Reference → Property → Option ℕ → Reply
+indexed_reply r p None = Complex (PropertyRead r p.values)
+indexed_reply r p (Some index) = array_reply r index (elements_of p)
 
 abbrev pub read_reply : Reference → Property → Reply
-read_reply r p = first_case ((is_some r.index ⟶ PROPERTY_IS_NOT_AN_ARRAY) ∷ []) (Complex (PropertyRead r p.values))
+read_reply r p = indexed_reply r p r.index
 
 -- the values are of the property's kind
 abbrev pub is_of_kind : Option ℕ → List ℕ → Bool
@@ -173,5 +191,5 @@ write_file_reply (WriteStream start new) f = write_stream_reply start new f
 abbrev pub reply_to : Store → Request → Reply
 reply_to s (ReadFile id access) = of_file s id (read_file_reply access)
 reply_to s (WriteFile id access) = of_file s id (write_file_reply access)
-reply_to s (ReadProperty r) = of_property s r (read_reply r)
-reply_to s (WriteProperty r values priority) = of_property s r (write_reply r values)
+reply_to s (ReadProperty r) = of_property (read_in s r.object) r (read_reply r)
+reply_to s (WriteProperty r values priority) = of_property (object_in s r.object) r (write_reply r values)

@@ -6,6 +6,7 @@
 
 mod allowed;
 mod allowing;
+mod arrays;
 mod change;
 mod change_fault;
 mod changing;
@@ -37,6 +38,7 @@ mod splice;
 mod store;
 mod store_fault;
 mod store_lookups;
+mod targets;
 
 pub use allowed::Allowed;
 pub use change::Change;

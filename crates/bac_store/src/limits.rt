@@ -53,6 +53,8 @@ pub(crate) const MULTI_STATE_VALUE: u16 = 19;
 
 // properties (BACnetPropertyIdentifier)
 
+pub(crate) const ACTION_TEXT: u32 = 3;
+
 pub(crate) const DESCRIPTION: u32 = 28;
 
 pub(crate) const FILE_ACCESS_METHOD: u32 = 41;
@@ -68,6 +70,12 @@ pub(crate) const OBJECT_NAME: u32 = 77;
 pub(crate) const OBJECT_TYPE: u32 = 79;
 
 pub(crate) const PRESENT_VALUE: u32 = 85;
+
+pub(crate) const STATE_TEXT: u32 = 110;
+
+pub(crate) const CONFIGURATION_FILES: u32 = 154;
+
+pub(crate) const PROPERTY_LIST: u32 = 371;
 
 /// Stream access, the access method of every file (BACnetFileAccessMethod).
 pub(crate) const STREAM_ACCESS: u32 = 1;

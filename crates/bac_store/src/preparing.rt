@@ -23,6 +23,7 @@ use crate::planned::{Planned, StoreEffect};
 use crate::properties::{read_property, write_refusal};
 use crate::refusal::Refusal;
 use crate::splice::Splice;
+use crate::targets::target_of;
 use bac_service::{
     AnyComplex, AnyReply, Content, FileWritten, PropertyReference, ReadFile, Records, WriteAccess,
     WriteFile, WriteProperty, WriteStream,
@@ -51,7 +52,7 @@ pub(crate) fn plan_read_property(
     ensures last { OnErr result (IsGranted (map entry_view objects.now) (PropertyReading (property_reference_view reference))) }
     ensures held { OnErr result (HoldsOctets (map entry_view objects.now) (PropertyReading (property_reference_view reference))) }
 {
-    let Some(entry) = entry_of(objects, reference.object) else {
+    let Some(entry) = target_of(objects, reference.object) else {
         return Ok(refused(Refusal::UnknownObject));
     };
     let reply = read_property(alloc, entry, reference)?;

@@ -2,24 +2,59 @@
 ghost use Rattle.std.specs.Prelude.{◌≡◌, ◌≤◌, ℕ, true, List, length, IfOk, OnErr};
 ghost use Rattle.bac_value.specs.Value.{Datum};
 ghost use Rattle.bac_service.specs.Replies.{held_by};
-ghost use Rattle.bac_service.specs.Replies.Reply.{Simple};
+ghost use Rattle.bac_service.specs.Replies.Reply.{Complex, Simple};
+ghost use Rattle.bac_service.specs.Values.Complex.{PropertyRead as PropertyReadView};
 ghost use Rattle.bac_service.specs.Views.{owned_reply_view, property_reference_view};
+ghost use Rattle.bac_store.specs.Arrays.{elements_of};
 ghost use Rattle.bac_store.specs.Answers.{refused, refused_or};
 ghost use Rattle.bac_store.specs.Changes.{is_done};
 ghost use Rattle.bac_store.specs.Kept.{IsKept};
-ghost use Rattle.bac_store.specs.Replies.{at_property, is_out_of_range as out_of_range, read_reply, write_reply};
+ghost use Rattle.bac_store.specs.Replies.{array_reply, at_property, is_out_of_range as out_of_range, read_reply, write_reply};
 ghost use Rattle.bac_store.specs.Stores.{computed, property_in};
 ghost use Rattle.bac_store.specs.Views.{entry_view, slot_view};
 
 use crate::allowing::is_allowed;
+use crate::arrays::{element, is_array, split_values};
 use crate::entry::{StoredObject, StoredProperty};
 use crate::kind::{is_of_kind, is_right_state};
 use crate::limits::VALUE_LIMIT;
 use crate::lookups::{Found, find, values_of};
 use crate::refusal::Refusal;
 use bac_service::{AnyComplex, AnyReply, OwnedReply, PropertyRead, PropertyReference};
-use bac_value::NoMemory;
+use bac_value::{DataBuf, NoMemory};
 use std::alloc::Global;
+
+/// The ComplexACK with these values of a property.
+fn values_reply(reference: PropertyReference, values: DataBuf) -> OwnedReply
+    ensures { owned_reply_view result ≡ Complex (PropertyReadView (property_reference_view reference) values.octets.items) }
+{
+    AnyReply::Complex(AnyComplex::PropertyRead(PropertyRead { reference, values }))
+}
+
+/// The reply to a request to read one element of a listed property.
+fn read_element(
+    alloc: Global,
+    slot: &StoredProperty,
+    reference: PropertyReference,
+    index: u32,
+) -> Result<OwnedReply, NoMemory>
+    ensures told { IfOk result (λ r. owned_reply_view r ≡ array_reply (property_reference_view reference) index (elements_of (slot_view slot.now))) }
+    ensures last { OnErr result (is_done (array_reply (property_reference_view reference) index (elements_of (slot_view slot.now))) ≡ true) }
+    ensures held { OnErr result (1 ≤ length (held_by (array_reply (property_reference_view reference) index (elements_of (slot_view slot.now))))) }
+{
+    if !is_array(slot.number) {
+        return Ok(Refusal::PropertyIsNotAnArray.reply());
+    }
+    // index 0 is the number of elements, whichever of them is chosen
+    let at = (index as usize).saturating_sub(1);
+    let Some(values) = split_values(slot.values.octets.as_slice(), at) else {
+        return Ok(Refusal::PropertyIsNotAnArray.reply());
+    };
+    match element(alloc, values, index)? {
+        None => Ok(Refusal::InvalidArrayIndex.reply()),
+        Some(values) => Ok(values_reply(reference, values)),
+    }
+}
 
 /// The reply to a request to read a property of this object.
 pub(crate) fn read_property(
@@ -38,11 +73,16 @@ pub(crate) fn read_property(
     let Some(found) = find(entry, reference.property) else {
         return Ok(Refusal::UnknownProperty.reply());
     };
-    if reference.index.is_some() {
-        return Ok(Refusal::PropertyIsNotAnArray.reply());
+    match reference.index {
+        None => {
+            let values = values_of(alloc, entry, found)?;
+            Ok(values_reply(reference, values))
+        }
+        Some(index) => match found {
+            Found::Computed(_) => Ok(Refusal::PropertyIsNotAnArray.reply()),
+            Found::Listed(at) => read_element(alloc, &entry.slots[at], reference, index),
+        },
     }
-    let values = values_of(alloc, entry, found)?;
-    Ok(AnyReply::Complex(AnyComplex::PropertyRead(PropertyRead { reference, values })))
 }
 
 /// Whether the values are no state of the object, or not allowed.

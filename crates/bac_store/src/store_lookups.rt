@@ -27,7 +27,7 @@ pub struct ListedValues<'a> {
 }
 
 /// The listed property with this number.
-fn slot_of(slots: &[StoredProperty], number: u32) -> Option<&StoredProperty>
+pub(crate) fn slot_of(slots: &[StoredProperty], number: u32) -> Option<&StoredProperty>
     requires { AllPairs (λ p q. p.number < q.number) (map slot_view slots.now) }
     ensures { option_map (λ s. slot_view s.now) result ≡ first_that (is_number number) (map slot_view slots.now) }
 {

@@ -46,18 +46,21 @@ pub fn no_memory<E: Write>(err: &mut E) -> Status
     complain(err, "no memory", Status::Memory)
 }
 
-/// Complains that standard output cannot be written, and of the reason, or of out of memory, which has a status of its own.
+/// Complains that standard output cannot be written, and of the reason, or of out of memory, which has a status of its own. Where the reader of a pipe has
+/// ended, as `head` does, nothing is told.
 pub fn output_failed<E: Write>(err: &mut E, error: &io::Error) -> Status
     ensures memory { error_kind error.now ≡ ErrorKind.OutOfMemory → result ≡ Memory }
     ensures output { error_kind error.now ≢ ErrorKind.OutOfMemory → result ≡ Output }
     ensures failed { IsFailure result }
 {
-    if error.kind() == ErrorKind::OutOfMemory {
-        no_memory(err)
-    } else {
-        let status = complain(err, "cannot write", Status::Output);
-        // if that fails too, only the status is left
-        let _ = writeln!(err, "standard output: {error}");
-        status
+    match error.kind() {
+        ErrorKind::OutOfMemory => no_memory(err),
+        ErrorKind::BrokenPipe => Status::Output,
+        _ => {
+            let status = complain(err, "cannot write", Status::Output);
+            // if that fails too, only the status is left
+            let _ = writeln!(err, "standard output: {error}");
+            status
+        }
     }
 }

@@ -1,5 +1,5 @@
 -- An accepted ask.
-use Rattle.std.proofs.Common.{not, ◌≡◌, ℕ, ◌+◌, ◌<◌, ◌⊎◌, Bool, true, false, ◌&&◌, ◌||◌, List, [], ◌∷◌, ◌++◌, map, length, Option, Some, None}
+use Rattle.std.proofs.Common.{not, ◌≡◌, ℕ, ◌+◌, ◌<◌, ◌≤◌, ◌⊎◌, Bool, true, false, ◌&&◌, ◌||◌, List, [], ◌∷◌, ◌++◌, map, length, Option, Some, None}
 use Rattle.std.proofs.Common.{slice_get, if◌then◌else◌, nat_eq, nat_lt, refl, sym, ap, subst, inl, inr, ◌∙◌, arith}
 use Rattle.std.proofs.lemmas.Bool.Decides.{nat_tests}
 use Rattle.bac_apdu.specs.Apdu.{Apdu, Limits}
@@ -20,7 +20,10 @@ use Rattle.bac_protocol.specs.Claims.{IsBounded}
 use Rattle.bac_protocol.proofs.Dead.{ended_is_silent}
 use Rattle.bac_protocol.proofs.Keys.{set_same, set_other, decide_key}
 use Rattle.bac_protocol.proofs.Own.{client_sends_own}
+use Rattle.bac_protocol.specs.LongApdus.{AllTakeLong, TakesLong}
+use Rattle.bac_protocol.proofs.LongApdus.{requests_are_cut}
 use Rattle.bac_protocol.proofs.Short.{requests_are_short}
+use Rattle.bac_protocol.proofs.ShortNets.{IsShortNet, asked_short}
 use Rattle.bac_slots.specs.Slots.{value_at, keep}
 use Rattle.bac_transaction.specs.Keys.{PeerKey, same_key}
 use Rattle.bac_transaction.specs.Sends.{Pairwise, IsSent}
@@ -67,20 +70,20 @@ module _ (c : Settings) (now : ℕ) (peer : PeerView) (choice : ℕ) (octets : O
 
   with_id : (whole : Bool) (front : Octets) (rest : List Octets) → join (front ∷ rest) ≡ octets
       → asks_for c now peer (record { first = now; choice = choice; whole = whole; pieces = front ∷ rest }) e ≡ Asked a
-      → (p : IsAccepted) × (p.whole ≡ whole)
+      → (p : IsAccepted) × (p.whole ≡ whole) × (p.front ∷ p.rest ≡ front ∷ rest)
   with_id whole front rest joined is = go (free_id now e peer) refl is
     where
       ask : Ask
       ask = record { first = now; choice = choice; whole = whole; pieces = front ∷ rest }
 
       go : (o : Option ℕ) → free_id now e peer ≡ o → asks_with_id c now peer ask e o ≡ Asked a
-          → (p : IsAccepted) × (p.whole ≡ whole)
+          → (p : IsAccepted) × (p.whole ≡ whole) × (p.front ∷ p.rest ≡ front ∷ rest)
       go None least is = absurd cc
       go (Some id) least is = slots (has_no_slot now e) is
         where
           slots : (b : Bool)
               → (if b then AskOutcome.Refused AskRefusal.NoSlot else Asked (accepts c now (record { peer = peer; invoke_id = id }) ask e)) ≡ Asked a
-              → (p : IsAccepted) × (p.whole ≡ whole)
+              → (p : IsAccepted) × (p.whole ≡ whole) × (p.front ∷ p.rest ≡ front ∷ rest)
           slots true is = absurd cc
           slots false is = (
             record {
@@ -93,6 +96,7 @@ module _ (c : Settings) (now : ℕ) (peer : PeerView) (choice : ℕ) (octets : O
               awake = no_wait now e peer id (is_free now e peer id least);
               is = let same : accepts c now (record { peer = peer; invoke_id = id }) ask e ≡ a = cc in sym same;
             },
+            refl,
             refl,
           )
 
@@ -112,8 +116,32 @@ module _ (c : Settings) (now : ℕ) (peer : PeerView) (choice : ℕ) (octets : O
   -- one that goes in one APDU is whole
   pub accepted_whole : (limits : Limits) → requester_ask c now peer limits choice octets e ≡ Asked a → request_way_of c limits octets ≡ InOne
       → (p : IsAccepted) × (p.whole ≡ true)
-  accepted_whole limits is in_one = with_id true octets [] (append_none octets)
-      (subst (λ (way : Way RequestFault). asks_by_way c now peer choice octets e way ≡ Asked a) in_one is)
+  accepted_whole limits is in_one =
+      let made = with_id true octets [] (append_none octets)
+      (subst (λ (way : Way RequestFault). asks_by_way c now peer choice octets e way ≡ Asked a) in_one is) in
+      (made.0, made.1)
+
+  -- between ends that take long APDUs it has few pieces
+  pub accepted_few : (limits : Limits) → requester_ask c now peer limits choice octets e ≡ Asked a
+      → (p : IsAccepted) × (TakesLong c.limits → TakesLong limits → length (p.front ∷ p.rest) ≤ 139)
+  accepted_few limits is = go (request_way_of c limits octets) refl is
+    where
+      context : Context
+      context = record { settings = c; invoke_id = 0; now = now }
+
+      few : (p : IsAccepted) (front : Octets) (rest : List Octets) → p.front ∷ p.rest ≡ front ∷ rest → length (front ∷ rest) ≤ 139
+          → length (p.front ∷ p.rest) ≤ 139
+      few p front rest same le = subst (λ (ps : List Octets). length ps ≤ 139) (sym same) le
+
+      go : (way : Way RequestFault) → request_way_of c limits octets ≡ way → asks_by_way c now peer choice octets e way ≡ Asked a
+          → (p : IsAccepted) × (TakesLong c.limits → TakesLong limits → length (p.front ∷ p.rest) ≤ 139)
+      go InOne way is = let made = with_id true octets [] (append_none octets) is in (made.0, λ own other. few made.0 octets [] made.2 (omega arith))
+      go (InSegments []) way is = let cut = requests_are_short.cut context limits octets [] way in let some = cut.some in absurd (omega arith)
+      go (InSegments (front ∷ rest)) way is =
+          let cut = requests_are_short.cut context limits octets (front ∷ rest) way in
+          let made = with_id false front rest cut.are.joined is in
+          (made.0, λ own other. few made.0 front rest made.2 (requests_are_cut.long c limits octets (front ∷ rest) way own other))
+      go (Way.Refused why) way is = absurd cc
 
 -- Slots and notes.
 
@@ -452,12 +480,17 @@ module _ (links : ℕ → Option Octets) (apart : (i j : ℕ) (l : Octets) → l
     asks_with = record { bridge = over; once = once }
 
   pub asks_over : (w w' : World) (n : Net) → Over links apart W x set w n → (client server : ℕ) (limits : Limits) (r : Request)
-      → IsAsked w client server limits r w' → (m : Net) × Goes links apart W x set w w' m
+      → IsAsked w client server limits r w'
+      → (m : Net) × Goes links apart W x set w w' m × (AllTakeLong x → TakesLong limits → IsShortNet n → IsShortNet m)
   asks_over w w' n h i s limits r step =
       let fits : Fits links apart W x set w n n i step.before = h.nodes i step.before step.at in
       let asked_of : Settings → ℕ → AskOutcome =
       λ c now. requester_ask c now (peer_at step.link) limits (choice_of r) step.asks.octets step.before.clients in
-      let parts = accepted_is (x.settings i) (here_at n i) (peer_at step.link) (choice_of r) step.asks.octets step.before.clients step.accepted limits
+      let parts = accepted_few (x.settings i) (here_at n i) (peer_at step.link) (choice_of r) step.asks.octets step.before.clients step.accepted limits
       (subst (λ (y : Settings). asked_of y (here_at n i) ≡ Asked step.accepted) fits.settings
       (subst (λ (y : ℕ). asked_of step.before.settings y ≡ Asked step.accepted) (sym (ap (λ (y : Clock). y.shows) (h.here i))) step.asks.accepted)) in
-      (_, asks_with w w' n h i s limits r step (sym (h.linked s) ∙ step.peer) parts)
+      let ask : Ask = record { first = here_at n i; choice = choice_of r; whole = parts.0.whole; pieces = parts.0.front ∷ parts.0.rest } in (
+        asked_at x n (key_of i s parts.0.id) ask,
+        asks_with w w' n h i s limits r step (sym (h.linked s) ∙ step.peer) parts.0,
+        λ long told short. asked_short x long n short (key_of i s parts.0.id) ask (parts.1 (long i) told),
+      )

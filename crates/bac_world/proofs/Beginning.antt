@@ -100,6 +100,3 @@ module _ (links : ℕ → Option Octets) (apart : (i j : ℕ) (l : Octets) → l
     log = h.log;
     sound = begins W x set bound n i exact ((h.lives i).active s.first) h.sound;
   }
-
-  pub begun_next : Next links apart W x set w w'
-  begun_next = subst (λ (u : World). Next links apart W x set w u) (sym s.is) (m, record { bridge = begun_over; once = λ opening once. once })

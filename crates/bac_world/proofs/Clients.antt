@@ -115,15 +115,15 @@ module _ (links : ℕ → Option Octets) (apart : (i j : ℕ) (l : Octets) → l
       between_is = subst (λ (fs : List EndedView). AreEnded w.notes i fs w.log acts.between) ends acts.ended
 
   -- an APDU of a server was heard
-  pub hears : (bound : IsBounded W x) → x.readable ≡ reads_reply → (w w' : World) (n : Net) → Over links apart W x set w n → (number : ℕ) (p : Post) (c : Copy)
+  pub hears_post : (bound : IsBounded W x) → x.readable ≡ reads_reply → (w w' : World) (n : Net) → Over links apart W x set w n → (number : ℕ) (p : Post) (c : Copy)
       → slice_get n.posts number ≡ Some p
-      → IsCopyOf links apart p c → n.now - p.copy.moment ≤ n.pace.life → net.later p.key number n.posts ≤ x.overtake
+      → IsCopyOf links apart p c → net.is_deliverable x n number p ≡ true
       → is_from_client p.copy.apdu ≡ false → c.from ≡ p.key.server → c.to ≡ p.key.client
       → (a b : Node) (o : Outcome) → slice_get w.nodes c.to ≡ Some a → (l : Octets) → links c.from ≡ Some l
       → IsClientTurn (requester_on_apdu_at a.settings reads_reply (told w c.to) p.copy.apdu a.clients (slot_key l (invoke_id_of p.copy.apdu))
       (value_at same_key (slot_key l (invoke_id_of p.copy.apdu)) a.clients.slots)) (told w c.to) a b o
       → Acts w c.to b o w' → Goes links apart W x set w w' (taken_by_client x n p (n.tickets p.key))
-  hears bound readable w w' n h number p c at copied young few down from_is to_is a b o node l link turn acts =
+  hears_post bound readable w w' n h number p c at copied may down from_is to_is a b o node l link turn acts =
       go (value_at same_key q a.clients.slots) refl turn'
     where
       key : Key
@@ -190,8 +190,8 @@ module _ (links : ℕ → Option Octets) (apart : (i j : ℕ) (l : Octets) → l
           (λ y. value_at same_key y made.slots) w.copies w.log n
           (reached_none links apart W x set w n h key.client a fits) h.linked k t found r
           (λ is. (
-            gets_at_client W x set bound n h.sound number p at young few down (λ choice octets. machine.Outcome.Rejects 0) t is,
-            Hears n number p t Here at (may_arrive W x set bound n number p young few) down is,
+            gets_at_client W x set bound n h.sound number p at may down (λ choice octets. machine.Outcome.Rejects 0) t is,
+            Hears n number p t Here at may down is,
           ))
           (client_sends_own.gets context x.readable t apdu)
           (with_same Client q (client_after (here_at n key.client) k t r) (record { number = k; held = Open t }) a.clients.slots found)
@@ -230,3 +230,15 @@ module _ (links : ℕ → Option Octets) (apart : (i j : ℕ) (l : Octets) → l
           (λ u at. sym (ap is_ended at)
           ∙ (subst (λ (y : Option Client). TicketFits (is_lost n key) (here_at n key.client) w.notes key.client (n.numbers key) y (n.tickets key)) is fit).over) turn
       go (Some v) is turn = held v.number v.held is turn
+
+  -- one that few enough overtook
+  pub hears : (bound : IsBounded W x) → x.readable ≡ reads_reply → (w w' : World) (n : Net) → Over links apart W x set w n → (number : ℕ) (p : Post) (c : Copy)
+      → slice_get n.posts number ≡ Some p
+      → IsCopyOf links apart p c → n.now - p.copy.moment ≤ n.pace.life → net.later p.key number n.posts ≤ x.overtake
+      → is_from_client p.copy.apdu ≡ false → c.from ≡ p.key.server → c.to ≡ p.key.client
+      → (a b : Node) (o : Outcome) → slice_get w.nodes c.to ≡ Some a → (l : Octets) → links c.from ≡ Some l
+      → IsClientTurn (requester_on_apdu_at a.settings reads_reply (told w c.to) p.copy.apdu a.clients (slot_key l (invoke_id_of p.copy.apdu))
+      (value_at same_key (slot_key l (invoke_id_of p.copy.apdu)) a.clients.slots)) (told w c.to) a b o
+      → Acts w c.to b o w' → Goes links apart W x set w w' (taken_by_client x n p (n.tickets p.key))
+  hears bound readable w w' n h number p c at copied young few =
+      hears_post bound readable w w' n h number p c at copied (may_arrive W x set bound n number p young few)

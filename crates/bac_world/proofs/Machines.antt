@@ -198,6 +198,16 @@ module _ (W : ℕ) (x : Rules) (set : Setting) (bound : IsBounded W x) where
       go true false e f = absurd (grind (arith, nat_tests))
       go false b e f = absurd (grind (arith, nat_tests))
 
+  -- in a short transfer it may, however many overtook it
+  pub short_may_arrive : (n : Net) (number : ℕ) (p : Post) → n.now - p.copy.moment ≤ n.pace.life → is_short n p.key ≡ true → is_deliverable x n number p ≡ true
+  short_may_arrive n number p young short =
+      go (nat_le (n.now - p.copy.moment) n.pace.life) (nat_le (later p.key number n.posts) x.overtake) refl
+    where
+      go : (a b : Bool) → nat_le (n.now - p.copy.moment) n.pace.life ≡ a → (a && (b || is_short n p.key)) ≡ true
+      go true true e = refl
+      go true false e = short
+      go false b e = absurd (grind (arith, nat_tests))
+
   -- no ticket was asked later than now
   pub asked_before : (n : Net) → Sound x set n → (key : Key) (t : ClientTransaction) → n.tickets key ≡ Some t → n.made key ≤ n.now
   asked_before n s key t is = (known n s).made key t is
@@ -209,23 +219,23 @@ module _ (W : ℕ) (x : Rules) (set : Setting) (bound : IsBounded W x) where
   pub server_later : (n : Net) → Sound x set n → (key : Key) (by own : ℕ) → server_now n key ≤ (goes_on n.pace by own (n.server_clocks key.server)).shows
   server_later n s key by own = let g = (known n s).ticking key in shows_on n.pace g.some by own (n.server_clocks key.server) g.server
 
-  arrived_sound : (n : Net) → Sound x set n → (number : ℕ) (p : Post) → slice_get n.posts number ≡ Some p → n.now - p.copy.moment ≤ n.pace.life
-      → later p.key number n.posts ≤ x.overtake → (free : Bool) (service : Service)
+  arrived_sound : (n : Net) → Sound x set n → (number : ℕ) (p : Post) → slice_get n.posts number ≡ Some p → is_deliverable x n number p ≡ true
+      → (free : Bool) (service : Service)
       → Sound x set (if is_from_client p.copy.apdu then taken x set n p free service else taken_by_client x n p (n.tickets p.key))
-  arrived_sound n s number p at young few free service =
-      subst (λ (m : Net). Sound x set m) (arrives x set n number p at (may_arrive n number p young few) free service)
+  arrived_sound n s number p at may free service =
+      subst (λ (m : Net). Sound x set m) (arrives x set n number p at may free service)
       (moves x set n (Arrives number free service) s)
 
   -- a slot is free for it only where its server does not wait
-  pub gets_at_server : (n : Net) → Sound x set n → (number : ℕ) (p : Post) → slice_get n.posts number ≡ Some p → n.now - p.copy.moment ≤ n.pace.life
-      → later p.key number n.posts ≤ x.overtake → is_from_client p.copy.apdu ≡ true → (service : Service) (free : Bool) → is_room n p.key free ≡ free
+  pub gets_at_server : (n : Net) → Sound x set n → (number : ℕ) (p : Post) → slice_get n.posts number ≡ Some p → is_deliverable x n number p ≡ true
+      → is_from_client p.copy.apdu ≡ true → (service : Service) (free : Bool) → is_room n p.key free ≡ free
       → Sound x set (server_acts n p.key
       (server_hears (reuses_in set p.key.server) (server_context x p.key (server_now n p.key)) service is_read (n.entries p.key) free p.copy.apdu))
-  gets_at_server n s number p at young few up service free room =
+  gets_at_server n s number p at may up service free room =
       let way : Bool → Net = λ b. if b then taken x set n p free service else taken_by_client x n p (n.tickets p.key) in
       subst (λ (b : Bool). Sound x set (server_acts n p.key
       (server_hears (reuses_in set p.key.server) (server_context x p.key (server_now n p.key)) service is_read (n.entries p.key) b p.copy.apdu)))
-      room (subst (λ (m : Net). Sound x set m) (ap way up) (arrived_sound n s number p at young few free service))
+      room (subst (λ (m : Net). Sound x set m) (ap way up) (arrived_sound n s number p at may free service))
 
   pub away_of : (n : Net) → Sound x set n → (key : Key) (t : ClientTransaction) → n.far.tickets key ≡ Some t → WasAskedAway (n.far.numbers key) n.log
   away_of n s key t is = (known n s).away key t is
@@ -276,12 +286,12 @@ module _ (W : ℕ) (x : Rules) (set : Setting) (bound : IsBounded W x) where
       → Sound x set (server_acts_away n key (server.server_ticks (server_context x key (server_now n key)) (n.far.entries key)))
   ticks_at_server_away n s key = unheard x set n s (TicksEntryAway key) tt
 
-  pub gets_at_client : (n : Net) → Sound x set n → (number : ℕ) (p : Post) → slice_get n.posts number ≡ Some p → n.now - p.copy.moment ≤ n.pace.life
-      → later p.key number n.posts ≤ x.overtake → is_from_client p.copy.apdu ≡ false → (service : Service) → (t : ClientTransaction) → n.tickets p.key ≡ Some t
+  pub gets_at_client : (n : Net) → Sound x set n → (number : ℕ) (p : Post) → slice_get n.posts number ≡ Some p → is_deliverable x n number p ≡ true
+      → is_from_client p.copy.apdu ≡ false → (service : Service) → (t : ClientTransaction) → n.tickets p.key ≡ Some t
       → Sound x set (client_acts n p.key t (client.client_on_apdu (client_context x p.key (client_now n p.key)) x.readable t p.copy.apdu))
-  gets_at_client n s number p at young few down service t is =
+  gets_at_client n s number p at may down service t is =
       let way : Bool → Net = λ b. if b then taken x set n p false service else taken_by_client x n p (n.tickets p.key) in
-      subst (λ (m : Net). Sound x set m) (ap way down ∙ ap (taken_by_client x n p) is) (arrived_sound n s number p at young few false service)
+      subst (λ (m : Net). Sound x set m) (ap way down ∙ ap (taken_by_client x n p) is) (arrived_sound n s number p at may false service)
 
   pub ticks_at_client : (n : Net) → Sound x set n → (key : Key) (t : ClientTransaction) → n.tickets key ≡ Some t
       → Sound x set (client_acts n key t (client.client_ticks (client_context x key (client_now n key)) t))

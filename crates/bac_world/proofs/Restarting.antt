@@ -274,7 +274,7 @@ module _ (links : ℕ → Option Octets) (apart : (i j : ℕ) (l : Octets) → l
   sends_here : (j : ℕ) → nat_eq j i ≡ true → n.sends_until j ≡ (w.lives i).sends_until
   sends_here j e = (h.lives j).sends ∙ ap (λ (c : ℕ). (w.lives c).sends_until) (let same : j ≡ i = grind (arith, nat_tests) in same)
 
-  restarted_goes : (o : Option Store) → IsRestarted w i exact o w' → Goes links apart W x set w w' (restarted_net n i exact)
+  pub restarted_goes : (o : Option Store) → IsRestarted w i exact o w' → Goes links apart W x set w w' (restarted_net n i exact)
   restarted_goes o s = renewed_goes links apart W x set w w' n h i exact (n.now + 1) ((clock_at n.pace exact).shows + REST + 1)
       ((clock_at w.time.pace exact).shows + REST + 1) s.before.clients.first_id (min (w.lives i).sends_until (w.time.now + 1)) o
       (λ j. if nat_eq j i then min (n.sends_until j) (n.now + 1) else n.sends_until j)
@@ -291,7 +291,7 @@ module _ (links : ℕ → Option Octets) (apart : (i j : ℕ) (l : Octets) → l
           ∙ (λ k. min (sends_here j e k) (h.now k + 1))
       sends j false e = ap (λ (b : Bool). if b then min (n.sends_until j) (n.now + 1) else n.sends_until j) e
 
-  replaced_goes : (first_id : ℕ) (o : Option Store) → IsBegunAgain w i exact first_id o w' → Goes links apart W x set w w' (replaced_net n i exact)
+  pub replaced_goes : (first_id : ℕ) (o : Option Store) → IsBegunAgain w i exact first_id o w' → Goes links apart W x set w w' (replaced_net n i exact)
   replaced_goes first_id o s = renewed_goes links apart W x set w w' n h i exact n.now 0 0 first_id (w.lives i).sends_until o n.sends_until
       (record { before = s.before; at = s.at; nodes = s.nodes; time = s.time; lives = s.lives; copies = s.copies; notes = s.notes; log = s.log })
       (record {
@@ -303,12 +303,6 @@ module _ (links : ℕ → Option Octets) (apart : (i j : ℕ) (l : Octets) → l
       sends : (j : ℕ) (b : Bool) → nat_eq j i ≡ b → n.sends_until j ≡ (if b then (w.lives i).sends_until else n.sends_until j)
       sends j true e = sends_here j e
       sends j false e = refl
-
-  pub restarted_next : (o : Option Store) → IsRestarted w i exact o w' → Next links apart W x set w w'
-  restarted_next o s = (restarted_net n i exact, restarted_goes o s)
-
-  pub begun_again_next : (first_id : ℕ) (o : Option Store) → IsBegunAgain w i exact first_id o w' → Next links apart W x set w w'
-  begun_again_next first_id o s = (replaced_net n i exact, replaced_goes first_id o s)
 
   -- the nets after them
   pub restarted_over : (o : Option Store) → IsRestarted w i exact o w' → Over links apart W x set w' (restarted_net n i exact)

@@ -40,7 +40,7 @@ use Rattle.bac_protocol.specs.World.{server_now}
 use Rattle.bac_world.specs.World.{told}
 use Rattle.bac_world.proofs.Bridge.{here_at, there_at}
 use Rattle.bac_protocol.specs.Pace.{Clock}
-use Rattle.bac_world.proofs.Machines.{Sound, orderly, asked_of, own_of, gets_at_server, ticket_of}
+use Rattle.bac_world.proofs.Machines.{Sound, orderly, asked_of, own_of, gets_at_server, may_arrive, ticket_of}
 use Rattle.bac_reuse.proofs.Orderly.{one_ask}
 use Rattle.bac_world.proofs.Settings.{Setting, reuses_in, reusing_in, end_heard, hears_at}
 use Rattle.bac_world.proofs.Pairs.{pairwise_join}
@@ -255,15 +255,15 @@ module _ (links : ℕ → Option Octets) (apart : (i j : ℕ) (l : Octets) → l
       (is_free (server_now n p.key) (end_heard (reuses_in set p.key.server) (server_now n p.key) (slot_key l p.key.invoke_id) p.copy.apdu e)) p.copy.apdu
 
   module _ (bound : IsBounded W x) where
-    pub serves : (w w' : World) (n : Net) → Over links apart W x set w n → (number : ℕ) (p : Post) (c : Copy) → slice_get n.posts number ≡ Some p
-        → IsCopyOf links apart p c → n.now - p.copy.moment ≤ n.pace.life → machine.later p.key number n.posts ≤ x.overtake
+    pub serves_post : (w w' : World) (n : Net) → Over links apart W x set w n → (number : ℕ) (p : Post) (c : Copy) → slice_get n.posts number ≡ Some p
+        → IsCopyOf links apart p c → machine.is_deliverable x n number p ≡ true
         → is_from_client p.copy.apdu ≡ true → c.from ≡ p.key.client → c.to ≡ p.key.server
         → (a b : Node) (o : Outcome) → slice_get w.nodes c.to ≡ Some a → (l : Octets) → links c.from ≡ Some l → (service : Service)
         → IsServerTurn (hears_at (reuses_in set c.to) a.settings (told w c.to) service (slot_key l (invoke_id_of p.copy.apdu)) p.copy.apdu a.servers) (told w c.to) a b o
         → ActsSo (reuses_in set c.to) w c.to b o w'
         → Goes links apart W x set w w' (server_acts n p.key (served_so n p service l a.servers))
         × ArePerformed a.store (act_at (slot_key l p.key.invoke_id) (served_so n p service l a.servers).effect) o.performed
-    serves w w' n h number p c at copied young few up from_is to_is a b o node l link service turn acts =
+    serves_post w w' n h number p c at copied may up from_is to_is a b o node l link service turn acts =
         (record { bridge = over; once = logged.once }, done)
       where
         key : Key
@@ -335,7 +335,7 @@ module _ (links : ℕ → Option Octets) (apart : (i j : ℕ) (l : Octets) → l
         m = server_acts n key u
 
         sound : Sound x set m
-        sound = gets_at_server W x set bound n h.sound number p at young few up service free (room_is n key end fits.serves)
+        sound = gets_at_server W x set bound n h.sound number p at may up service free (room_is n key end fits.serves)
 
         made : Node
         made = record a {
@@ -402,3 +402,15 @@ module _ (links : ℕ → Option Octets) (apart : (i j : ℕ) (l : Octets) → l
             (λ j d ne f. others_fit (here_at n j) (there_at n j) w.notes n key u j d ne f)
             (pairwise_join (IsCopyOf links apart) n.posts (map (post_of key n.now) u.sends) w.copies acts'.sent h.posts copies)
             logged.log_means sound
+
+    -- one that few enough overtook
+    pub serves : (w w' : World) (n : Net) → Over links apart W x set w n → (number : ℕ) (p : Post) (c : Copy) → slice_get n.posts number ≡ Some p
+        → IsCopyOf links apart p c → n.now - p.copy.moment ≤ n.pace.life → machine.later p.key number n.posts ≤ x.overtake
+        → is_from_client p.copy.apdu ≡ true → c.from ≡ p.key.client → c.to ≡ p.key.server
+        → (a b : Node) (o : Outcome) → slice_get w.nodes c.to ≡ Some a → (l : Octets) → links c.from ≡ Some l → (service : Service)
+        → IsServerTurn (hears_at (reuses_in set c.to) a.settings (told w c.to) service (slot_key l (invoke_id_of p.copy.apdu)) p.copy.apdu a.servers) (told w c.to) a b o
+        → ActsSo (reuses_in set c.to) w c.to b o w'
+        → Goes links apart W x set w w' (server_acts n p.key (served_so n p service l a.servers))
+        × ArePerformed a.store (act_at (slot_key l p.key.invoke_id) (served_so n p service l a.servers).effect) o.performed
+    serves w w' n h number p c at copied young few up from_is to_is a b o node l link service turn acts =
+        serves_post w w' n h number p c at copied (may_arrive W x set bound n number p young few) up from_is to_is a b o node l link service turn acts

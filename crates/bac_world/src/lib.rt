@@ -9,6 +9,7 @@ pub mod node;
 ghost use Rattle.std.specs.Prelude.{ℕ, List, [], ◌∷◌};
 ghost use Rattle.bac_protocol.specs.Pace.{IsTimely};
 ghost use Rattle.bac_world.specs.Claims.{AreChangesPermitted, AreEndedOnce, ArePerformedOnce, AreReplayed, AreServedApart};
+ghost use Rattle.bac_world.specs.LongApdus.{AllAskLong, RepliesFit, TakeLongApdus};
 ghost use Rattle.bac_world.specs.Once.{Fact, HasNoChange, HasNoRestart, HasNoStranger, HasRequestsAlone, IsOnce, IsOnceAmongNodes, IsOnceByRequests};
 ghost use Rattle.bac_world.specs.Once.{IsOnceByRequestsAlone, IsOnceInOneLife, Stores};
 ghost use Rattle.bac_world.specs.ReusingLogs.{IsOnceSo, NoneReuses, Reuses};
@@ -30,6 +31,17 @@ pub fn at_most_once()
 pub fn at_most_once_where_reused()
     ensures { (W overtake : ℕ) (u : Reuses) (w w' : World) → IsFresh w → IsTimely w.time.pace → IsBounded W overtake w → (events : List Event)
         → WorldRunSo overtake u w events w' → IsOnceSo u (stores_of w.nodes) w'.log (stores_of w'.nodes) }
+{}
+
+/// Where all nodes take APDUs of 480 octets or more, and who asks one knows that, the same holds whatever overtakes what: no request has more than 139 pieces, and no
+/// reply more than 138, so no number comes twice in a transfer. No reply in the log is longer than can be sent, as none of a store of this stack is.
+pub fn long_apdus_need_no_bound_on_overtaking()
+    ensures once { (W overtake : ℕ) (w w' : World) → IsFresh w → IsTimely w.time.pace → TakeLongApdus W w → (events : List Event) → AllAskLong events
+        → WorldRun overtake w events w' → RepliesFit w'.log → IsOnce (stores_of w.nodes) w'.log (stores_of w'.nodes) }
+    ensures once_where_reused { (u : Reuses) (W overtake : ℕ) (w w' : World) → IsFresh w → IsTimely w.time.pace → TakeLongApdus W w → (events : List Event)
+        → AllAskLong events → WorldRunSo overtake u w events w' → RepliesFit w'.log → IsOnceSo u (stores_of w.nodes) w'.log (stores_of w'.nodes) }
+    ensures apart { (W overtake : ℕ) (w w' : World) → IsFresh w → IsTimely w.time.pace → TakeLongApdus W w → (events : List Event) → AllAskLong events
+        → WorldRun overtake w events w' → RepliesFit w'.log → AreServedApart w' }
 {}
 
 /// Where no node does so, a log that is right in those words is right.
