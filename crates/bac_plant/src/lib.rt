@@ -47,7 +47,8 @@ ghost use Rattle.bac_plant.specs.Steps.Step.{SendsHeld};
 use bac_driver::Observer;
 use bac_keep::Keeper;
 pub use overtaking::{
-    calls_compose_with_long_apdus, calls_go_on_with_long_apdus, long_apdus_need_no_bound_on_overtaking, replies_of_stores_fit,
+    calls_compose_with_long_apdus, calls_go_on_with_long_apdus,
+    long_apdus_need_no_bound_on_overtaking, replies_of_stores_fit,
 };
 pub use power::power_cuts_are_restarts;
 pub use replies::{answers_are_replies, answers_are_replies_with_long_apdus};
