@@ -35,7 +35,7 @@ use Rattle.bac_plant.specs.LongApdus.{IsReachedLong}
 use Rattle.bac_plant.proofs.LongApdus.{run_long}
 use Rattle.bac_plant.specs.NextSteps.{AsksGoOn, ChangesGoOn, FailuresGoOn, HeldSendsGoOn, HeldTurnsGoOn, IsReached, LeadsTo, RestartsGoOn, StartsAgainGoOn, StartsGoOn, StrangersAskedGoOn, TurnsGoOn}
 use Rattle.bac_plant.specs.Plants.{IsSetTo, Plant, RemembersInFull, nodes_of, settings_of, shows, world_of}
-use Rattle.bac_plant.specs.Steps.{HappensAt, HoldsSomeTurn, IsSomeTurn, away_note, heard_lives, note_of, turn_lives, question, with_station}
+use Rattle.bac_plant.specs.Steps.{HappensAt, HoldsSomeTurn, IsSomeTurn, PlantRun, Step, away_note, heard_lives, note_of, question, turn_lives, with_station}
 use Rattle.bac_plant.specs.Steps.Step.{Begins, Holds, Takes}
 use Rattle.bac_plant.specs.Events.{events_of, heard_events}
 use Rattle.bac_plant.proofs.Runs.{run_by}
