@@ -1,4 +1,4 @@
-# Installs the program that `sh tests/prove.sh` built, otherwise the one of `sh tests/unproved.sh` (which needs this folder to stay), its page, its completion, and
+# Installs the program that `sh tests/prove.sh` built, otherwise the one of `sh tests/unproved.sh` (which needs this folder to stay), its page, its completions, and
 # a unit of systemd with a document; `make` alone lists the targets.
 # SYSCONFDIR/bac/plant.toml is yours to edit: it is installed only where there is none, and `make uninstall` leaves it. PREFIX/share/bac/plant.toml is as it was made.
 PREFIX ?= /usr/local
@@ -6,6 +6,9 @@ SYSCONFDIR ?= /etc
 PROGRAM ?= $(or $(wildcard crates/bac/out/bac),crates/bac/out/bac-unproved)
 LIBRARY ?= crates/bac_c/out/libbac_c.a
 AT = $(DESTDIR)$(PREFIX)
+BASH = $(AT)/share/bash-completion/completions
+ZSH = $(AT)/share/zsh/site-functions
+FISH = $(AT)/share/fish/vendor_completions.d
 ETC = $(DESTDIR)$(SYSCONFDIR)
 # the commit that is packed, and its time
 NAME := nuutrevi-$(shell git log -1 --format=%cs-%h)
@@ -20,17 +23,19 @@ targets:
 	@echo 'make page: writes the page of the manual; make check-page compares it'
 
 install:
-	install -d $(AT)/bin $(AT)/share/man/man1 $(AT)/share/bash-completion/completions $(AT)/share/bac $(AT)/lib/systemd/system $(ETC)/bac
+	install -d $(AT)/bin $(AT)/share/man/man1 $(BASH) $(ZSH) $(FISH) $(AT)/share/bac $(AT)/lib/systemd/system $(ETC)/bac
 	install -m 755 $(PROGRAM) $(AT)/bin/bac
 	if test -e $(dir $(PROGRAM))bac.build; then install -m 644 $(dir $(PROGRAM))bac.build $(AT)/share/bac/bac.build; fi
 	install -m 644 docs/bac.1 $(AT)/share/man/man1/bac.1
-	$(PROGRAM) completion > $(AT)/share/bash-completion/completions/bac
+	$(PROGRAM) completion > $(BASH)/bac
+	$(PROGRAM) completion zsh > $(ZSH)/_bac
+	$(PROGRAM) completion fish > $(FISH)/bac.fish
 	install -m 644 docs/plant.toml $(AT)/share/bac/plant.toml
 	test -e $(ETC)/bac/plant.toml || install -m 644 docs/plant.toml $(ETC)/bac/plant.toml
 	sed -e 's|@PREFIX@|$(PREFIX)|g' -e 's|@SYSCONFDIR@|$(SYSCONFDIR)|g' install/bac.service.in > $(AT)/lib/systemd/system/bac.service
 
 uninstall:
-	rm -f $(AT)/bin/bac $(AT)/share/man/man1/bac.1 $(AT)/share/bash-completion/completions/bac $(AT)/share/bac/plant.toml $(AT)/share/bac/bac.build $(AT)/lib/systemd/system/bac.service
+	rm -f $(AT)/bin/bac $(AT)/share/man/man1/bac.1 $(BASH)/bac $(ZSH)/_bac $(FISH)/bac.fish $(AT)/share/bac/plant.toml $(AT)/share/bac/bac.build $(AT)/lib/systemd/system/bac.service
 
 # What `make install` and `make -C include install` put below /usr/local and /etc, with the SHA-256 sum of each file: the same octets of the same commit, program and
 # library.

@@ -9,6 +9,7 @@ pcap with micro- and nanoseconds, and tshark tells the frames' moments and addre
 
 import json
 import random
+import re
 import subprocess
 import sys
 sys.dont_write_bytecode = True  # no __pycache__ beside the sources
@@ -147,13 +148,15 @@ def watched_by_tshark(path):
 
 # ---- the comparison
 
+COUNTS = r'(?: times=\d+)?(?: more-segments=\d+)?(?= )'
+HEAD = re.compile(r'\S+T\S+Z \S+ > \S+ id \d+' + COUNTS)
+ANSWER = re.compile(r'  \w+ after=\d+ms' + COUNTS)
+
+
 def without_words(line):
     """A line of `bac explain` without the words of the request or the answer."""
-    if not line.startswith('  ') or '=' not in line or line.startswith('  negative'):
-        return line
-    words = line.split(' ')
-    kept = [word for word in words[2:] if word.split('=')[0] in ('asked', 'at', 'after', 'times', 'more-segments')]
-    return '  ' + ' '.join([words[2], *[word for word in kept if '=' in word]])
+    head = HEAD.match(line) or ANSWER.match(line)
+    return head[0] if head else line
 
 
 def is_explained(program, path, watch, title):
@@ -176,7 +179,7 @@ def are_objects(program, path, watch, title):
     whole = [json.loads(line) for line in done.stdout.split('\n')[:-1]]
     ours = [{name: value for name, value in it.items() if name not in CARRIED} for it in whole]
     carried = all(set(CARRIED) <= set(it) for it in whole if it['kind'] == 'transaction')
-    if ours == watch.objects and carried and done.returncode == watch.status() and not done.stderr:
+    if ours == watch.objects and carried and done.returncode == watch.status(of_lines=False) and not done.stderr:
         return True
     differ = [(one, two) for one, two in zip(ours, watch.objects) if one != two]
     print(f'WRONG {title}, JSON: {differ[:2]}, {len(ours)} objects, not {len(watch.objects)}, status {done.returncode}, {done.stderr}')
@@ -197,11 +200,12 @@ def selections(seed, frames):
     ends = [end for _, _, _, it in frames if it for end in (it.source.end, it.to.end)]
     one, other = chance.choice(ends), chance.choice(ends)
     slower = chance.choice([1, 10, 100, 1_000, 3_000, 10_000])
-    yield from [Selection(fail=True), Selection(unanswered=True), Selection(repeated=True), Selection(findings=True)]
+    yield from [Selection(fail=True), Selection(unanswered=True), Selection(errors=True), Selection(repeated=True), Selection(findings=True)]
+    yield Selection(strict_ids=True)
     yield from [Selection(slower=slower), Selection(peer=str(one.host))]
     for _ in range(4):
         peer = chance.choice([None, str(one), str(other.host)])
-        yield Selection(*(chance.randrange(2) == 0 for _ in range(3)), chance.choice([None, slower]), peer, chance.randrange(2) == 0)
+        yield Selection(*(chance.randrange(2) == 0 for _ in range(4)), chance.choice([None, slower]), peer, *(chance.randrange(2) == 0 for _ in range(2)))
 
 
 def written(program, folder, title, frames, seed):

@@ -4,6 +4,8 @@
 - A log that nobody reads, into a pipe and into a socket: 1,000 reads are answered, and once the log is read it tells how many lines are missing.
 - A FIFO in place of the document that it follows, from the start and later: it is refused by name, and reads are answered.
 - Documents of 8 MiB in its place, one of a million keys, one of comments, one that is too large: refused or taken over, and the slowest answer meanwhile is told.
+- Documents of 8 MiB of several shapes at a start: read, or refused by name, and in how many seconds is told.
+- Standard output that nobody reads any more: a command says nothing, and ends with 141. On a full disk it says so, and ends with 3.
 - In a network of its own, whose loopback goes down and comes up, and in which its socket is aborted (`ss -K`): it goes on.
 
 It needs unshare and iproute2 for the last part, and root or user namespaces. Prints a line for each part, and ends with status 1 if something is wrong.
@@ -193,6 +195,29 @@ def large(program, folder):
         check('what follows is taken over', server.says('present-value real 22.5'), server.said[-300:])
 
 
+def described(text):
+    return 'described = true\n[[object]]\ntype = "device"\ninstance = 1\nname = "d"\n' + text
+
+
+def starts(program, folder):
+    """Starts on documents of 8 MiB, each of one shape, and one of 256 KiB of which all faults are told."""
+    path = folder / 'start.toml'
+    properties = ''.join(f'{number}={{null=true}}\n' for number in range(512, 500512))
+    objects = ''.join(f'[[object]]\ntype=200\ninstance={number}\nname="{number}"\n' for number in range(170000))
+    full = ''.join(f'[[object]]\ntype=200\ninstance={number}\nname="{number}"\n{properties[:14 * 1000]}\n' for number in range(590))
+    shapes = {'a million keys': ''.join(f'k{number}=1\n' for number in range(1000000)), 'comments': DOCUMENT.format(21.5) + '#\n' * (4 * MEBIBYTE - 100),
+              'an object of many properties': '[[object]]\ntype=200\ninstance=1\nname="a"\n' + properties, 'many objects': objects,
+              'many objects, described': described(objects), 'full objects': full, 'full objects, described': described(full),
+              'no TOML': 'a\n' * (4 * MEBIBYTE - 1), 'all faults': 'a = 1\n' * (MEBIBYTE // 24)}
+    for name, text in shapes.items():
+        path.write_text(text[:8 * MEBIBYTE - 1])
+        began = time.monotonic()
+        ended = subprocess.run([program, 'answer', '--objects', str(path), '00'], capture_output=True, text=True, timeout=600)
+        seconds = time.monotonic() - began
+        check(f'{name}: read or refused', ended.returncode in (0, 1, 2), ended.returncode)
+        print(f'start, {name}: {seconds:.2f} s, status {ended.returncode}, {ended.stderr.splitlines()[-1][-80:] if ended.stderr else "read"}')
+
+
 def link(program):
     """In a network of its own."""
     run = lambda *words: subprocess.run(words, capture_output=True, text=True)
@@ -215,6 +240,18 @@ def link(program):
     print('link: loopback down and up, answered;', 'socket aborted, told and answered' if is_told else 'this kernel aborts no socket')
 
 
+def outputs(program):
+    reading, writing = os.pipe()
+    os.close(reading)
+    done = subprocess.run([program, 'help', '--man'], stdout=writing, stderr=subprocess.PIPE)
+    os.close(writing)
+    check('a pipe without a reader', (done.returncode, done.stderr) == (141, b''), done)
+    with open('/dev/full', 'wb') as full:
+        done = subprocess.run([program, 'help', '--man'], stdout=full, stderr=subprocess.PIPE)
+    check('a full disk', done.returncode == 3 and done.stderr.startswith(b'cannot write'), done)
+    print('outputs: a pipe without a reader, a full disk')
+
+
 def main(words):
     program = os.path.abspath(words[1])
     if words[2:] == ['link']:
@@ -222,9 +259,11 @@ def main(words):
         return wrong
     for kind, form in (('pipe', []), ('socket', []), ('pipe', ['--json'])):
         stalled(program, kind, form)
+    outputs(program)
     with tempfile.TemporaryDirectory() as name:
         fifo(program, Path(name))
         large(program, Path(name))
+        starts(program, Path(name))
     if shutil.which('unshare') and shutil.which('ss'):
         namespace = ['unshare', '-n'] if os.geteuid() == 0 else ['unshare', '-r', '-n']
         ended = subprocess.run([*namespace, sys.executable, __file__, program, 'link'], timeout=120)

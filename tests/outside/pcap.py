@@ -7,6 +7,7 @@ transactions.py make of those datagrams; it has to have one transaction for each
 where it was answered; and so many requests and answers in all as were sent.
 """
 
+import json
 import random
 import re
 import subprocess
@@ -175,24 +176,20 @@ class Block:
     end: str = ''
 
 
-LINE = re.compile(r'  (\w+) (?:at|after)=(\d+) times=(\d+)(?: more-segments=(\d+))? (.*)')
+def block_of(it):
+    """The object of a transaction."""
+    block = Block((it['client'], it['server'], it['invoke_id']), it['asked_at'], it['requests'] + it['segments'])
+    block.end = 'given up' if it['given_up'] else it['status']
+    if it['answers']:
+        name = {'error': 'answered', 'unanswered': 'began'}.get(it['status'], it['status'])
+        is_begun = it['status'] == 'aborted' and it['answer'] is None
+        block.name, block.answers, block.words = 'began' if is_begun else name, it['answers'] + it['answer_segments'], it['answer_text']
+    return block
 
 
-def blocks_of(lines):
-    found = []
-    for line in lines:
-        if line.startswith('transaction '):
-            client, _, server, _, invoke_id = line.split(' ')[1:]
-            found.append(Block((client, server, int(invoke_id))))
-            continue
-        part = LINE.fullmatch(line)
-        if part and part[1] == 'asked':
-            found[-1].moment, found[-1].asked = int(part[2]), int(part[3]) + int(part[4] or 0)
-        elif part:
-            found[-1].name, found[-1].answers, found[-1].words = part[1], int(part[3]) + int(part[4] or 0), part[5]
-        elif line.startswith('  '):
-            found[-1].end = line.strip()
-    return found
+def blocks_of(program, path):
+    lines = subprocess.run([program, 'explain', '--json', path], capture_output=True, text=True).stdout.splitlines()
+    return [block_of(it) for it in map(json.loads, lines) if it['kind'] == 'transaction']
 
 
 def is_answer(block, how):
@@ -242,11 +239,12 @@ def wrong_of(program, script, story, by_tshark):
         rows = read_rows(path.read_bytes())
         also = shown(str(path)) if by_tshark else rows
         lines = subprocess.run([program, 'explain', str(path)], capture_output=True, text=True).stdout.splitlines()
+        blocks = blocks_of(program, str(path))
     watch = watched(story)
     wrong = [f'{rows}, not {rows_of(story)}'] if rows != rows_of(story) else []
     wrong += [f'tshark: {also}'] if also != rows else []
     wrong += [f'{lines}, not {watch.lines}'] if [without_words(line) for line in lines] != watch.lines else []
-    return wrong + list(faults_of(story, blocks_of(lines))), watch
+    return wrong + list(faults_of(story, blocks)), watch
 
 
 def end_of(ask):

@@ -73,6 +73,12 @@ def check_points(checks, things):
     checks.expect('status', (done.returncode, done.stderr), (0, ''))
     checks.expect('columns', lines[:1], [['object', 'name', 'value', 'units', 'description', 'status']])
     checks.expect('points', sorted(line[:5] for line in lines[1:]), sorted(cells(thing) for thing in things))
+    records = [json.loads(line) for line in checks.run('points', '--json').stdout.splitlines()]
+    texts = [[record[name] or '' for name in lines[0][:5]] for record in records]
+    checks.expect('records', sorted(texts), sorted(cells(thing) for thing in things))
+    checks.expect('faults', [record['faults'] for record in records if record['faults']], [])
+    rows = list(csv.reader(io.StringIO(checks.run('points', '--csv').stdout)))
+    checks.expect('rows', rows, lines)
     # a device answers for its own instance, and for 4194303
     checks.prints(['points'], done.stdout, '', 0)
     unlisted = 'object-list: error object unknown-object (1:31)\n--device N reads the list of device N\n'

@@ -5,7 +5,8 @@ from datetime import datetime, timezone
 
 from sightings import ABORT, COMPLEX_ACK, ERROR, REJECT
 
-KEEP, LIFE, MOST_SENDS, ROUND, OPEN_LIMIT = 65_000, 5_000, 4, 128, 16_384
+KEEP, LIFE, MOST_SENDS, ROUND, OPEN_LIMIT, MOST_DEVICES = 65_000, 5_000, 4, 128, 16_384, 4_096
+ENDS = ('answered', 'errors', 'rejected', 'aborted', 'unanswered')
 APPEND, WRITE_FILE = bytes.fromhex('07C4028000010E31FF61AA0F'), 7
 REUSED = 'another request with the invoke ID of an earlier one'
 CONFUSED = f"{REUSED}, whose answer this stack's server would send"
@@ -102,18 +103,23 @@ class Transaction:
     naks: int = 0
     gave_up: bool = False
     findings: int = 0
+    told: bool = False
     frames: list = field(default_factory=list)
     wrongs: list = field(default_factory=list)
 
     def ending(self):
         """How it counts, whatever was seen of an answer whose end was not."""
         if self.answer and self.answer.whole:
-            return {REJECT: 'rejected', ABORT: 'aborted'}.get(self.answer.apdu.kind, 'answered')
+            return {REJECT: 'rejected', ABORT: 'aborted', ERROR: 'error'}.get(self.answer.apdu.kind, 'answered')
         return 'aborted' if self.gave_up or (self.answer and self.broken_off) else 'unanswered'
 
     def is_repeated(self):
         """Whether its request was sent more than once, or a segment of it."""
         return self.request.times > 1 or self.request.more > self.request.index
+
+    def is_over(self):
+        """Whether nothing more has to come."""
+        return self.gave_up or (self.answer is not None and (self.answer.whole or self.broken_off))
 
     def is_unanswered(self):
         return self.answer is None or not (self.answer.whole or self.broken_off)
@@ -127,23 +133,19 @@ class Transaction:
             return []
         return ['  aborted by the server' if self.broken_off else '  incomplete answer']
 
-    def lines(self):
-        asked = [f'  asked at={self.request.moment} {counts(self.request)}']
+    def lines(self, key):
+        asked = [f'{rfc_3339(self.request.moment)} {key[0]} > {key[1]} id {key[2]}{counts(self.request)}']
         if self.answer:
-            name = self.ending() if self.answer.whole else 'began'
-            asked.append(f'  {name} after={self.delay()} {counts(self.answer)}')
+            name = {'error': 'answered'}.get(self.ending(), self.ending()) if self.answer.whole else 'began'
+            asked.append(f'  {name} after={self.delay()}ms{counts(self.answer)}')
         return asked + ([f'  negative SegmentACKs={self.naks}'] if self.naks else []) + self.last_line()
-
-    def status(self):
-        """The word of its object of JSON."""
-        return 'error' if self.answer and self.answer.whole and self.answer.apdu.kind == ERROR else self.ending()
 
     def members(self):
         """Its object of JSON, but for what its APDUs carry."""
         answered = {'after': self.delay(), 'answers': self.answer.times, 'answer_segments': self.answer.more} if self.answer else {
             'after': None, 'answers': 0, 'answer_segments': 0}
         return answered | {'kind': 'transaction', 'asked_at': self.request.moment, 'time': rfc_3339(self.request.moment), 'requests': self.request.times,
-                           'segments': self.request.more, 'status': self.status(), 'unanswered': self.is_unanswered(), 'given_up': self.gave_up,
+                           'segments': self.request.more, 'status': self.ending(), 'unanswered': self.is_unanswered(), 'given_up': self.gave_up,
                            'negative_acks': self.naks, 'frames': self.frames, 'findings': self.wrongs}
 
     def delay(self):
@@ -179,7 +181,8 @@ class Transaction:
         return finding
 
     def requested(self, now, where, apdu):
-        finding = self.request.again_finding(apdu) if where == 'again' else self.request.segment_finding(where, apdu.segment)
+        again = None if self.is_over() else self.request.again_finding(apdu)
+        finding = again if where == 'again' else self.request.segment_finding(where, apdu.segment)
         self.request.count(now, where, apdu)
         if self.answer and isinstance(self.answer.grant, tuple):
             self.answer.grant = (*self.answer.grant[:2], 0)
@@ -189,6 +192,18 @@ class Transaction:
 def rfc_3339(moment):
     seconds = datetime.fromtimestamp(moment // 1000, timezone.utc)
     return f'{seconds:%Y-%m-%dT%H:%M:%S}.{moment % 1000:03d}Z'
+
+
+def totals_of(ends):
+    """How many transactions ended in each way, and the slowest answer."""
+    delays = [delay for _, _, delay in ends if delay is not None]
+    counts = {name: sum(end == name for _, end, _ in ends) for name in ENDS}
+    return {'transactions': len(ends)} | counts | {'slowest': max(delays, default=None)}
+
+
+def in_words(totals):
+    slowest = '-' if totals['slowest'] is None else f"{totals['slowest']}ms"
+    return ' '.join(f'{name}={totals[name]}' for name in ('transactions', *ENDS)) + f' slowest={slowest}'
 
 
 def moment_of(moment):
@@ -201,7 +216,7 @@ def ends_of(key):
 
 
 def counts(sent):
-    return f'times={sent.times}' + (f' more-segments={sent.more}' if sent.more else '')
+    return (f' times={sent.times}' if sent.times != 1 else '') + (f' more-segments={sent.more}' if sent.more else '')
 
 
 @dataclass
@@ -209,18 +224,21 @@ class Selection:
     """The filters, and --fail."""
 
     unanswered: bool = False
+    errors: bool = False
     repeated: bool = False
     findings: bool = False
     slower: int | None = None
     peer: str | None = None
     fail: bool = False
+    strict_ids: bool = False
 
     def words(self):
-        flags = [f'--{name}' for name in ('unanswered', 'repeated', 'findings', 'fail') if getattr(self, name)]
+        names = ('unanswered', 'errors', 'repeated', 'findings', 'fail', 'strict_ids')
+        flags = ['--' + name.replace('_', '-') for name in names if getattr(self, name)]
         return flags + [word for name in ('slower', 'peer') if getattr(self, name) is not None for word in (f'--{name}', str(getattr(self, name)))]
 
     def is_narrow(self):
-        return self.unanswered or self.repeated or self.findings or self.slower is not None or self.peer is not None
+        return self.unanswered or self.errors or self.repeated or self.findings or self.slower is not None or self.peer is not None
 
     def has_peer(self, key):
         ends = [end.split('/')[0] for end in key[:2]]
@@ -231,38 +249,56 @@ class Selection:
         if not self.has_peer(key):
             return False
         if it is None:
-            return not self.unanswered and not self.repeated and self.slower is None
+            return not self.unanswered and not self.errors and not self.repeated and self.slower is None
         slow = self.slower is None or it.is_unanswered() or it.delay() > self.slower
         again = it.is_repeated() or not self.repeated
-        return slow and again and (it.is_unanswered() or not self.unanswered) and (it.findings > 0 or not self.findings)
+        refused = it.ending() in ('error', 'rejected', 'aborted') or not self.errors
+        return slow and again and refused and (it.is_unanswered() or not self.unanswered) and (it.findings > 0 or not self.findings)
 
 
 @dataclass
 class Watch:
-    """The open transactions, in the order of their beginning, and what is to be printed."""
+    """The open transactions, in the order of their beginning, and what is to be printed: lines, where a transaction is printed once it is over, and objects, where it
+    is printed when it is closed."""
 
     selection: Selection = field(default_factory=Selection)
     open: dict = field(default_factory=dict)
     lines: list = field(default_factory=list)
     objects: list = field(default_factory=list)
-    ends: dict = field(default_factory=lambda: {'answered': 0, 'rejected': 0, 'aborted': 0, 'unanswered': 0})
+    ends: list = field(default_factory=list)
     findings: int = 0
     frames: int = 0
     unread: int = 0
-    slowest: int | None = None
     shown: int = 0
+    shown_lines: int = 0
     wrong: int = 0
+    wrong_lines: int = 0
 
     def close(self, key):
         it = self.open.pop(key)
-        if self.selection.passes(key, it):
-            self.lines += [f'transaction {key[0]} > {key[1]} id {key[2]}', *it.lines()]
+        passes = self.selection.passes(key, it)
+        wrong = it.is_unanswered() or it.findings > 0
+        if passes and not it.told:
+            self.lines += it.lines(key)
+        if passes:
             self.objects.append(it.members() | ends_of(key))
-            self.shown += 1
-            self.wrong += it.is_unanswered() or it.findings > 0
-        if it.answer:
-            self.slowest = max(self.slowest or 0, it.delay())
-        self.ends[it.ending()] += 1
+        self.shown += passes
+        self.wrong += passes and wrong
+        self.shown_lines += passes or it.told
+        self.wrong_lines += (passes or it.told) and wrong
+        self.ends.append((key[1], {'error': 'errors'}.get(it.ending(), it.ending()), it.delay() if it.answer else None))
+
+    def tell(self, seen):
+        """A transaction is printed once it is over, if it passes then."""
+        it = self.awaited(seen)
+        if it and not it.told and it.is_over() and self.selection.passes(seen.key, it):
+            it.told = True
+            self.lines += it.lines(seen.key)
+
+    def totals(self):
+        """How the transactions ended: of all servers, and of each."""
+        servers = list(dict.fromkeys(server for server, _, _ in self.ends))[:MOST_DEVICES]
+        return totals_of(self.ends), {server: totals_of([end for end in self.ends if end[0] == server]) for server in servers}
 
     def awaited(self, seen):
         """The transaction for which answers are looked for: so long after the last copy of its request."""
@@ -275,7 +311,8 @@ class Watch:
         where = it.request.place(seen.apdu) if it else 'other'
         if where != 'other':
             return it.requested(seen.moment, where, seen.apdu)
-        finding = (CONFUSED if it.would_answer(seen.apdu) else REUSED) if it else missing(seen.apdu)
+        reused = None if it and it.is_over() and not self.selection.strict_ids else CONFUSED if it and it.would_answer(seen.apdu) else REUSED
+        finding = reused if it else missing(seen.apdu)
         if seen.key in self.open:
             self.close(seen.key)
         elif len(self.open) >= OPEN_LIMIT:
@@ -319,6 +356,9 @@ class Watch:
             it.wrongs += [finding] if finding else []
         if finding:
             self.find(seen, finding)
+        elif it and it.told and seen.apdu.role() in ('asks', 'answers'):
+            self.lines.append(f'frame {seen.number}: again, {seen.key[0]} > {seen.key[1]} id {seen.key[2]}')
+        self.tell(seen)
 
     def find(self, seen, finding):
         """What is wrong with a frame is of its transaction, if there is one."""
@@ -328,6 +368,7 @@ class Watch:
             it.findings += 1
         if self.selection.passes(seen.key, it):
             self.wrong += it is None
+            self.wrong_lines += it is None
             self.lines.append(f'frame {seen.number}: {finding}, {seen.key[0]} > {seen.key[1]} id {seen.key[2]}')
             self.objects.append({'kind': 'finding', 'frame': seen.number, 'finding': finding} | moment_of(seen.moment) | ends_of(seen.key))
 
@@ -341,13 +382,15 @@ class Watch:
     def end(self):
         for key in list(self.open):
             self.close(key)
-        ends = ' '.join(f'{name}={number}' for name, number in self.ends.items())
-        slowest = '-' if self.slowest is None else self.slowest
+        totals, devices = self.totals()
+        if len(devices) > 1:
+            self.lines += [f'{server} {in_words(of)}' for server, of in devices.items()]
         if self.selection.is_narrow():
-            self.lines.append(f'shown={self.shown} of {sum(self.ends.values())}')
-        self.lines.append(f'transactions={sum(self.ends.values())} {ends} slowest={slowest} findings={self.findings} frames={self.frames} unread={self.unread}')
-        self.objects.append(self.ends | {'kind': 'summary', 'transactions': sum(self.ends.values()), 'shown': self.shown, 'slowest': self.slowest,
-                                         'findings': self.findings, 'frames': self.frames, 'unread': self.unread})
+            self.lines.append(f'shown={self.shown_lines} of {len(self.ends)}')
+        self.lines.append(f'{in_words(totals)} findings={self.findings} frames={self.frames} unread={self.unread}')
+        self.objects.append(totals | {'kind': 'summary', 'shown': self.shown, 'findings': self.findings, 'frames': self.frames, 'unread': self.unread,
+                                      'devices': [of | {'server': server} for server, of in devices.items()]})
 
-    def status(self):
-        return 1 if self.unread or (self.wrong if self.selection.fail else self.findings) else 0
+    def status(self, of_lines=True):
+        wrong = self.wrong_lines if of_lines else self.wrong
+        return 1 if self.unread or (wrong if self.selection.fail else self.findings) else 0

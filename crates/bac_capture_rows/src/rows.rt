@@ -3,7 +3,7 @@ use crate::printing::{
     CHART, MERMAID, MERMAID_PAIRS, MERMAID_VALUES, PAIRS, Print, VALUES, print_end_of_chart,
     print_octets, print_seen,
 };
-use crate::selected::{ALL, options_of};
+use crate::selected::{ALL, closed, options_of};
 use crate::words::first;
 use crate::{failing, frames, transactions, worlds};
 use std::alloc::Global;
@@ -81,11 +81,21 @@ fn play_lines(alloc: Global, kind: Kind, lines: &str, out: &mut Vec<u8>) -> Opti
         }
         Kind::SelectedJson => {
             let (options, lines) = lines.split_once('\n')?;
-            print_seen(alloc, Print::ExplainJson(options_of(options)?), lines, out)
+            print_seen(
+                alloc,
+                Print::ExplainJson(closed(options_of(options)?)),
+                lines,
+                out,
+            )
         }
         Kind::SelectedHtml => {
             let (options, lines) = lines.split_once('\n')?;
-            print_seen(alloc, Print::ExplainHtml(options_of(options)?), lines, out)
+            print_seen(
+                alloc,
+                Print::ExplainHtml(closed(options_of(options)?)),
+                lines,
+                out,
+            )
         }
         Kind::File(print) => print_octets(alloc, print, lines, out),
         Kind::End => print_end_of_chart(alloc, lines, out),

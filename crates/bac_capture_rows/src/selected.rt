@@ -1,4 +1,4 @@
-//! The line of options of a row: `unanswered`, `repeated`, `findings`, `slower MS`, `peer HOST` or `peer HOST:PORT`, where HOST is the number of a host, `fail` and `frames`.
+//! The line of options of a row: `unanswered`, `errors`, `repeated`, `findings`, `slower MS`, `peer HOST` or `peer HOST:PORT`, where HOST is the number of a host, `fail`, `frames` and `strict-ids`.
 use crate::words::{first, number};
 use bac_explain_report::{PeerFilter, ReportOptions, Selection};
 
@@ -7,7 +7,18 @@ pub(crate) const ALL: ReportOptions = ReportOptions {
     selection: Selection::ALL,
     strict: false,
     frames: false,
+    strict_ids: false,
+    early: true,
+    flush: false,
 };
+
+/// The same; each transaction is printed when it is closed.
+pub(crate) fn closed(options: ReportOptions) -> ReportOptions {
+    ReportOptions {
+        early: false,
+        ..options
+    }
+}
 
 /// The address of the host of a number, and a port or any.
 fn filter_of(word: &str) -> Option<PeerFilter> {
@@ -24,6 +35,10 @@ fn with_flag(selection: Selection, name: &str) -> Option<Selection> {
     match name {
         "unanswered" => Some(Selection {
             unanswered: true,
+            ..selection
+        }),
+        "errors" => Some(Selection {
+            errors: true,
             ..selection
         }),
         "repeated" => Some(Selection {
@@ -65,11 +80,11 @@ fn with_filter<'a>(
     }
 }
 
-/// The options of a line: at most seven.
+/// The options of a line: at most nine.
 pub(crate) fn options_of(line: &str) -> Option<ReportOptions> {
     let mut options = ALL;
     let mut rest = line;
-    for _ in 0..7 {
+    for _ in 0..9 {
         let (name, more) = first(rest);
         match name {
             "" => return Some(options),
@@ -79,6 +94,10 @@ pub(crate) fn options_of(line: &str) -> Option<ReportOptions> {
             }
             "frames" => {
                 options.frames = true;
+                rest = more;
+            }
+            "strict-ids" => {
+                options.strict_ids = true;
                 rest = more;
             }
             _ => {

@@ -16,7 +16,7 @@ fn hear(alloc: Global, explainer: &mut Explainer, seen: &Seen, out: &mut Vec<u8>
     let Some(it) = read_sighting(seen.from, seen.to, &seen.datagram) else {
         return print_finding(None, out);
     };
-    match explainer.hear(alloc, seen.moment, it.key, it.role, it.octets) {
+    match explainer.hear(alloc, seen.moment, it, true) {
         Ok(heard) => print_finding(heard.finding, out),
         Err(_) => None,
     }

@@ -1,3 +1,5 @@
 pub mod Tasks
 pub mod Outputs
 pub mod ShownForms
+pub mod Complaints
+pub mod Endings

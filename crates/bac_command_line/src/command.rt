@@ -4,8 +4,14 @@ ghost use Rattle.bac_serving.specs.Forgetting.{OnForgotten};
 ghost use Rattle.bac_serving.specs.Keeping.{OnDatabase};
 ghost use Rattle.bac_serving.specs.Listing.{OnListed};
 ghost use Rattle.bac_environment.specs.Sockets.{OnClock, OnPort};
+ghost use Rattle.std.specs.Prelude.{◌≡◌, ⊤, MatchBool, OnErr, OnOk};
+ghost use Rattle.bac_text.specs.Statuses.{IsFailure};
+ghost use Rattle.bac_command_line.specs.Endings.{EndsAs};
+ghost use Rattle.bac_command_line.specs.Outputs.{begun_in};
+ghost use Rattle.bac_command_line.specs.ShownForms.{form_of as form_in};
 ghost use Rattle.bac_command_line.specs.Tasks.{ForgetsAsAsked, IsAtEnd, IsPerformed, ListsAsAsked};
 
+use crate::complaints::form_of_complaints;
 use crate::machine::Machine;
 use crate::output::Output;
 use crate::reasons::print_no_task;
@@ -18,7 +24,6 @@ use bac_environment::Environment;
 use bac_points::do_with_points;
 use bac_reading::{decode, print_report, simulate};
 use bac_serving::{RegularFiles, answer, forget_kept, list_kept, serve, serve_kept, serve_looking};
-use bac_shown::Form;
 use bac_text::{Status, no_memory, output_failed};
 use bac_words::{Telling, matches};
 use clap::ArgMatches;
@@ -75,18 +80,22 @@ fn perform<F: RegularFiles, M: Machine, O: Write, E: Write>(
         Task::Files { task, work } => do_with_files(environment, &task, work, out, err),
         Task::Points(task) => do_with_points(environment, &task, out, err),
         Task::Pair => pair(alloc, environment.machine, out, err),
-        Task::Tell(telling) => tell(environment.machine, telling, out, err),
+        Task::Tell(telling) => tell(alloc, environment.machine, telling, out, err),
     }
 }
 
 /// Whether it was told that standard output cannot be written, or that memory is out.
-fn has_failed(status: Status) -> bool {
+fn has_failed(status: Status) -> bool
+    ensures { MatchBool result (IsFailure status) ⊤ }
+{
     matches!(status, Status::Output | Status::Memory)
 }
 
 /// The status of a task whose last octets could be written, or not.
 fn status_at_end<E: Write>(status: Status, ended: io::Result<()>, err: &mut E) -> Status
-    ensures { IsAtEnd status result }
+    ensures kept { OnOk ended (result ≡ status) }
+    ensures told { OnErr ended (IsFailure result) }
+    ensures end { IsAtEnd status result }
 {
     match ended {
         // what the status tells already is not told again
@@ -95,16 +104,24 @@ fn status_at_end<E: Write>(status: Status, ended: io::Result<()>, err: &mut E) -
     }
 }
 
-/// Does what was asked for. What it prints is shown in the form of the task.
+/// Does what was asked for. What it prints is shown in the form of the task, and flushed at its end: a full disk is told, whether the task flushes or not.
+#[tactic(auto, using(crate::proofs::Endings::ends_as))]
 fn perform_shown<F: RegularFiles, M: Machine, O: Write, E: Write>(
     environment: &Environment<'_, F, M>,
     task: Task<'_, '_>,
     out: &mut O,
     err: &mut E,
-) -> Status {
+) -> Status
+    ensures { EndsAs (IsPerformed (OnFile F.is_file F.File.remaining) (OnPort M.is_bound M.Link.failures M.Link.calls) (OnClock M.is_made M.Timer.told)
+        (OnDatabase M.is_database M.Database.view M.Database.recovers) task.entry) (begun_in (form_in task.entry) (O.contents out.old)) result }
+{
     let mut shown = Output::new(environment.alloc, form_of(&task), out);
     let status = perform(environment, task, &mut shown, err);
-    let (_, ended) = shown.finish();
+    let (below, ended) = shown.finish();
+    let ended = match ended {
+        Ok(()) => below.flush(),
+        failed => failed,
+    };
     status_at_end(status, ended, err)
 }
 
@@ -116,30 +133,10 @@ fn asks_version(words: &[String]) -> bool {
     }
 }
 
-/// What clap makes of the words of a command line.
-type Parsed<'a> = Result<ArgMatches<'a>, clap::Error>;
-
-/// Whether a command draws its progress on a terminal, by control characters of its own.
-fn draws_progress(command: &str) -> bool {
-    command == "ask" || command == "backup" || command == "restore"
-}
-
-/// How complaints are shown: the log of a server has objects of JSON where they are wanted. As they come where progress is drawn between them.
-fn form_of_complaints(parsed: &Parsed<'_>, is_terminal: bool) -> Option<Form> {
-    let Ok(matches) = parsed else {
-        return Some(Form::Text);
-    };
-    match matches.subcommand() {
-        Some((command, _)) if is_terminal && draws_progress(command) => None,
-        Some(("serve", given)) if given.get_flag("json") => Some(Form::Json),
-        _ => Some(Form::Text),
-    }
-}
-
 /// Does what parsed words ask for.
 fn run_parsed<F: RegularFiles, M: Machine, O: Write, E: Write>(
     environment: &Environment<'_, F, M>,
-    parsed: Parsed<'_>,
+    parsed: Result<ArgMatches<'_>, clap::Error>,
     out: &mut O,
     err: &mut E,
 ) -> Status {

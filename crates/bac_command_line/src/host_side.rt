@@ -1,6 +1,7 @@
 //! What the links and the log of a server ask of the host.
 
 use crate::lasting::Beside;
+use crate::since_boot::{SINCE_BOOT, SinceBoot};
 use bac_driver::{Clock, MonotonicClock};
 use mio::unix::SourceFd;
 use mio::{Events, Interest, Poll, Token};
@@ -48,7 +49,7 @@ pub(crate) fn has_room(runtime: &HostRuntime) -> bool {
 #[derive(Drop)]
 pub struct HostSide<'a> {
     runtime: &'a HostRuntime,
-    clock: MonotonicClock<'a, HostRuntime>,
+    clock: MonotonicClock<'static, SinceBoot>,
 }
 
 impl<'a> HostSide<'a> {
@@ -56,7 +57,7 @@ impl<'a> HostSide<'a> {
     pub(crate) fn new(runtime: &'a HostRuntime) -> io::Result<HostSide<'a>> {
         Ok(HostSide {
             runtime,
-            clock: MonotonicClock::new(runtime)?,
+            clock: MonotonicClock::new(SINCE_BOOT)?,
         })
     }
 }

@@ -8,6 +8,9 @@ pub trait Machine: ClientSockets + Databases + StandardInput + StandardError {
     /// Whether standard error is a terminal, which shows the progress of an ask.
     fn shows_progress(&self) -> bool;
 
+    /// Whether standard output is a terminal.
+    fn is_screen(&self) -> bool;
+
     /// What is known of how the program was built.
     fn built(&self) -> Option<String>;
 }

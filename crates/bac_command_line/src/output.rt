@@ -1,5 +1,6 @@
 //! Standard output and standard error of a command line.
-ghost use Rattle.bac_command_line.specs.Outputs.{output_contents};
+ghost use Rattle.std.specs.Prelude.{◌≡◌};
+ghost use Rattle.bac_command_line.specs.Outputs.{begun_in, output_contents};
 
 use bac_shown::{Form, Shown};
 use std::alloc::Global;
@@ -14,7 +15,9 @@ pub(crate) enum Output<W: Write> {
 
 impl<W: Write> Output<W> {
     /// In this form; octets where there is none.
-    pub(crate) fn new(alloc: Global, form: Option<Form>, out: W) -> Output<W> {
+    pub(crate) fn new(alloc: Global, form: Option<Form>, out: W) -> Output<W>
+        ensures { output_contents W.contents result ≡ begun_in form (W.contents out) }
+    {
         match form {
             Some(form) => Output::Text(Shown::new(alloc, form, out)),
             None => Output::Octets(out),

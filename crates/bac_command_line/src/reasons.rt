@@ -7,6 +7,7 @@ use bac_forms::FORM_NAMES;
 use bac_guard::SourcesFault;
 use bac_lists::{EVERY_HOST, is_of_node, read_end, read_host, read_link, read_route};
 use bac_points::{bad_timeout, print_bad_timeout};
+use bac_reading::{MOST_SLOWER, read_slower};
 use bac_serving::{bad_peers, read_memory, remembers_in_vain};
 use bac_text::{Status, complain};
 use clap::ArgMatches;
@@ -63,6 +64,29 @@ fn bad_peer<'a>(given: &ArgMatches<'a>) -> Option<(&'a str, &'static str)> {
         Some(_) => None,
         None => Some((peer, "A.B.C.D or A.B.C.D:P")),
     }
+}
+
+/// The text behind `--slower` that is no time.
+fn bad_slower<'a>(given: &ArgMatches<'a>) -> Option<&'a str> {
+    let text = given.get_str("slower")?;
+    match read_slower(text) {
+        Some(_) => None,
+        None => Some(text),
+    }
+}
+
+/// Complains of a text that is no time, as clap does of other arguments.
+fn print_bad_slower<E: Write>(text: &str, err: &mut E) -> Status
+    ensures { result ≡ status.CommandLine }
+{
+    // if that fails too, only the status is left
+    let _ = write!(err, "error: invalid value '{text}' for '--slower <TIME>': ");
+    let _ = match text.parse::<u64>() {
+        Ok(number) => write!(err, "{number} is not in 1..={MOST_SLOWER}"),
+        Err(_) => write!(err, "expected a time such as 300ms, 2s, 1m or 300"),
+    };
+    let _ = err.write_all(b"\n\nFor more information, try '--help'.\n");
+    Status::CommandLine
 }
 
 /// Complains of a text that is no address: `bad address`, and which and what is wanted.
@@ -132,7 +156,10 @@ pub(crate) fn print_no_task<E: Write>(matches: &ArgMatches<'_>, err: &mut E) -> 
 {
     match matches.subcommand() {
         Some(("decode", given)) => print_bad_form(given.get_str("form"), err),
-        Some(("explain", given)) => print_bad_address(bad_peer(given), err),
+        Some(("explain", given)) => match bad_slower(given) {
+            Some(text) => print_bad_slower(text, err),
+            None => print_bad_address(bad_peer(given), err),
+        },
         Some(("serve", given)) => print_no_serving(given, err),
         Some(("ask", given)) => match bad_pace(given) {
             Some(text) => {

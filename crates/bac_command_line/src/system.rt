@@ -13,6 +13,7 @@ use crate::host_side::{HostSide, INPUT, has_room, is_ready};
 use crate::lasting::Lasting;
 use crate::machine::Machine;
 use crate::replacing::{make_private, put_out, remove_empty, rename, replace};
+use crate::since_boot::{SINCE_BOOT, SinceBoot};
 use bac_asking::{ClientSockets, NoPair};
 use bac_driver::{MonotonicClock, UdpLink};
 use bac_environment::{OpenFiles, Sockets};
@@ -52,16 +53,18 @@ const CLOCK_START: u64 = 0;
 pub struct System<'a, R> {
     runtime: &'a R,
     shows_progress: bool,
+    is_screen: bool,
     /// The key of this host, once it was read.
     key: Cell<Option<PairKey>>,
 }
 
 impl<'a, R> System<'a, R> {
-    /// The system of a runtime, whose standard error shows the progress of asks, where it is a terminal.
-    pub fn new(runtime: &'a R, shows_progress: bool) -> System<'a, R> {
+    /// The system of a runtime, whose standard error shows the progress of asks where it is a terminal, and whose standard output is one or is not.
+    pub fn new(runtime: &'a R, shows_progress: bool, is_screen: bool) -> System<'a, R> {
         System {
             runtime,
             shows_progress,
+            is_screen,
             key: Cell::new(None),
         }
     }
@@ -183,9 +186,9 @@ impl RegularFiles for System<'_, HostRuntime> {
 }
 
 impl<'a> Sockets for System<'a, HostRuntime> {
-    type Link = Guarded<Lasting<UdpLink, HostSide<'a>>, MonotonicClock<'a, HostRuntime>>;
+    type Link = Guarded<Lasting<UdpLink, HostSide<'a>>, MonotonicClock<'static, SinceBoot>>;
 
-    type Timer = MonotonicClock<'a, HostRuntime>;
+    type Timer = MonotonicClock<'static, SinceBoot>;
 
     ghost is_bound = { λ host port l address. (bound_host (link_below l).link ≡ host) × (bound_port (link_below l).link ≡ port) × (udp_address (link_below l).link ≡ address) };
 
@@ -196,7 +199,7 @@ impl<'a> Sockets for System<'a, HostRuntime> {
         ensures guarded { IfOk result (λ b. IsGuardedBy 0 guard.now b.0) }
     {
         let key = random_key(self.runtime)?;
-        let clock = MonotonicClock::new(self.runtime)?;
+        let clock = MonotonicClock::new(SINCE_BOOT)?;
         let beside = HostSide::new(self.runtime)?;
         let link = UdpLink::bind_at(self.runtime, host, port)?;
         let address = link.address();
@@ -207,8 +210,8 @@ impl<'a> Sockets for System<'a, HostRuntime> {
         }
     }
 
-    fn timer(&self) -> Option<MonotonicClock<'a, HostRuntime>> {
-        MonotonicClock::new(self.runtime).ok()
+    fn timer(&self) -> Option<MonotonicClock<'static, SinceBoot>> {
+        MonotonicClock::new(SINCE_BOOT).ok()
     }
 
     fn time_of_day(&self) -> Option<u64> {
@@ -314,6 +317,10 @@ impl StandardError for System<'_, HostRuntime> {
 impl Machine for System<'_, HostRuntime> {
     fn shows_progress(&self) -> bool {
         self.shows_progress
+    }
+
+    fn is_screen(&self) -> bool {
+        self.is_screen
     }
 
     fn built(&self) -> Option<String> {

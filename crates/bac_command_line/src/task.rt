@@ -10,7 +10,7 @@ use bac_points::{PointTask, point_task_of};
 use bac_reading::{CaptureFile, Decoding, Report, ScriptFile, check_of, decoding_of, report_of};
 use bac_serving::{Forgetting, ListForm, Serving, serving_of};
 use bac_simulate::View;
-use bac_words::Telling;
+use bac_words::{Shell, Telling};
 use clap::ArgMatches;
 
 /// What a command line asks for.
@@ -129,7 +129,9 @@ impl<'m, 'a> Task<'m, 'a> {
                 task: task.from_source(machine),
                 work,
             },
-            Task::Points(task) => Task::Points(task.from_source(machine)),
+            Task::Points(task) => {
+                Task::Points(task.shown_on(machine.is_screen()).from_source(machine))
+            }
             task => task,
         }
     }
@@ -241,9 +243,13 @@ pub(crate) fn task_of<'m, 'a>(
         }
         ("pair", _) => Some(Task::Pair),
         ("help", given) if given.get_flag("man") => Some(Task::Tell(Telling::Manual)),
+        ("help", given) if given.get_flag("all") => Some(Task::Tell(Telling::All)),
         ("help", given) => Some(Task::Tell(Telling::Help(given.get_str("COMMAND")))),
         ("version", _) => Some(Task::Tell(Telling::Version)),
-        ("completion", _) => Some(Task::Tell(Telling::Completion)),
+        ("completion", given) => {
+            let shell = Shell::named(given.get_str("SHELL"))?;
+            Some(Task::Tell(Telling::Completion(shell)))
+        }
         _ => None,
     }
 }

@@ -9,6 +9,7 @@ mod open_files;
 mod reasons;
 mod sockets;
 mod station;
+mod times;
 
 pub use digits::{Digits, no_digit, print_bad_digit};
 pub use environment::Environment;
@@ -17,3 +18,4 @@ pub use open_files::{OpenFiles, octets_of, opened};
 pub use reasons::{print_bad_name, print_no_link};
 pub use sockets::Sockets;
 pub use station::Station;
+pub use times::read_time;

@@ -13,7 +13,7 @@ use Rattle.bac_explain.specs.declared.table.TheConstants.{OPEN_LIMIT}
 use Rattle.bac_explain.specs.Keys.{Key, same_key}
 use Rattle.bac_explain.specs.Sent.{is_other, place_of}
 use Rattle.bac_explain.specs.Transactions.{TransactionView, first_finding, first_request, is_live, is_awaited, requested, reuse_finding}
-use Rattle.bac_explain.specs.Transactions.{answered, acknowledged, given_up, noted, traced}
+use Rattle.bac_explain.specs.Transactions.{answered, acknowledged, given_up, noted, traced, with_told}
 
 abbrev pub Transactions : Type 0
 Transactions = List (Slot Key TransactionView)
@@ -93,15 +93,20 @@ begins_in key now t finding room =
 abbrev pub begins : Key → ℕ → TransactionView → Option Finding → Transactions → Heard
 begins key now t finding slots = begins_in key now t finding (room_for key slots)
 
+-- what is wrong with another request that has the key of a transaction, if there is one
+abbrev pub reuse_in : (strict_ids : Bool) → List ℕ → Option TransactionView → Option Finding
+reuse_in strict_ids octets None = None
+reuse_in strict_ids octets (Some t) = reuse_finding strict_ids octets t
+
 -- a request in this relation to that of the live transaction with its key: another one begins a transaction, which uses the invoke ID again
-abbrev pub request_at : Place → ℕ → Key → Option ℕ → List ℕ → TransactionView → Transactions → Heard
-request_at place now key number octets t slots =
-    if is_other place then begins key now (first_request now number octets true) (Some (reuse_finding octets t)) slots else
+abbrev pub request_at : (strict_ids : Bool) → Place → ℕ → Key → Option ℕ → List ℕ → TransactionView → Transactions → Heard
+request_at strict_ids place now key number octets t slots =
+    if is_other place then begins key now (first_request now number octets true) (reuse_finding strict_ids octets t) slots else
     goes_on key slots (requested now place number octets t)
 
-abbrev pub request_heard : ℕ → Key → Option ℕ → List ℕ → Option TransactionView → Transactions → Heard
-request_heard now key number octets None slots = begins key now (first_request now number octets false) (first_finding number) slots
-request_heard now key number octets (Some t) slots = request_at (place_of t.request number octets) now key number octets t slots
+abbrev pub request_heard : (strict_ids : Bool) → ℕ → Key → Option ℕ → List ℕ → Option TransactionView → Transactions → Heard
+request_heard strict_ids now key number octets None slots = begins key now (first_request now number octets false) (first_finding number) slots
+request_heard strict_ids now key number octets (Some t) slots = request_at strict_ids (place_of t.request number octets) now key number octets t slots
 
 abbrev pub answer_heard : ℕ → Key → Option ℕ → List ℕ → Option TransactionView → Transactions → Heard
 answer_heard now key number octets None slots = unheard (Some AnswerToNoRequest) slots
@@ -116,11 +121,11 @@ giving_up_heard key None slots = unheard None slots
 giving_up_heard key (Some t) slots = goes_on key slots (given_up t, None)
 
 -- an APDU with this role in the transaction with a key is seen
-abbrev pub heard : ℕ → Key → Role → List ℕ → Transactions → Heard
-heard now key (Request number) octets slots = request_heard now key number octets (live now key slots) slots
-heard now key (Answer number) octets slots = answer_heard now key number octets (awaited now key slots) slots
-heard now key (Acknowledgement taken) octets slots = acknowledgement_heard key taken (awaited now key slots) slots
-heard now key GivesUp octets slots = giving_up_heard key (awaited now key slots) slots
+abbrev pub heard : (strict_ids : Bool) → ℕ → Key → Role → List ℕ → Transactions → Heard
+heard strict_ids now key (Request number) octets slots = request_heard strict_ids now key number octets (live now key slots) slots
+heard strict_ids now key (Answer number) octets slots = answer_heard now key number octets (awaited now key slots) slots
+heard strict_ids now key (Acknowledgement taken) octets slots = acknowledgement_heard key taken (awaited now key slots) slots
+heard strict_ids now key GivesUp octets slots = giving_up_heard key (awaited now key slots) slots
 
 -- ---- a frame
 
@@ -131,3 +136,11 @@ traced_in key step (Some t) slots = with_value same_key key (traced step t) slot
 
 abbrev pub with_step : ℕ → Key → Step → Transactions → Transactions
 with_step now key step slots = traced_in key step (awaited now key slots) slots
+
+-- it is told
+abbrev pub told_in : Key → Option TransactionView → Transactions → Transactions
+told_in key None slots = slots
+told_in key (Some t) slots = with_value same_key key (with_told t) slots
+
+abbrev pub with_telling : ℕ → Key → Transactions → Transactions
+with_telling now key slots = told_in key (awaited now key slots) slots

@@ -1,5 +1,5 @@
 -- One transaction as it is seen: the effect of each of its APDUs, and what is wrong with that APDU.
-use Rattle.std.specs.Prelude.{ℕ, ◌+◌, ◌-◌, ◌==◌, ◌&&◌, nat_le, nat_lt, not, Bool, true, false, if◌then◌else◌, List, [], ◌∷◌, ◌++◌, Option, Some, None, is_none, is_some}
+use Rattle.std.specs.Prelude.{ℕ, ◌+◌, ◌-◌, ◌==◌, ◌&&◌, ◌||◌, nat_le, nat_lt, not, Bool, true, false, if◌then◌else◌, List, [], ◌∷◌, ◌++◌, Option, Some, None, is_none, is_some}
 use Rattle.std.specs.Option.{option_map}
 use Rattle.bac_protocol.specs.declared.times.TheConstants.{KEEP, LIFE}
 use Rattle.bac_explain.specs.declared.finding.Finding.{Finding}
@@ -20,8 +20,8 @@ use Rattle.bac_explain.specs.Sent.{SentView, first_sent, counted, place_of, with
 use Rattle.bac_explain.specs.Wholes.{is_server_abort}
 
 -- its request, whether that came soon after another with its key, the first of its replies, whether an Abort of the server was seen within
--- that, how many negative SegmentACKs were seen, whether an Abort of the client was, how many of its APDUs had something wrong, and the frames
--- that are kept of it, in the order in which they were seen
+-- that, how many negative SegmentACKs were seen, whether an Abort of the client was, how many of its APDUs had something wrong, whether it was told
+-- before it is closed, and the frames that are kept of it, in the order in which they were seen
 pub record TransactionView : Type 0 where
   pub request : SentView
   pub reused : Bool
@@ -30,6 +30,7 @@ pub record TransactionView : Type 0 where
   pub naks : ℕ
   pub gave_up : Bool
   pub findings : ℕ
+  pub told : Bool
   pub steps : List Step
 
 abbrev pub first_request : ℕ → Option ℕ → List ℕ → (reused : Bool) → TransactionView
@@ -41,6 +42,7 @@ first_request now number octets reused = record {
   naks = 0;
   gave_up = false;
   findings = 0;
+  told = false;
   steps = [];
 }
 
@@ -60,9 +62,21 @@ is_live now t = nat_le (now - t.request.moment) KEEP
 abbrev pub is_awaited : ℕ → TransactionView → Bool
 is_awaited now t = nat_le (now - t.request.last) KEEP
 
--- another request with its key: a server of this profile would send the stored reply, or Abort 0
-abbrev pub reuse_finding : List ℕ → TransactionView → Finding
-reuse_finding octets t = if keeps_answer (is_some t.answer) (asked_by t.request.octets) (asked_by octets) then InvokeIdConfused else InvokeIdReused
+-- its reply was seen to the end, or an Abort of either end
+abbrev pub is_over_in : (broken_off gave_up : Bool) → Option SentView → Bool
+is_over_in broken_off gave_up None = gave_up
+is_over_in broken_off gave_up (Some s) = s.whole || broken_off || gave_up
+
+abbrev pub is_over : TransactionView → Bool
+is_over t = is_over_in t.broken_off t.gave_up t.answer
+
+-- another request with its key: a server that holds invoke IDs strictly would send the stored reply, or Abort 0
+abbrev pub confusion : List ℕ → TransactionView → Finding
+confusion octets t = if keeps_answer (is_some t.answer) (asked_by t.request.octets) (asked_by octets) then InvokeIdConfused else InvokeIdReused
+
+-- nothing is wrong with it once the transaction is over, unless invoke IDs are held strictly
+abbrev pub reuse_finding : (strict_ids : Bool) → List ℕ → TransactionView → Option Finding
+reuse_finding strict_ids octets t = if is_over t && not strict_ids then None else Some (confusion octets t)
 
 -- segments before the first that is seen were not seen
 abbrev pub first_finding : Option ℕ → Option Finding
@@ -101,11 +115,22 @@ request_finding Back number s = segment_finding Back number s
 request_finding Ahead number s = segment_finding Ahead number s
 request_finding Other number s = None
 
+abbrev pub is_again : Place → Bool
+is_again Again = true
+is_again Next = false
+is_again Back = false
+is_again Ahead = false
+is_again Other = false
+
+-- once the transaction is over, the same request is none too many: its client may use the invoke ID again
+abbrev pub requested_finding : Place → Option ℕ → TransactionView → Option Finding
+requested_finding place number t = if is_again place && is_over t then None else request_finding place number t.request
+
 -- its request is seen again, or another segment of it
 abbrev pub requested : ℕ → Place → Option ℕ → List ℕ → TransactionView → TransactionView × Option Finding
 requested now place number octets t = with_noted (
   record t { request = counted now place number octets t.request; answer = option_map with_asked_again t.answer },
-  request_finding place number t.request,
+  requested_finding place number t,
 )
 
 -- a reply is repeated so late that it was in the network for too long, or the copy of the request that caused it was; segments are
@@ -162,6 +187,10 @@ acknowledged a t = with_noted (nak_counted a.nak (segments_taken a t))
 -- an Abort of the client is seen
 abbrev pub given_up : TransactionView → TransactionView
 given_up t = record t { gave_up = true }
+
+-- it is told
+abbrev pub with_told : TransactionView → TransactionView
+with_told t = record t { told = true }
 
 -- a frame of it is kept
 abbrev pub traced : Step → TransactionView → TransactionView

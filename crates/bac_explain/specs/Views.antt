@@ -21,6 +21,7 @@ transaction_view t = record {
   naks = t.naks;
   gave_up = t.gave_up;
   findings = t.findings;
+  told = t.told;
   steps = t.steps.items;
 }
 

@@ -2,18 +2,20 @@
 ghost use Rattle.std.specs.Prelude.{◌≡◌, [], None, Some, IfOk, OnErr, OnOk, is_some};
 ghost use Rattle.std.specs.Option.{option_map};
 ghost use Rattle.bac_explain.specs.KeyViews.{key_view};
-ghost use Rattle.bac_explain.specs.Tables.{acknowledgement_heard, awaited, begins, giving_up_heard, goes_on, heard, live, oldest_out, over_out, with_step};
+ghost use Rattle.bac_explain.specs.Tables.{acknowledgement_heard, answer_heard, awaited, begins, giving_up_heard, goes_on, heard, live, oldest_out, over_out, reuse_in, with_step, with_telling};
 ghost use Rattle.bac_slots.specs.Slots.{value_at};
 ghost use Rattle.bac_explain.specs.Keys.{same_key};
-ghost use Rattle.bac_explain.specs.Transactions.{TransactionView, requested, reuse_finding};
+ghost use Rattle.bac_explain.specs.Transactions.{TransactionView, requested};
 ghost use Rattle.bac_explain.specs.Sent.{place_of};
 ghost use Rattle.bac_explain.specs.Closings.{IsHeard, closed_view};
 ghost use Rattle.bac_explain.specs.Views.{transaction_view};
+ghost use Rattle.bac_explain.specs.Sightings.{sighting_view};
 
 use crate::finding::Finding;
 use crate::key::TransactionKey;
 use crate::part::{Role, Taken};
 use crate::sent::Place;
+use crate::sighting::Sighting;
 use crate::step::Step;
 use crate::table::{Closed, OPEN_LIMIT, OpenTable, enter, find, take_oldest, take_over};
 use crate::transaction::{Transaction, first_finding};
@@ -114,11 +116,16 @@ impl Explainer {
     }
 
     /// What is wrong with another request that has the key of a transaction.
-    fn reuse_finding(&self, key: &TransactionKey, octets: &[u8]) -> Option<Finding>
-        ensures { result ≡ option_map (reuse_finding octets.now) (value_at same_key (key_view key.now) self.now) }
+    fn reuse_finding(
+        &self,
+        key: &TransactionKey,
+        octets: &[u8],
+        strict_ids: bool,
+    ) -> Option<Finding>
+        ensures { result ≡ reuse_in strict_ids octets.now (value_at same_key (key_view key.now) self.now) }
     {
         let transaction = find(&self.table, key)?;
-        Some(transaction.reuse_finding(octets))
+        transaction.reuse_finding(strict_ids, octets)
     }
 
     /// Adds a transaction whose request is seen for the first time, with what is wrong with that request.
@@ -160,20 +167,22 @@ impl Explainer {
         &mut self,
         alloc: Global,
         now: u64,
-        key: TransactionKey,
+        sighting: Sighting<'_>,
         number: Option<u8>,
-        octets: &[u8],
+        strict_ids: bool,
     ) -> Result<Heard, AllocError>
-        ensures ok { IfOk result (IsHeard (heard now (key_view key) (Role.Request number) octets.now self.old) self.new) }
+        ensures ok { IfOk result (IsHeard (heard strict_ids now (sighting_view sighting.entry).key (Role.Request number) (sighting_view sighting.entry).octets self.old)
+            self.new) }
         ensures err { OnErr result (self.new ≡ self.old) }
     {
+        let (key, octets) = (sighting.key, sighting.octets);
         let Some(place) = self.place(now, &key, number, octets) else {
             let transaction = Transaction::begin(alloc, now, number, octets, false)?;
             return Ok(self.begin(now, key, transaction, first_finding(number)));
         };
         if place.is_other() {
             let transaction = Transaction::begin(alloc, now, number, octets, true)?;
-            let finding = self.reuse_finding(&key, octets);
+            let finding = self.reuse_finding(&key, octets, strict_ids);
             return Ok(self.begin(now, key, transaction, finding));
         }
         Ok(Heard {
@@ -192,7 +201,7 @@ impl Explainer {
         octets: &[u8],
     ) -> Result<Option<Finding>, AllocError>
         ensures ok { IfOk result (λ f. record { slots = self.new; closed = None; finding = f }
-            ≡ heard now (key_view key.now) (Role.Answer number) octets.now self.old) }
+            ≡ answer_heard now (key_view key.now) number octets.now (awaited now (key_view key.now) self.old) self.old) }
         ensures err { OnErr result (self.new ≡ self.old) }
     {
         if !self.is_awaited(now, key) {
@@ -252,22 +261,39 @@ impl Explainer {
         transaction.trace(step)
     }
 
-    /// Handles an APDU of the transaction with this key, seen at a moment in milliseconds. Returns what is wrong with it, and the
-    /// transaction that it closes: an earlier one with this key, if it begins another one, or the oldest, if 16,384 are open. Returns an
+    /// Notes that the transaction with this key is told, if it awaits replies.
+    pub fn tell(&mut self, now: u64, key: &TransactionKey)
+        ensures { self.new ≡ with_telling now (key_view key.now) self.old }
+    {
+        if !self.is_awaited(now, key) {
+            return;
+        }
+        let Some(transaction) = self.table.get_mut(key) else {
+            return;
+        };
+        transaction.tell();
+    }
+
+    /// Handles an APDU of a transaction, seen at a moment in milliseconds. Returns what is wrong with it, and the transaction that it
+    /// closes: an earlier one with this key, if it begins another one, or the oldest, if 16,384 are open. Another request with the
+    /// invoke ID of a transaction that is over has a finding only if invoke IDs are held strictly, for 65,000 ms. Returns an
     /// `Err` only if an allocation fails; nothing has changed then.
     pub fn hear(
         &mut self,
         alloc: Global,
         now: u64,
-        key: TransactionKey,
-        role: Role,
-        octets: &[u8],
+        sighting: Sighting<'_>,
+        strict_ids: bool,
     ) -> Result<Heard, AllocError>
-        ensures ok { IfOk result (IsHeard (heard now (key_view key) role octets.now self.old) self.new) }
+        ensures ok { IfOk result (IsHeard (heard strict_ids now (sighting_view sighting.entry).key (sighting_view sighting.entry).role
+            (sighting_view sighting.entry).octets self.old) self.new) }
         ensures err { OnErr result (self.new ≡ self.old) }
     {
-        let finding = match role {
-            Role::Request(number) => return self.hear_request(alloc, now, key, number, octets),
+        let (key, octets) = (sighting.key, sighting.octets);
+        let finding = match sighting.role {
+            Role::Request(number) => {
+                return self.hear_request(alloc, now, sighting, number, strict_ids);
+            }
             Role::Answer(number) => self.hear_answer(alloc, now, &key, number, octets)?,
             Role::Acknowledgement(taken) => self.hear_acknowledgement(now, &key, taken),
             Role::GivesUp => {

@@ -1,8 +1,8 @@
 //! One transaction, as it was seen.
 ghost use Rattle.std.specs.Prelude.{◌≡◌, ◌-◌, IfOk, OnErr, OnOk, nat_le, Some};
 ghost use Rattle.std.specs.Option.{option_map};
-ghost use Rattle.bac_explain.specs.Transactions.{acknowledged, again_finding, answer_finding, answer_taken, answered, breaks_off, first_finding, first_request, given_up};
-ghost use Rattle.bac_explain.specs.Transactions.{is_awaited, is_live, is_old, nak_counted, noted, other_answer, request_finding, requested, reuse_finding};
+ghost use Rattle.bac_explain.specs.Transactions.{acknowledged, again_finding, answer_finding, answer_taken, answered, breaks_off, confusion, first_finding, first_request, given_up, with_told};
+ghost use Rattle.bac_explain.specs.Transactions.{is_awaited, is_live, is_old, is_over, nak_counted, noted, other_answer, request_finding, requested, requested_finding, reuse_finding};
 ghost use Rattle.bac_explain.specs.Transactions.{segment_finding, segments_taken, traced};
 ghost use Rattle.bac_explain.specs.Views.{transaction_view};
 ghost use Rattle.bac_explain.specs.SentViews.{sent_view};
@@ -36,6 +36,8 @@ pub struct Transaction {
     pub gave_up: bool,
     /// How many of its APDUs had something wrong; the count saturates.
     pub findings: u64,
+    /// Whether it was told: printed before it is closed.
+    pub told: bool,
     /// The frames that are kept of it, in the order in which they were seen.
     pub steps: Vec<Step>,
 }
@@ -137,6 +139,7 @@ impl Transaction {
             naks: 0,
             gave_up: false,
             findings: 0,
+            told: false,
             steps: Vec::new(alloc),
         })
     }
@@ -155,15 +158,35 @@ impl Transaction {
         now.saturating_sub(self.request.last) <= KEEP
     }
 
-    /// What is wrong with another request that has its key.
-    pub(crate) fn reuse_finding(&self, octets: &[u8]) -> Finding
-        ensures { result ≡ reuse_finding octets.now (transaction_view self.now) }
+    /// Whether nothing more has to come: its reply was seen to the end, or an Abort of either end.
+    pub fn is_over(&self) -> bool
+        ensures { result ≡ is_over (transaction_view self.now) }
+    {
+        match &self.answer {
+            Some(answer) => answer.whole || self.broken_off || self.gave_up,
+            None => self.gave_up,
+        }
+    }
+
+    /// Another request that has its key, as a server that keeps replies takes it.
+    fn confusion(&self, octets: &[u8]) -> Finding
+        ensures { result ≡ confusion octets.now (transaction_view self.now) }
     {
         if keeps_answer(&self.request.octets, octets, self.answer.is_some()) {
             Finding::InvokeIdConfused
         } else {
             Finding::InvokeIdReused
         }
+    }
+
+    /// What is wrong with another request that has its key: nothing once it is over, unless invoke IDs are held strictly.
+    pub(crate) fn reuse_finding(&self, strict_ids: bool, octets: &[u8]) -> Option<Finding>
+        ensures { result ≡ reuse_finding strict_ids octets.now (transaction_view self.now) }
+    {
+        if self.is_over() && !strict_ids {
+            return None;
+        }
+        Some(self.confusion(octets))
     }
 
     /// Counts what is wrong with one of its APDUs, if anything.
@@ -173,6 +196,16 @@ impl Transaction {
         if finding.is_some() {
             self.findings = one_more(self.findings);
         }
+    }
+
+    /// What is wrong with a request in this relation to its own: once it is over, the same request is none too many, since its client may use the invoke ID again.
+    fn request_finding(&self, place: Place, number: Option<u8>) -> Option<Finding>
+        ensures { result ≡ requested_finding place number (transaction_view self.now) }
+    {
+        if place == Place::Again && self.is_over() {
+            return None;
+        }
+        request_finding(&self.request, place, number)
     }
 
     /// Its request is seen again, or another segment of it.
@@ -186,7 +219,7 @@ impl Transaction {
         ensures seen { transaction_view self.new ≡ (requested now place number octets.now (transaction_view self.old)).0 }
         ensures finding { result ≡ (requested now place number octets.now (transaction_view self.old)).1 }
     {
-        let finding = request_finding(&self.request, place, number);
+        let finding = self.request_finding(place, number);
         self.request.count(now, place, number, octets);
         if let Some(answer) = &mut self.answer {
             answer.ask_again();
@@ -299,6 +332,13 @@ impl Transaction {
     {
         self.steps.push(step)?;
         Ok(())
+    }
+
+    /// It is told.
+    pub(crate) fn tell(&mut self)
+        ensures { transaction_view self.new ≡ with_told (transaction_view self.old) }
+    {
+        self.told = true;
     }
 
     /// An Abort of the client is seen.

@@ -1,2 +1,3 @@
+pub mod DeviceRows
 pub mod Escaping
 pub mod Told

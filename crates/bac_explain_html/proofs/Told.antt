@@ -16,6 +16,14 @@ pub five_told : (text a b d e f a' b' d' e' f' : List ℕ) → text ≡ a ++ (b 
     → text ≡ a' ++ (b' ++ (d' ++ (e' ++ f')))
 five_told text a b d e f a' b' d' e' f' is pa pb pd pe pf = is ∙ (λ i. pa i ++ (pb i ++ (pd i ++ (pe i ++ pf i))))
 
+pub six_told : (text a b d e f h a' b' d' e' f' h' : List ℕ) → text ≡ a ++ (b ++ (d ++ (e ++ (f ++ h)))) → a ≡ a' → b ≡ b' → d ≡ d' → e ≡ e' → f ≡ f'
+    → h ≡ h' → text ≡ a' ++ (b' ++ (d' ++ (e' ++ (f' ++ h'))))
+six_told text a b d e f h a' b' d' e' f' h' is pa pb pd pe pf ph = is ∙ (λ i. pa i ++ (pb i ++ (pd i ++ (pe i ++ (pf i ++ ph i)))))
+
+pub seven_told : (text a b d e f h k a' b' d' e' f' h' k' : List ℕ) → text ≡ a ++ (b ++ (d ++ (e ++ (f ++ (h ++ k))))) → a ≡ a' → b ≡ b' → d ≡ d' → e ≡ e'
+    → f ≡ f' → h ≡ h' → k ≡ k' → text ≡ a' ++ (b' ++ (d' ++ (e' ++ (f' ++ (h' ++ k')))))
+seven_told text a b d e f h k a' b' d' e' f' h' k' is pa pb pd pe pf ph pk = is ∙ (λ i. pa i ++ (pb i ++ (pd i ++ (pe i ++ (pf i ++ (ph i ++ pk i))))))
+
 pub arrow_told : (asked : ℕ) (s : Step) (text front words end : List ℕ) (after : ℕ) → front ≡ arrow_front s.role → words ≡ role_words s.role
     → end ≡ mark s.finding → after ≡ s.moment - asked
     → text ≡ front ++ (codes "+" ++ (decimal after ++ (codes " ms, frame " ++ (decimal s.frame ++ (codes ": " ++ (words ++ (codes "</text></svg>"

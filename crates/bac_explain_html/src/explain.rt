@@ -11,9 +11,9 @@ use crate::note::{finding_note, unread_note};
 use crate::page::{FRONT, last_part};
 use crate::row::entry;
 use bac_capture::{Ports, report_over};
-use bac_explain::Closed;
+use bac_explain::{Closed, Transaction, TransactionKey};
 use bac_explain_report::{
-    FrameReport, Hearing, ReportForm, ReportOptions, Reporter, Selection, Tally,
+    Device, FrameReport, Hearing, ReportForm, ReportOptions, Reporter, Selection, Tally,
 };
 use bac_text::{CheckError, Status, stopped};
 use bac_value::NoMemory;
@@ -24,7 +24,7 @@ fn optional_entry(alloc: Global, closed: &Option<Closed>) -> Result<Vec<u8>, NoM
     ensures { IfOk result (λ t. IsOptional IsEntry (option_map closed_view closed.now) t.items) }
 {
     match closed {
-        Some(closed) => entry(alloc, closed),
+        Some(closed) => entry(alloc, closed.key, &closed.transaction),
         None => Ok(Vec::new(alloc)),
     }
 }
@@ -62,8 +62,13 @@ impl ReportForm for Page {
         FRONT
     }
 
-    fn transaction_text(&self, alloc: Global, closed: &Closed) -> Result<Vec<u8>, NoMemory> {
-        entry(alloc, closed)
+    fn transaction_text(
+        &self,
+        alloc: Global,
+        key: TransactionKey,
+        transaction: &Transaction,
+    ) -> Result<Vec<u8>, NoMemory> {
+        entry(alloc, key, transaction)
     }
 
     fn frame_text(
@@ -85,8 +90,9 @@ impl ReportForm for Page {
         alloc: Global,
         _selection: Selection,
         tally: Tally,
+        devices: &[Device],
     ) -> Result<Vec<u8>, NoMemory> {
-        Ok(last_part(alloc, tally)?.into_bytes())
+        Ok(last_part(alloc, tally, devices)?)
     }
 }
 

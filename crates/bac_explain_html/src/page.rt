@@ -1,9 +1,10 @@
 //! What stands around the rows: the front of the page, and its end with the counts.
-ghost use Rattle.std.specs.Prelude.{◌≡◌, IfOk, codes, decimal, string_bytes};
-ghost use Rattle.bac_explain_html.specs.Pages.{count, endings, last_part, others};
-ghost use Rattle.bac_explain_report.specs.Explained.{slowest_text};
+ghost use Rattle.std.specs.Prelude.{◌≡◌, IfOk, codes, decimal, map, string_bytes};
+ghost use Rattle.bac_explain_html.specs.Pages.{count, device_cells, device_row, device_rows, endings, last_part, others, section, slowest_text, number_cell};
+ghost use Rattle.bac_explain_report.specs.DeviceViews.{device_view};
 
-use bac_explain_report::Tally;
+use bac_explain_report::{Device, Tally, Totals};
+use bac_text::peer_text;
 use std::alloc::{AllocError, Global};
 
 /// The front of the page, up to the rows.
@@ -22,19 +23,26 @@ section div { padding: 6px 12px; background: #fff; border: 1px solid #d7dce2; bo
 form { order: -1; display: flex; flex-wrap: wrap; gap: 8px 16px; align-items: center; margin-bottom: 12px; }
 form input[type=search] { flex: 1 1 220px; max-width: 420px; padding: 6px 10px; font: inherit; border: 1px solid #b6bec8; border-radius: 6px; }
 .w { overflow-x: auto; background: #fff; border: 1px solid #d7dce2; border-radius: 6px; }
-table { width: 100%; border-collapse: collapse; }
-th, td { padding: 6px 10px; text-align: left; vertical-align: top; }
-th { white-space: nowrap; background: #eceff3; }
+table { width: 100%; table-layout: fixed; border-collapse: collapse; font-size: 13px; }
+th, td { padding: 6px; text-align: left; vertical-align: top; overflow-wrap: anywhere; }
+th { background: #eceff3; }
+.d { order: -2; max-height: 40vh; overflow: auto; margin-bottom: 12px; background: #fff; border: 1px solid #d7dce2; border-radius: 6px; }
+.d th:first-child { width: 23%; }
+.w th { width: 14%; }
+.w th:nth-child(3), .w th:nth-child(7) { width: 6%; }
+.w th:nth-child(4) { width: 18%; }
+.w th:nth-child(5) { width: 15%; }
+.w th:nth-child(6) { width: 10%; }
+.w th:nth-child(8) { width: 5%; }
+.w th:nth-child(9) { width: 12%; }
 th button { padding: 0; font: inherit; font-weight: 600; color: inherit; background: none; border: 0; cursor: pointer; }
 th[aria-sort=ascending] button::after { content: ' \\25B2'; }
 th[aria-sort=descending] button::after { content: ' \\25BC'; }
 tbody { border-top: 1px solid #d7dce2; }
-td:nth-child(4), td:nth-child(5) { overflow-wrap: anywhere; min-width: 10em; }
 td.n { text-align: right; font-variant-numeric: tabular-nums; }
-tbody.t tr:first-child td:nth-child(-n+3), td.answered, td.unanswered, td.aborted, td.rejected { white-space: nowrap; }
 td.f, .m { color: #a40e26; }
 .m { max-width: 640px; padding: 0 60px; font-size: 13px; text-align: center; }
-td.unanswered, td.aborted, td.rejected { color: #a40e26; font-weight: 600; }
+td.unanswered, td.error, td.aborted, td.rejected { color: #a40e26; font-weight: 600; }
 tr.p td { padding-top: 0; }
 summary { cursor: pointer; color: #49525e; }
 svg { display: block; width: 100%; max-width: 640px; }
@@ -45,12 +53,13 @@ svg .l { stroke: #b6bec8; fill: none; }
 svg .a { stroke: #1f5fbf; stroke-width: 1.5; fill: none; }
 @media (max-width: 700px) {
   body { padding: 10px; }
-  thead { display: none; }
-  table, tbody, tr, td { display: block; }
-  tbody { padding: 8px 0; }
-  td, td.n { padding: 2px 10px; text-align: left; }
-  td:empty { display: none; }
-  tbody.t tr:first-child td { position: relative; padding-left: 104px; white-space: normal; overflow-wrap: anywhere; }
+  .d table { min-width: 640px; }
+  .w thead { display: none; }
+  .w table, .w tbody, .w tr, .w td { display: block; }
+  .w tbody { padding: 8px 0; }
+  .w td, .w td.n { padding: 2px 10px; text-align: left; }
+  .w td:empty { display: none; }
+  tbody.t tr:first-child td { position: relative; padding-left: 104px; }
   tbody.t tr:first-child td::before { position: absolute; left: 10px; color: #6a737d; font-weight: 400; }
   tbody.t tr:first-child td:nth-child(1)::before { content: 'client'; }
   tbody.t tr:first-child td:nth-child(2)::before { content: 'server'; }
@@ -74,6 +83,11 @@ svg .a { stroke: #1f5fbf; stroke-width: 1.5; fill: none; }
 </form>
 <div class=\"w\"><table>
 <thead><tr><th>client</th><th>server</th><th>invoke ID</th><th>request</th><th>answer</th><th>end</th><th>after ms</th><th>times</th><th>findings</th></tr></thead>
+";
+
+/// What stands above the rows of servers.
+pub(crate) const DEVICES: &str = "<div class=\"d\"><table>
+<thead><tr><th>device</th><th>transactions</th><th>answered</th><th>errors</th><th>rejected</th><th>aborted</th><th>unanswered</th><th>slowest ms</th></tr></thead><tbody>
 ";
 
 /// The end of the page: the script that sorts and filters the rows.
@@ -123,15 +137,16 @@ fn count(alloc: Global, name: &str, value: u64) -> Result<String, AllocError>
 }
 
 /// How many transactions there are, and how they ended.
-fn endings(alloc: Global, tally: Tally) -> Result<String, AllocError>
-    ensures { IfOk result (λ t. string_bytes t ≡ endings tally) }
+fn endings(alloc: Global, totals: Totals) -> Result<String, AllocError>
+    ensures { IfOk result (λ t. string_bytes t ≡ endings totals) }
 {
-    let all = count(alloc, "transactions", tally.transactions)?;
-    let answered = count(alloc, "answered", tally.answered)?;
-    let rejected = count(alloc, "rejected", tally.rejected)?;
-    let aborted = count(alloc, "aborted", tally.aborted)?;
-    let unanswered = count(alloc, "unanswered", tally.unanswered)?;
-    format!(in alloc; "{all}{answered}{rejected}{aborted}{unanswered}")
+    let all = count(alloc, "transactions", totals.transactions)?;
+    let answered = count(alloc, "answered", totals.answered)?;
+    let errors = count(alloc, "errors", totals.errors)?;
+    let rejected = count(alloc, "rejected", totals.rejected)?;
+    let aborted = count(alloc, "aborted", totals.aborted)?;
+    let unanswered = count(alloc, "unanswered", totals.unanswered)?;
+    format!(in alloc; "{all}{answered}{errors}{rejected}{aborted}{unanswered}")
 }
 
 /// The delay of the slowest answer; `-` if there is none.
@@ -148,7 +163,7 @@ fn slowest(alloc: Global, slowest: Option<u64>) -> Result<String, AllocError>
 fn others(alloc: Global, tally: Tally) -> Result<String, AllocError>
     ensures { IfOk result (λ t. string_bytes t ≡ others tally) }
 {
-    let slowest = slowest(alloc, tally.slowest)?;
+    let slowest = slowest(alloc, tally.totals.slowest)?;
     let findings = count(alloc, "findings", tally.findings)?;
     let frames = count(alloc, "frames", tally.frames)?;
     let unread = count(alloc, "unread", tally.unread)?;
@@ -156,12 +171,80 @@ fn others(alloc: Global, tally: Tally) -> Result<String, AllocError>
     format!(in alloc; "{slowest}{findings}{frames}{unread}{shown}")
 }
 
-/// The end of the page, with the counts.
-pub(crate) fn last_part(alloc: Global, tally: Tally) -> Result<String, AllocError>
-    ensures { IfOk result (λ t. string_bytes t ≡ last_part tally) }
+/// The cell of a count.
+fn count_cell(alloc: Global, value: u64) -> Result<String, AllocError>
+    ensures { IfOk result (λ t. string_bytes t ≡ number_cell (decimal value)) }
 {
-    let endings = endings(alloc, tally)?;
+    format!(in alloc; "<td class=\"n\">{value}</td>")
+}
+
+/// The cell of the delay of the slowest answer; `-` if there is none.
+fn slowest_cell(alloc: Global, slowest: Option<u64>) -> Result<String, AllocError>
+    ensures { IfOk result (λ t. string_bytes t ≡ number_cell (slowest_text slowest)) }
+{
+    match slowest {
+        Some(slowest) => count_cell(alloc, slowest),
+        None => String::from_str(alloc, "<td class=\"n\">-</td>"),
+    }
+}
+
+/// The cells of how the transactions of a server ended.
+fn device_cells(alloc: Global, totals: Totals) -> Result<String, AllocError>
+    ensures { IfOk result (λ t. string_bytes t ≡ device_cells totals) }
+{
+    let all = count_cell(alloc, totals.transactions)?;
+    let answered = count_cell(alloc, totals.answered)?;
+    let errors = count_cell(alloc, totals.errors)?;
+    let rejected = count_cell(alloc, totals.rejected)?;
+    let aborted = count_cell(alloc, totals.aborted)?;
+    let unanswered = count_cell(alloc, totals.unanswered)?;
+    let slowest = slowest_cell(alloc, totals.slowest)?;
+    format!(in alloc; "{all}{answered}{errors}{rejected}{aborted}{unanswered}{slowest}")
+}
+
+/// The row of a server.
+fn device_row(alloc: Global, device: Device) -> Result<String, AllocError>
+    ensures { IfOk result (λ t. string_bytes t ≡ device_row (device_view device)) }
+{
+    let server = peer_text(alloc, device.server)?;
+    let cells = device_cells(alloc, device.totals)?;
+    format!(in alloc; "<tr><td>{server}</td>{cells}</tr>\n")
+}
+
+/// The rows of servers.
+fn device_rows(alloc: Global, devices: &[Device]) -> Result<Vec<u8>, AllocError>
+    ensures { IfOk result (λ t. t.items ≡ device_rows (map device_view devices.now)) }
+{
+    let mut text = Vec::new(alloc);
+    for device in devices {
+        let row = device_row(alloc, *device)?;
+        text.extend_from_slice(row.as_bytes())?;
+    }
+    Ok(text)
+}
+
+/// The counts of all transactions.
+fn section(alloc: Global, tally: Tally) -> Result<String, AllocError>
+    ensures { IfOk result (λ t. string_bytes t ≡ section tally) }
+{
+    let endings = endings(alloc, tally.totals)?;
     let others = others(alloc, tally)?;
-    let back = BACK;
-    format!(in alloc; "</table></div>\n<section>{endings}{others}</section>\n{back}")
+    format!(in alloc; "</table></div>\n<section>{endings}{others}</section>\n")
+}
+
+/// The end of the page, with the counts.
+pub(crate) fn last_part(
+    alloc: Global,
+    tally: Tally,
+    devices: &[Device],
+) -> Result<Vec<u8>, AllocError>
+    ensures { IfOk result (λ t. t.items ≡ last_part tally (map device_view devices.now)) }
+{
+    let rows = device_rows(alloc, devices)?;
+    let mut text = section(alloc, tally)?.into_bytes();
+    text.extend_from_slice(DEVICES.as_bytes())?;
+    text.extend_from_slice(&rows)?;
+    text.extend_from_slice(b"</tbody></table></div>\n")?;
+    text.extend_from_slice(BACK.as_bytes())?;
+    Ok(text)
 }

@@ -1,7 +1,7 @@
 //! The row of a transaction.
 ghost use Rattle.std.specs.Prelude.{◌≡◌, IfOk, string_bytes};
 ghost use Rattle.std.specs.Option.{option_map};
-ghost use Rattle.bac_explain.specs.Closings.{closed_view};
+ghost use Rattle.bac_explain.specs.Closings.{told_view};
 ghost use Rattle.bac_explain.specs.KeyViews.{key_view};
 ghost use Rattle.bac_explain.specs.SentViews.{sent_view};
 ghost use Rattle.bac_explain.specs.Views.{transaction_view};
@@ -9,7 +9,7 @@ ghost use Rattle.bac_explain_html.specs.Rows.{AreWordCells, IsAnswerCell, IsAske
 
 use crate::escape::cell;
 use crate::picture::picture;
-use bac_explain::{Closed, Finding, Sent, Step, Transaction, TransactionKey};
+use bac_explain::{Finding, Sent, Step, Transaction, TransactionKey};
 use bac_explain_report::{asked_words, delay_of, ending_of, is_unanswered, told_words};
 use bac_text::peer_text;
 use bac_value::NoMemory;
@@ -122,21 +122,19 @@ fn entry_front(transaction: &Transaction) -> &'static str
 }
 
 /// The row of a transaction, and one with its picture.
-pub(crate) fn entry(alloc: Global, closed: &Closed) -> Result<Vec<u8>, NoMemory>
-    ensures { IfOk result (λ t. IsEntry (closed_view closed.now) t.items) }
+pub(crate) fn entry(
+    alloc: Global,
+    key: TransactionKey,
+    transaction: &Transaction,
+) -> Result<Vec<u8>, NoMemory>
+    ensures { IfOk result (λ t. IsEntry (told_view key transaction.now) t.items) }
 {
-    let transaction = &closed.transaction;
-    let key = key_cells(alloc, closed.key)?;
+    let cells = key_cells(alloc, key)?;
     let words = word_cells(alloc, transaction)?;
     let end = row_end(alloc, transaction)?;
-    let picture = picture(
-        alloc,
-        closed.key,
-        transaction.request.moment,
-        &transaction.steps,
-    )?;
+    let picture = picture(alloc, key, transaction.request.moment, &transaction.steps)?;
     let mut text = Vec::from_slice(alloc, entry_front(transaction).as_bytes())?;
-    text.extend_from_slice(key.as_bytes())?;
+    text.extend_from_slice(cells.as_bytes())?;
     text.extend_from_slice(&words)?;
     text.extend_from_slice(&end)?;
     text.extend_from_slice(b"</tr><tr class=\"p\"><td colspan=\"9\">")?;

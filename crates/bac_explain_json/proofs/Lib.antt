@@ -1,1 +1,2 @@
+pub mod DeviceForms
 pub mod Told

@@ -6,6 +6,7 @@ use Rattle.bac_explain.specs.Texts.{finding_text}
 use Rattle.bac_explain.specs.declared.finding.Finding.{Finding}
 use Rattle.bac_explain_report.specs.Accounts.{FrameReportView, HearingView}
 use Rattle.bac_explain_report.specs.Accounts.FrameReportView.{NothingReported, UnreadReported, HeardReported}
+use Rattle.bac_explain_report.specs.Devices.{DeviceView}
 use Rattle.bac_explain_report.specs.Reported as report
 use Rattle.bac_explain_report.specs.Rest.{IsOptional}
 use Rattle.bac_explain_report.specs.Unread.{unread_text}
@@ -20,6 +21,7 @@ use Rattle.bac_text.specs.Peers.{peer_text}
 use Rattle.bac_text.specs.declared.status.Status.{Status}
 use Rattle.serde_json.specs.Data.{Data, member, no_members, number, object, string, unsigned}
 use Rattle.bac_explain_json.specs.Objects.{IsObject}
+use Rattle.bac_explain_json.specs.Summaries.{summary_form}
 
 -- ---- a frame, by its number, with its moment in milliseconds and as text, where the file has one
 
@@ -70,17 +72,8 @@ IsFrameLine frame moment (HeardReported h) text = IsHearing frame moment h text
 
 -- ---- at the end
 
-abbrev pub summary_form : Tally → Data
-summary_form t =
-    object (member (codes "aborted") (number (unsigned t.aborted)) (member (codes "answered") (number (unsigned t.answered))
-    (member (codes "findings") (number (unsigned t.findings)) (member (codes "frames") (number (unsigned t.frames))
-    (member (codes "kind") (string (codes "summary")) (member (codes "rejected") (number (unsigned t.rejected))
-    (member (codes "shown") (number (unsigned t.shown)) (member (codes "slowest") (optional_number t.slowest)
-    (member (codes "transactions") (number (unsigned t.transactions)) (member (codes "unanswered") (number (unsigned t.unanswered))
-    (member (codes "unread") (number (unsigned t.unread)) no_members)))))))))))
-
-abbrev pub IsSummaryLine : Selection → Tally → (text : List ℕ) → Type 0
-IsSummaryLine s t text = IsLineOf (λ d. d ≡ summary_form t) text
+abbrev pub IsSummaryLine : Selection → Tally → List DeviceView → (text : List ℕ) → Type 0
+IsSummaryLine s t devices text = IsLineOf (λ d. d ≡ summary_form t devices) text
 
 -- ---- a file: the records, their order and the status are those of the plain lines
 

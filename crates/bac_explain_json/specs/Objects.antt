@@ -1,8 +1,6 @@
 -- The object of a transaction: each member is there in each, null where there is nothing to say.
-use Rattle.std.specs.Prelude.{◌≡◌, ℕ, ◌-◌, ◌&&◌, Bool, true, false, List, codes, Option, Some, None, Result, Ok, Err, if◌then◌else◌}
-use Rattle.bac_apdu.specs.Apdu.{Apdu, Error}
+use Rattle.std.specs.Prelude.{◌≡◌, ℕ, ◌-◌, List, codes, Option, Some, None}
 use Rattle.bac_apdu.specs.Reading.{apdu_at}
-use Rattle.bac_apdu.specs.declared.fault.ApduFault.{ApduFault}
 use Rattle.bac_explain.specs.Keys.{Key}
 use Rattle.bac_explain.specs.Sent.{SentView}
 use Rattle.bac_explain.specs.Tables.{ClosedView}
@@ -95,19 +93,6 @@ AreAnsweredIn asked (Some s) m = AreAnswered (s.moment - asked) s m
 
 -- ---- how it ended
 
-abbrev pub is_error : Result Apdu ApduFault → Bool
-is_error (Ok (Error id choice class code)) = true
-is_error _ = false
-
--- a whole answer that is an Error
-abbrev pub has_error : Option SentView → Bool
-has_error None = false
-has_error (Some s) = s.whole && is_error (apdu_at s.octets)
-
--- as the summary counts it, but that an Error has a word of its own
-abbrev pub status_word : TransactionView → List ℕ
-status_word t = if has_error t.answer then codes "error" else ending_name (ending_of t)
-
 pub record EndMembers : Type 0 where
   pub findings : Data
   pub frames : Data
@@ -122,7 +107,7 @@ end_members t = record {
   frames = frames_form t.steps;
   given_up = boolean t.gave_up;
   negative_acks = number (unsigned t.naks);
-  status = string (status_word t);
+  status = string (ending_name (ending_of t));
   unanswered = boolean (is_unanswered t);
 }
 

@@ -10,9 +10,9 @@ use crate::findings::{finding_line, unread_line};
 use crate::summary::summary_line;
 use crate::transaction::transaction_line;
 use bac_capture::{Ports, report_over};
-use bac_explain::Closed;
+use bac_explain::{Closed, Transaction, TransactionKey};
 use bac_explain_report::{
-    FrameReport, Hearing, ReportForm, ReportOptions, Reporter, Selection, Tally,
+    Device, FrameReport, Hearing, ReportForm, ReportOptions, Reporter, Selection, Tally,
 };
 use bac_text::{CheckError, Status, stopped};
 use bac_value::NoMemory;
@@ -23,7 +23,7 @@ fn optional_line(alloc: Global, closed: &Option<Closed>) -> Result<Vec<u8>, NoMe
     ensures { IfOk result (λ t. IsOptional IsTransactionLine (option_map closed_view closed.now) t.items) }
 {
     match closed {
-        Some(closed) => transaction_line(alloc, closed),
+        Some(closed) => transaction_line(alloc, closed.key, &closed.transaction),
         None => Ok(Vec::new(alloc)),
     }
 }
@@ -64,8 +64,13 @@ impl ReportForm for JsonLines {
         ""
     }
 
-    fn transaction_text(&self, alloc: Global, closed: &Closed) -> Result<Vec<u8>, NoMemory> {
-        transaction_line(alloc, closed)
+    fn transaction_text(
+        &self,
+        alloc: Global,
+        key: TransactionKey,
+        transaction: &Transaction,
+    ) -> Result<Vec<u8>, NoMemory> {
+        transaction_line(alloc, key, transaction)
     }
 
     fn frame_text(
@@ -87,13 +92,15 @@ impl ReportForm for JsonLines {
         alloc: Global,
         _selection: Selection,
         tally: Tally,
+        devices: &[Device],
     ) -> Result<Vec<u8>, NoMemory> {
-        Ok(summary_line(alloc, tally)?)
+        Ok(summary_line(alloc, tally, devices)?)
     }
 }
 
 /// Explains a file of pcap or pcapng as `explain_over` of bac_explain_report does: prints an object on a line for each record of its lines, at the same place:
-/// a transaction, what is wrong with a frame, a frame that cannot be read, and at the end the counts.
+/// a transaction, what is wrong with a frame, a frame that cannot be read, and at the end the counts, also those of each server. A transaction that is printed
+/// early, and what follows of it, has no object of its own.
 ///
 /// The statuses and the messages on `err` are those of `explain_over`.
 pub fn explain_json_over<R: BufRead, O: Write, E: Write>(

@@ -1,15 +1,14 @@
 //! The object of a transaction.
 ghost use Rattle.std.specs.Prelude.{◌≡◌, ◌-◌, IfOk};
 ghost use Rattle.std.specs.Option.{option_map};
-ghost use Rattle.bac_apdu.specs.Reading.{apdu_at};
-ghost use Rattle.bac_explain.specs.Closings.{closed_view};
+ghost use Rattle.bac_explain.specs.Closings.{told_view};
 ghost use Rattle.bac_explain.specs.KeyViews.{key_view};
 ghost use Rattle.bac_explain.specs.SentViews.{sent_view};
 ghost use Rattle.bac_explain.specs.Views.{transaction_view};
 ghost use Rattle.bac_explain_json.specs.Lines.{IsTransactionLine};
 ghost use Rattle.bac_explain_json.specs.Lists.{findings_form, frames_form};
 ghost use Rattle.bac_explain_json.specs.Members.{answered_view, asked_view, end_view, peers_view};
-ghost use Rattle.bac_explain_json.specs.Objects.{AreAnswered, AreAnsweredIn, AreAsked, IsObject, end_members, has_error, is_error, no_answer, peer_members, status_word};
+ghost use Rattle.bac_explain_json.specs.Objects.{AreAnswered, AreAnsweredIn, AreAsked, IsObject, end_members, no_answer, peer_members};
 ghost use Rattle.bac_explain_json.specs.Objects.{transaction_object};
 ghost use Rattle.serde_json.specs.Data.{string};
 ghost use Rattle.serde_json.specs.View.{view};
@@ -17,8 +16,7 @@ ghost use Rattle.serde_json.specs.View.{view};
 use crate::carried::{answer_json, asked_json};
 use crate::findings::{findings_json, frames_json, peer_json};
 use crate::members::{AnsweredMembers, AskedMembers, EndMembers, PeerMembers};
-use bac_apdu::{Apdu, read};
-use bac_explain::{Closed, Sent, Transaction, TransactionKey};
+use bac_explain::{Sent, Transaction, TransactionKey};
 use bac_explain_report::{asked_words, ending_of, is_unanswered, told_words};
 use bac_json::{Members, text_json};
 use bac_json_report::{json_line, time_or_null};
@@ -100,42 +98,12 @@ fn answer_members(
     }
 }
 
-/// Whether an APDU is an Error.
-fn is_error(octets: &[u8]) -> bool
-    ensures { result ≡ is_error (apdu_at octets.now) }
-{
-    match read(octets) {
-        Ok(Apdu::Error { .. }) => true,
-        _ => false,
-    }
-}
-
-fn has_error(answer: &Option<Sent>) -> bool
-    ensures { result ≡ has_error (option_map sent_view answer.now) }
-{
-    match answer {
-        Some(answer) => answer.whole && is_error(&answer.octets),
-        None => false,
-    }
-}
-
-/// How a transaction ended.
-fn status_word(transaction: &Transaction) -> &'static str
-    ensures { result.now ≡ status_word (transaction_view transaction.now) }
-{
-    if has_error(&transaction.answer) {
-        "error"
-    } else {
-        ending_of(transaction).name()
-    }
-}
-
 fn end_members(alloc: Global, transaction: &Transaction) -> Result<EndMembers, AllocError>
     ensures { IfOk result (λ m. end_view m ≡ end_members (transaction_view transaction.now)) }
 {
     let findings = findings_json(alloc, &transaction.steps)?;
     let frames = frames_json(alloc, &transaction.steps)?;
-    let status = Json::try_from_str(alloc, status_word(transaction))?;
+    let status = Json::try_from_str(alloc, ending_of(transaction).name())?;
     Ok(EndMembers {
         findings,
         frames,
@@ -160,21 +128,28 @@ fn transaction_object(
 }
 
 #[tactic(auto, using(crate::proofs::Told::object_told))]
-fn transaction_json(alloc: Global, closed: &Closed) -> Result<Json, NoMemory>
-    ensures { IfOk result (λ v. IsObject (closed_view closed.now) (view v)) }
+fn transaction_json(
+    alloc: Global,
+    key: TransactionKey,
+    transaction: &Transaction,
+) -> Result<Json, NoMemory>
+    ensures { IfOk result (λ v. IsObject (told_view key transaction.now) (view v)) }
 {
-    let transaction = &closed.transaction;
     let asked = asked_members(alloc, &transaction.request)?;
     let answered = answer_members(alloc, transaction.request.moment, &transaction.answer)?;
-    let peers = peer_members(alloc, closed.key)?;
+    let peers = peer_members(alloc, key)?;
     let end = end_members(alloc, transaction)?;
     Ok(transaction_object(alloc, peers, asked, answered, end)?)
 }
 
 /// A transaction as an object on a line.
-pub(crate) fn transaction_line(alloc: Global, closed: &Closed) -> Result<Vec<u8>, NoMemory>
-    ensures { IfOk result (λ t. IsTransactionLine (closed_view closed.now) t.items) }
+pub(crate) fn transaction_line(
+    alloc: Global,
+    key: TransactionKey,
+    transaction: &Transaction,
+) -> Result<Vec<u8>, NoMemory>
+    ensures { IfOk result (λ t. IsTransactionLine (told_view key transaction.now) t.items) }
 {
-    let json = transaction_json(alloc, closed)?;
+    let json = transaction_json(alloc, key, transaction)?;
     Ok(json_line(alloc, &json)?)
 }

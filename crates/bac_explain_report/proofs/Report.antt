@@ -8,13 +8,13 @@ use Rattle.bac_explain_report.specs.Accounts.{Account}
 use Rattle.bac_explain_report.specs.Reported.{Closing, EndsFile}
 use Rattle.bac_explain_report.specs.Rest.{ArePrinted, Printing}
 use Rattle.bac_explain_report.specs.Tallies.{status_of}
-use Rattle.bac_explain_report.specs.declared.tally.Tally.{Tally}
+use Rattle.bac_explain_report.specs.Counting.{Sums}
 
-pub ended : (IsOne : Printing) (AreLast : Closing) (a b c : Option (List ℕ)) (account : Account) (final : Tally) (s : Status)
-    → ArePrinted IsOne account final a b → AppendsText b c (AreLast account.options.selection final) → s ≡ status_of account.options.strict final
+pub ended : (IsOne : Printing) (AreLast : Closing) (a b c : Option (List ℕ)) (account : Account) (final : Sums) (s : Status)
+    → ArePrinted IsOne account final a b → AppendsText b c (AreLast account.options.selection final.tally final.devices) → s ≡ status_of account.options.strict final.tally
     → IsEnding Account (EndsFile IsOne AreLast) account a c s
 ended IsOne AreLast a b c account final s told last is = record {
   text = told.text ++ last.0;
-  ends = record { rest = told.text; tally = final; are = told.are; last = last.0; are_last = last.1.0; told = refl; is = is };
+  ends = record { rest = told.text; sums = final; are = told.are; last = last.0; are_last = last.1.0; told = refl; is = is };
   printed = Appends-trans a b c _ _ told.printed last.1.1;
 }

@@ -4,37 +4,52 @@ use Rattle.bac_explain.specs.Keys.{Key}
 use Rattle.bac_explain.specs.Sent.{SentView}
 use Rattle.bac_explain.specs.Tables.{ClosedView}
 use Rattle.bac_explain.specs.Transactions.{TransactionView}
+use Rattle.bac_moment.specs.Times.{IsTextOf}
 use Rattle.bac_explain_report.specs.AnswerWords as answer
-use Rattle.bac_explain_report.specs.Endings.{answer_ending, ending_name}
-use Rattle.bac_explain_report.specs.FramesLines.{IsFramesLine}
+use Rattle.bac_explain_report.specs.Endings.{answer_ending, reply_name}
+use Rattle.bac_explain_report.specs.FramesLines.{frames_line}
 use Rattle.bac_explain_report.specs.Keys.{key_text}
 use Rattle.bac_explain_report.specs.RequestWords as request
 
-abbrev pub head_text : Key → List ℕ
-head_text k = codes "transaction " ++ (key_text k ++ codes "\n")
+-- how often the first APDU was seen, if more than once, and how many further segments, if any
+abbrev pub times_text : ℕ → List ℕ
+times_text times = if times == 1 then [] else codes " times=" ++ decimal times
 
--- how often the first APDU was seen, and how many further segments
+abbrev pub more_text : ℕ → List ℕ
+more_text segments = if segments == 0 then [] else codes " more-segments=" ++ decimal segments
+
 abbrev pub counts_text : SentView → List ℕ
-counts_text s =
-    if s.segments == 0 then codes "times=" ++ decimal s.times else
-    codes "times=" ++ (decimal s.times ++ (codes " more-segments=" ++ decimal s.segments))
+counts_text s = times_text s.times ++ more_text s.segments
 
-abbrev pub asked_front : SentView → List ℕ
-asked_front s = codes "  asked at=" ++ (decimal s.moment ++ (codes " " ++ (counts_text s ++ codes " ")))
+-- a moment beyond the year 9999 has no text
+abbrev pub time_word : Option (List ℕ) → List ℕ
+time_word None = codes "-"
+time_word (Some time) = time
 
--- the request: its moment, how often it was seen, and what it asks for
-pub record IsAskedLine (s : SentView) (text : List ℕ) : Type 0 where
+abbrev pub key_part : Key → SentView → List ℕ
+key_part k s = codes " " ++ (key_text k ++ (counts_text s ++ codes " "))
+
+-- when the request was first seen, its transaction, and how often it was seen
+pub record IsAskedFront (k : Key) (s : SentView) (text : List ℕ) : Type 0 where
+  pub time : Option (List ℕ)
+  pub is_time : IsTextOf (Some s.moment) time
+  pub is : text ≡ time_word time ++ key_part k s
+
+-- so, and what it asks for
+pub record IsAskedLine (k : Key) (s : SentView) (text : List ℕ) : Type 0 where
+  pub front : List ℕ
+  pub is_front : IsAskedFront k s front
   pub words : List ℕ
   pub are : request.AreOctetsWords s.octets words
-  pub is : text ≡ (asked_front s ++ words) ++ (10 ∷ [])
+  pub is : text ≡ (front ++ words) ++ (10 ∷ [])
 
 -- whether the reply is whole, or only its beginning was seen
 abbrev pub answer_name : SentView → List ℕ
-answer_name s = if s.whole then ending_name (answer_ending s.octets) else codes "began"
+answer_name s = if s.whole then reply_name (answer_ending s.octets) else codes "began"
 
 abbrev pub answered_front : (asked : ℕ) → SentView → List ℕ
 answered_front asked s =
-    codes "  " ++ (answer_name s ++ (codes " after=" ++ (decimal (s.moment - asked) ++ (codes " " ++ (counts_text s ++ codes " ")))))
+    codes "  " ++ (answer_name s ++ (codes " after=" ++ (decimal (s.moment - asked) ++ (codes "ms" ++ (counts_text s ++ codes " ")))))
 
 -- the reply: its delay in milliseconds, how often it was seen, and what it says
 pub record IsAnsweredLine (asked : ℕ) (s : SentView) (text : List ℕ) : Type 0 where
@@ -71,9 +86,9 @@ tail_text t = naks_text t.naks ++ end_text t
 pub record IsBlockFront (c : ClosedView) (text : List ℕ) : Type 0 where
   pub asked : List ℕ
   pub answer : List ℕ
-  pub is_asked : IsAskedLine c.transaction.request asked
+  pub is_asked : IsAskedLine c.key c.transaction.request asked
   pub is_answer : IsAnswerLine c.transaction answer
-  pub is : text ≡ (head_text c.key ++ asked) ++ answer
+  pub is : text ≡ asked ++ answer
 
 pub record IsBlock (c : ClosedView) (text : List ℕ) : Type 0 where
   pub front : List ℕ
@@ -83,7 +98,5 @@ pub record IsBlock (c : ClosedView) (text : List ℕ) : Type 0 where
 -- with the frames below the answer
 pub record IsFramedBlock (c : ClosedView) (text : List ℕ) : Type 0 where
   pub front : List ℕ
-  pub frames : List ℕ
   pub is_front : IsBlockFront c front
-  pub are_frames : IsFramesLine c.transaction frames
-  pub is : text ≡ (front ++ frames) ++ tail_text c.transaction
+  pub is : text ≡ (front ++ frames_line c.transaction.steps) ++ tail_text c.transaction

@@ -1,21 +1,30 @@
 -- The endings of transactions, as far as they were seen.
-use Rattle.std.specs.Prelude.{ℕ, ◌-◌, Bool, true, not, ◌||◌, List, codes, Option, Some, None, Result, Ok, Err, if◌then◌else◌}
-use Rattle.bac_apdu.specs.Apdu.{Apdu, Reject, Abort}
+use Rattle.std.specs.Prelude.{ℕ, ◌-◌, Bool, true, false, not, ◌||◌, List, codes, Option, Some, None, Result, Ok, Err, if◌then◌else◌}
+use Rattle.bac_apdu.specs.Apdu.{Apdu, Error, Reject, Abort}
 use Rattle.bac_apdu.specs.Reading.{apdu_at}
 use Rattle.bac_apdu.specs.declared.fault.ApduFault.{ApduFault}
 use Rattle.bac_explain.specs.Sent.{SentView}
 use Rattle.bac_explain.specs.Transactions.{TransactionView}
 use Rattle.bac_explain_report.specs.declared.ending.Ending.{Ending}
-use Rattle.bac_explain_report.specs.declared.ending.Ending.TheVariants.{Answered, Rejected, Aborted, Unanswered}
+use Rattle.bac_explain_report.specs.declared.ending.Ending.TheVariants.{Answered, Failed, Rejected, Aborted, Unanswered}
 
 abbrev pub ending_name : Ending → List ℕ
 ending_name Answered = codes "answered"
+ending_name Failed = codes "error"
 ending_name Rejected = codes "rejected"
 ending_name Aborted = codes "aborted"
 ending_name Unanswered = codes "unanswered"
 
--- an Error is a reply too
+-- the first word of the line of a reply: that of an Error says so itself
+abbrev pub reply_name : Ending → List ℕ
+reply_name Answered = ending_name Answered
+reply_name Failed = ending_name Answered
+reply_name Rejected = ending_name Rejected
+reply_name Aborted = ending_name Aborted
+reply_name Unanswered = ending_name Unanswered
+
 abbrev pub apdu_ending : Apdu → Ending
+apdu_ending (Error invoke_id choice class code) = Failed
 apdu_ending (Reject invoke_id reason) = Rejected
 apdu_ending (Abort server invoke_id reason) = Aborted
 apdu_ending _ = Answered
@@ -41,6 +50,17 @@ ending_in broken_off gave_up (Some s) = seen_ending broken_off gave_up s
 
 abbrev pub ending_of : TransactionView → Ending
 ending_of t = ending_in t.broken_off t.gave_up t.answer
+
+-- by an Error, a Reject or an Abort
+abbrev pub is_refusal : Ending → Bool
+is_refusal Answered = false
+is_refusal Failed = true
+is_refusal Rejected = true
+is_refusal Aborted = true
+is_refusal Unanswered = false
+
+abbrev pub is_refused : TransactionView → Bool
+is_refused t = is_refusal (ending_of t)
 
 -- the end of no answer was seen, nor an Abort of the server within one; the client may have given up
 abbrev pub is_unanswered_in : (broken_off : Bool) → Option SentView → Bool

@@ -1,5 +1,5 @@
 -- The text for a frame.
-use Rattle.std.specs.Prelude.{◌≡◌, ℕ, List, [], ◌++◌, codes, decimal, Option, Some, None}
+use Rattle.std.specs.Prelude.{◌≡◌, ℕ, Bool, List, [], ◌++◌, codes, decimal, Option, Some, None, if◌then◌else◌}
 use Rattle.bac_explain.specs.Keys.{Key}
 use Rattle.bac_explain.specs.Texts.{finding_text}
 use Rattle.bac_explain.specs.declared.finding.Finding.{Finding}
@@ -20,13 +20,17 @@ finding_line number key None = []
 finding_line number key (Some finding) =
     codes "frame " ++ (decimal number ++ (codes ": " ++ (finding_text finding ++ (codes ", " ++ (key_text key ++ codes "\n")))))
 
+-- it comes after its transaction was told
+abbrev pub again_line : ℕ → Key → (again : Bool) → List ℕ
+again_line number key again = if again then codes "frame " ++ (decimal number ++ (codes ": again, " ++ (key_text key ++ codes "\n"))) else []
+
 -- the transactions that close come first, each in a form
 pub record IsHearing (IsOne : Printing) (number : ℕ) (h : HearingView) (text : List ℕ) : Type 0 where
   pub over : List ℕ
   pub closed : List ℕ
   pub is_over : IsOptional IsOne h.over over
   pub is_closed : IsOptional IsOne h.closed closed
-  pub is : text ≡ (over ++ closed) ++ finding_line number h.key h.finding
+  pub is : text ≡ ((over ++ closed) ++ finding_line number h.key h.finding) ++ again_line number h.key h.again
 
 abbrev pub IsFrameReport : Printing → ℕ → FrameReportView → List ℕ → Type 0
 IsFrameReport IsOne number NothingReported text = text ≡ []

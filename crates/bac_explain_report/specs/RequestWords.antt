@@ -3,12 +3,20 @@ use Rattle.std.specs.Prelude.{◌≡◌, ℕ, List, [], Option, Some, None, Resu
 use Rattle.bac_apdu.specs.Apdu.{Segment, Apdu, ConfirmedRequest}
 use Rattle.bac_apdu.specs.Reading.{apdu_at}
 use Rattle.bac_apdu.specs.declared.fault.ApduFault.{ApduFault}
-use Rattle.bac_service_text.specs.ServiceData.{AreRequestDataWords, segments_text}
+use Rattle.bac_service.specs.Services.{request_at}
+use Rattle.bac_service.specs.Values.{Request}
+use Rattle.bac_service_text.specs.Dispatch.{AreRequestWords}
+use Rattle.bac_explain_report.specs.ServiceWords.{segments_words, service_words}
 
--- for a segment only the service choice
+-- service data that are no request of the four services go by the name of the service
+abbrev pub AreFoundWords : (choice : ℕ) → Result Request ℕ → List ℕ → Type 0
+AreFoundWords choice (Ok r) words = AreRequestWords r words
+AreFoundWords choice (Err reason) words = words ≡ service_words choice
+
+-- so does a segment
 abbrev pub ArePartWords : Option Segment → (choice : ℕ) → (service words : List ℕ) → Type 0
-ArePartWords None choice service words = AreRequestDataWords choice service words
-ArePartWords (Some s) choice service words = words ≡ segments_text choice
+ArePartWords None choice service words = AreFoundWords choice (request_at choice service) words
+ArePartWords (Some s) choice service words = words ≡ segments_words choice
 
 -- an APDU that is not a request has no words
 abbrev pub AreAskingWords : Apdu → List ℕ → Type 0

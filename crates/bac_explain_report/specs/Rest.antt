@@ -7,10 +7,9 @@ use Rattle.bac_explain.specs.Tables.{ClosedView, Transactions, closed_of}
 use Rattle.bac_explain.specs.Transactions.{TransactionView}
 use Rattle.bac_explain_report.specs.Accounts.{Account}
 use Rattle.bac_explain_report.specs.Selections.{shown}
-use Rattle.bac_explain_report.specs.Tallies.{with_block}
+use Rattle.bac_explain_report.specs.Counting.{Sums, summed}
 use Rattle.bac_explain_report.specs.declared.selection.ReportOptions.{ReportOptions}
 use Rattle.bac_explain_report.specs.declared.selection.Selection.{Selection}
-use Rattle.bac_explain_report.specs.declared.tally.Tally.{Tally}
 
 -- what is printed of a transaction, in one of the forms
 abbrev pub Printing : Type 1
@@ -33,10 +32,10 @@ pub record IsFirst (IsOne : Printing) (f : Selection) (s : Slot Key TransactionV
   pub are_others : AreOthers others
 
 -- what is printed of those of these transactions that pass, in the order in which they began; the counts change from the first to the second
-abbrev pub AreShown : Printing → Selection → Transactions → Tally → (text : List ℕ) → (final : Tally) → Type 0
-AreShown IsOne f [] tally text final = (text ≡ []) × (final ≡ tally)
-AreShown IsOne f (s ∷ slots) tally text final =
-    IsFirst IsOne f s text (λ others. AreShown IsOne f slots (with_block f (closed_of s) tally) others final)
+abbrev pub AreShown : Printing → Selection → Transactions → Sums → (text : List ℕ) → (final : Sums) → Type 0
+AreShown IsOne f [] sums text final = (text ≡ []) × (final ≡ sums)
+AreShown IsOne f (s ∷ slots) sums text final =
+    IsFirst IsOne f s text (λ others. AreShown IsOne f slots (summed f (closed_of s) sums) others final)
 
 -- ---- one after the other
 
@@ -47,18 +46,18 @@ pub record IsPrinted (IsOne : Printing) (f : Selection) (s : Slot Key Transactio
   pub printed : Appends old new text
 
 -- the next of them was printed, and there may be more; or there was none
-abbrev pub IsStepIn : Printing → ReportOptions → Transactions → Tally → (next : Account) → (old new : Option (List ℕ)) → (more : Bool) → Type 0
-IsStepIn IsOne o [] tally next old new true = ⊥
-IsStepIn IsOne o [] tally next old new false = (next ≡ record { options = o; slots = []; tally = tally }) × (new ≡ old)
-IsStepIn IsOne o (s ∷ slots) tally next old new true =
-    (next ≡ record { options = o; slots = slots; tally = with_block o.selection (closed_of s) tally }) × IsPrinted IsOne o.selection s old new
-IsStepIn IsOne o (s ∷ slots) tally next old new false = ⊥
+abbrev pub IsStepIn : Printing → ReportOptions → Transactions → Sums → (next : Account) → (old new : Option (List ℕ)) → (more : Bool) → Type 0
+IsStepIn IsOne o [] sums next old new true = ⊥
+IsStepIn IsOne o [] sums next old new false = (next ≡ record { options = o; slots = []; sums = sums }) × (new ≡ old)
+IsStepIn IsOne o (s ∷ slots) sums next old new true =
+    (next ≡ record { options = o; slots = slots; sums = summed o.selection (closed_of s) sums }) × IsPrinted IsOne o.selection s old new
+IsStepIn IsOne o (s ∷ slots) sums next old new false = ⊥
 
 abbrev pub IsStep : Printing → (before next : Account) → (old new : Option (List ℕ)) → (more : Bool) → Type 0
-IsStep IsOne before next old new more = IsStepIn IsOne before.options before.slots before.tally next old new more
+IsStep IsOne before next old new more = IsStepIn IsOne before.options before.slots before.sums next old new more
 
 -- all of them that pass were printed
-pub record ArePrinted (IsOne : Printing) (before : Account) (final : Tally) (old new : Option (List ℕ)) : Type 0 where
+pub record ArePrinted (IsOne : Printing) (before : Account) (final : Sums) (old new : Option (List ℕ)) : Type 0 where
   pub text : List ℕ
-  pub are : AreShown IsOne before.options.selection before.slots before.tally text final
+  pub are : AreShown IsOne before.options.selection before.slots before.sums text final
   pub printed : Appends old new text

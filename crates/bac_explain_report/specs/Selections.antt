@@ -7,7 +7,7 @@ use Rattle.bac_explain.specs.Sent.{SentView}
 use Rattle.bac_explain.specs.Tables.{ClosedView}
 use Rattle.bac_explain.specs.Transactions.{TransactionView}
 use Rattle.bac_explain.specs.declared.finding.Finding.{Finding}
-use Rattle.bac_explain_report.specs.Endings.{delay_of, is_unanswered}
+use Rattle.bac_explain_report.specs.Endings.{delay_of, is_refused, is_unanswered}
 use Rattle.bac_explain_report.specs.declared.selection.PeerFilter.{PeerFilter}
 use Rattle.bac_explain_report.specs.declared.selection.Selection.{Selection}
 
@@ -61,22 +61,26 @@ has_peer (Some f) key = is_at f key.client || is_at f key.server
 -- the transaction passes all filters that are given
 abbrev pub passes : Selection → Key → TransactionView → Bool
 passes s key t =
-    (not s.unanswered || is_unanswered t) && (not s.repeated || is_repeated t) && (not s.findings || has_finding t)
+    (not s.unanswered || is_unanswered t) && (not s.errors || is_refused t) && (not s.repeated || is_repeated t) && (not s.findings || has_finding t)
     && is_slow_enough s.slower t && has_peer s.peer key
 
 -- a filter is given
 abbrev pub is_narrow : Selection → Bool
-is_narrow s = s.unanswered || s.repeated || s.findings || is_some s.slower || is_some s.peer
+is_narrow s = s.unanswered || s.errors || s.repeated || s.findings || is_some s.slower || is_some s.peer
 
--- a transaction that is printed
+-- a transaction that is printed when it is closed, or was told before
+abbrev pub is_printed : Selection → Key → TransactionView → Bool
+is_printed s key t = t.told || passes s key t
+
+-- one that is printed when it is closed
 abbrev pub shown : Selection → Option ClosedView → Option ClosedView
-shown s c = keep (λ c. passes s c.key c.transaction) c
+shown s c = keep (λ c. not c.transaction.told && passes s c.key c.transaction) c
 
 -- ---- a finding
 
--- an answer to no request is of no transaction: it is neither unanswered nor repeated nor slow
+-- an answer to no request is of no transaction: it is neither unanswered nor refused nor repeated nor slow
 abbrev pub takes_alone : Selection → Key → Bool
-takes_alone s key = not s.unanswered && not s.repeated && is_none s.slower && has_peer s.peer key
+takes_alone s key = not s.unanswered && not s.errors && not s.repeated && is_none s.slower && has_peer s.peer key
 
 -- a finding is printed where its transaction passes as it stands
 abbrev pub takes_finding : Selection → Key → Option TransactionView → Bool

@@ -2,13 +2,26 @@
 ghost use Rattle.std.specs.Prelude.{◌≡◌, IfOk};
 ghost use Rattle.std.specs.Option.{option_map};
 ghost use Rattle.bac_apdu.specs.Views.{apdu_view, segment_view};
-ghost use Rattle.bac_explain_report.specs.AnswerWords.{AreAnswerWords, AreOctetsWords, ArePartWords};
+ghost use Rattle.bac_explain_report.specs.AnswerWords.{AreAnswerWords, AreFoundWords, AreOctetsWords, ArePartWords};
+ghost use Rattle.bac_service.specs.Services.{complex_at};
 
+use crate::service_words::{segments_words, service_words};
 use bac_apdu::{Apdu, Segment, read};
-use bac_service_text::{error_words, reply_data_words, segments_text};
+use bac_service::read_reply;
+use bac_service_text::{error_words, reply_data_words};
 use bac_value::NoMemory;
 use bac_value_text::{abort_text, reject_text};
 use std::alloc::Global;
+
+/// The words of service data: what they answer, or the name of the service.
+fn data_words(alloc: Global, choice: u8, service: &[u8]) -> Result<Vec<u8>, NoMemory>
+    ensures { IfOk result (λ t. AreFoundWords choice service.now (complex_at choice service.now) t.items) }
+{
+    match read_reply(choice, service) {
+        Ok(_) => reply_data_words(alloc, choice, service),
+        Err(_) => Ok(service_words(alloc, choice)?),
+    }
+}
 
 /// The words of a ComplexACK, or of a segment of one.
 fn acknowledged_words(
@@ -20,8 +33,8 @@ fn acknowledged_words(
     ensures { IfOk result (λ t. ArePartWords (option_map segment_view segment) choice service.now t.items) }
 {
     match segment {
-        None => reply_data_words(alloc, choice, service),
-        Some(_) => Ok(segments_text(alloc, choice)?),
+        None => data_words(alloc, choice, service),
+        Some(_) => Ok(segments_words(alloc, choice)?),
     }
 }
 

@@ -1,51 +1,89 @@
 //! The lines of a transaction.
 ghost use Rattle.std.specs.Prelude.{◌≡◌, ℕ, List, IfOk, string_bytes};
 ghost use Rattle.std.specs.Option.{option_map};
-ghost use Rattle.bac_explain.specs.Closings.{closed_view};
+ghost use Rattle.bac_explain.specs.Closings.{told_view};
 ghost use Rattle.bac_explain.specs.KeyViews.{key_view};
 ghost use Rattle.bac_explain.specs.Tables.{ClosedView};
 ghost use Rattle.bac_explain.specs.SentViews.{sent_view};
 ghost use Rattle.bac_explain.specs.Views.{transaction_view};
-ghost use Rattle.bac_explain_report.specs.Blocks.{answer_name, asked_front, answered_front, counts_text, end_text, head_text, naks_text, part_text, rest_text, tail_text};
-ghost use Rattle.bac_explain_report.specs.Blocks.{IsAnsweredLine, IsAnswerLine, IsAskedLine, IsBlock, IsBlockFront, IsFramedBlock};
+ghost use Rattle.bac_explain_report.specs.Blocks.{answer_name, answered_front, counts_text, end_text, key_part, more_text, naks_text, part_text, rest_text, tail_text, time_word, times_text};
+ghost use Rattle.bac_explain_report.specs.Blocks.{IsAnsweredLine, IsAnswerLine, IsAskedFront, IsAskedLine, IsBlock, IsBlockFront, IsFramedBlock};
 
 use crate::answer_words::told_words;
-use crate::ending::answer_ending;
+use crate::ending::{answer_ending, reply_name};
 use crate::frames_line::frames_line;
 use crate::keys::key_text;
 use crate::request_words::asked_words;
-use bac_explain::{Closed, Sent, Transaction, TransactionKey};
+use bac_explain::{Sent, Transaction, TransactionKey};
+use bac_moment::{TimeText, time_text};
 use bac_value::NoMemory;
 use std::alloc::{AllocError, Global};
+
+/// How often a request or a reply was seen, if more than once.
+fn times_text(alloc: Global, times: u64) -> Result<String, AllocError>
+    ensures { IfOk result (λ t. string_bytes t ≡ times_text times) }
+{
+    if times == 1 {
+        return Ok(String::new(alloc));
+    }
+    format!(in alloc; " times={times}")
+}
+
+/// How many more of its segments were seen, if any.
+fn more_text(alloc: Global, segments: u64) -> Result<String, AllocError>
+    ensures { IfOk result (λ t. string_bytes t ≡ more_text segments) }
+{
+    if segments == 0 {
+        return Ok(String::new(alloc));
+    }
+    format!(in alloc; " more-segments={segments}")
+}
 
 /// How often a request or a reply was seen, and how many more of its segments.
 fn counts_text(alloc: Global, sent: &Sent) -> Result<String, AllocError>
     ensures { IfOk result (λ t. string_bytes t ≡ counts_text (sent_view sent.now)) }
 {
-    let times = sent.times;
-    let segments = sent.segments;
-    if segments == 0 {
-        format!(in alloc; "times={times}")
-    } else {
-        format!(in alloc; "times={times} more-segments={segments}")
+    let times = times_text(alloc, sent.times)?;
+    let more = more_text(alloc, sent.segments)?;
+    format!(in alloc; "{times}{more}")
+}
+
+/// A moment as text; `-` beyond the year 9999.
+fn time_word(time: &Option<TimeText>) -> &[u8]
+    ensures { result.now ≡ time_word (option_map (λ t. t.bytes) time.now) }
+{
+    match time {
+        Some(time) => time.as_str().as_bytes(),
+        None => b"-",
     }
 }
 
-fn asked_front(alloc: Global, sent: &Sent) -> Result<Vec<u8>, AllocError>
-    ensures { IfOk result (λ t. t.items ≡ asked_front (sent_view sent.now)) }
+/// The client, the server and the invoke ID, and how often the request was seen.
+fn key_part(alloc: Global, key: TransactionKey, sent: &Sent) -> Result<Vec<u8>, AllocError>
+    ensures { IfOk result (λ t. t.items ≡ key_part (key_view key) (sent_view sent.now)) }
 {
+    let key = key_text(alloc, key)?;
     let counts = counts_text(alloc, sent)?;
-    let moment = sent.moment;
-    let text = format!(in alloc; "  asked at={moment} {counts} ")?;
+    let text = format!(in alloc; " {key}{counts} ")?;
     Ok(text.into_bytes())
 }
 
-/// The request: its moment, how often it was seen, and what it asks for.
-fn asked_line(alloc: Global, sent: &Sent) -> Result<Vec<u8>, NoMemory>
-    ensures { IfOk result (λ t. IsAskedLine (sent_view sent.now) t.items) }
+fn asked_front(alloc: Global, key: TransactionKey, sent: &Sent) -> Result<Vec<u8>, AllocError>
+    ensures { IfOk result (λ t. IsAskedFront (key_view key) (sent_view sent.now) t.items) }
+{
+    let time = time_text(Some(sent.moment));
+    let part = key_part(alloc, key, sent)?;
+    let mut text = Vec::from_slice(alloc, time_word(&time))?;
+    text.extend_from_slice(&part)?;
+    Ok(text)
+}
+
+/// The request: when it was first seen, its transaction, how often it was seen, and what it asks for.
+fn asked_line(alloc: Global, key: TransactionKey, sent: &Sent) -> Result<Vec<u8>, NoMemory>
+    ensures { IfOk result (λ t. IsAskedLine (key_view key) (sent_view sent.now) t.items) }
 {
     let words = asked_words(alloc, &sent.octets)?;
-    let mut text = asked_front(alloc, sent)?;
+    let mut text = asked_front(alloc, key, sent)?;
     text.extend_from_slice(words.as_slice())?;
     text.push(b'\n')?;
     Ok(text)
@@ -56,7 +94,7 @@ fn answer_name(sent: &Sent) -> &'static str
     ensures { result.now ≡ answer_name (sent_view sent.now) }
 {
     if sent.whole {
-        answer_ending(&sent.octets).name()
+        reply_name(answer_ending(&sent.octets))
     } else {
         "began"
     }
@@ -68,7 +106,7 @@ fn answered_front(alloc: Global, asked: u64, sent: &Sent) -> Result<Vec<u8>, All
     let name = answer_name(sent);
     let counts = counts_text(alloc, sent)?;
     let delay = sent.moment.saturating_sub(asked);
-    let text = format!(in alloc; "  {name} after={delay} {counts} ")?;
+    let text = format!(in alloc; "  {name} after={delay}ms{counts} ")?;
     Ok(text.into_bytes())
 }
 
@@ -145,43 +183,41 @@ fn tail_text(alloc: Global, transaction: &Transaction) -> Result<Vec<u8>, AllocE
     Ok(text)
 }
 
-fn head_text(alloc: Global, key: TransactionKey) -> Result<Vec<u8>, AllocError>
-    ensures { IfOk result (λ t. t.items ≡ head_text (key_view key)) }
-{
-    let key = key_text(alloc, key)?;
-    let text = format!(in alloc; "transaction {key}\n")?;
-    Ok(text.into_bytes())
-}
-
 /// The lines of a transaction up to its answer.
-fn block_front(alloc: Global, closed: &Closed) -> Result<Vec<u8>, NoMemory>
-    ensures { IfOk result (λ t. IsBlockFront (closed_view closed.now) t.items) }
+fn block_front(
+    alloc: Global,
+    key: TransactionKey,
+    transaction: &Transaction,
+) -> Result<Vec<u8>, NoMemory>
+    ensures { IfOk result (λ t. IsBlockFront (told_view key transaction.now) t.items) }
 {
-    let asked = asked_line(alloc, &closed.transaction.request)?;
-    let answer = answer_line(alloc, &closed.transaction)?;
-    let mut text = head_text(alloc, closed.key)?;
-    text.extend_from_slice(asked.as_slice())?;
+    let answer = answer_line(alloc, transaction)?;
+    let mut text = asked_line(alloc, key, &transaction.request)?;
     text.extend_from_slice(answer.as_slice())?;
     Ok(text)
 }
 
 /// The lines of a transaction.
-fn block(alloc: Global, closed: &Closed) -> Result<Vec<u8>, NoMemory>
-    ensures { IfOk result (λ t. IsBlock (closed_view closed.now) t.items) }
+fn block(alloc: Global, key: TransactionKey, transaction: &Transaction) -> Result<Vec<u8>, NoMemory>
+    ensures { IfOk result (λ t. IsBlock (told_view key transaction.now) t.items) }
 {
-    let tail = tail_text(alloc, &closed.transaction)?;
-    let mut text = block_front(alloc, closed)?;
+    let tail = tail_text(alloc, transaction)?;
+    let mut text = block_front(alloc, key, transaction)?;
     text.extend_from_slice(tail.as_slice())?;
     Ok(text)
 }
 
-/// The lines of a transaction, with the moment of its request as text and the numbers of its frames.
-fn framed_block(alloc: Global, closed: &Closed) -> Result<Vec<u8>, NoMemory>
-    ensures { IfOk result (λ t. IsFramedBlock (closed_view closed.now) t.items) }
+/// The lines of a transaction, with the numbers of its frames.
+fn framed_block(
+    alloc: Global,
+    key: TransactionKey,
+    transaction: &Transaction,
+) -> Result<Vec<u8>, NoMemory>
+    ensures { IfOk result (λ t. IsFramedBlock (told_view key transaction.now) t.items) }
 {
-    let frames = frames_line(alloc, &closed.transaction)?;
-    let tail = tail_text(alloc, &closed.transaction)?;
-    let mut text = block_front(alloc, closed)?;
+    let frames = frames_line(alloc, &transaction.steps)?;
+    let tail = tail_text(alloc, transaction)?;
+    let mut text = block_front(alloc, key, transaction)?;
     text.extend_from_slice(frames.as_slice())?;
     text.extend_from_slice(tail.as_slice())?;
     Ok(text)
@@ -193,8 +229,13 @@ pub(crate) trait BlockForm {
     ghost IsOne: { ClosedView → (text : List ℕ) → Type 0 };
 
     /// The lines of a transaction. An Err is out of memory.
-    fn block(&self, alloc: Global, closed: &Closed) -> Result<Vec<u8>, NoMemory>
-        ensures { IfOk result (λ t. IsOne (closed_view closed.now) t.items) };
+    fn block(
+        &self,
+        alloc: Global,
+        key: TransactionKey,
+        transaction: &Transaction,
+    ) -> Result<Vec<u8>, NoMemory>
+        ensures { IfOk result (λ t. IsOne (told_view key transaction.now) t.items) };
 }
 
 /// Without its frames.
@@ -206,12 +247,17 @@ impl BlockForm for Plain {
 
     ghost IsOne = { IsBlock };
 
-    fn block(&self, alloc: Global, closed: &Closed) -> Result<Vec<u8>, NoMemory> {
-        block(alloc, closed)
+    fn block(
+        &self,
+        alloc: Global,
+        key: TransactionKey,
+        transaction: &Transaction,
+    ) -> Result<Vec<u8>, NoMemory> {
+        block(alloc, key, transaction)
     }
 }
 
-/// With the moment of its request as text, and the numbers of its frames.
+/// With the numbers of its frames.
 #[derive(Drop)]
 pub(crate) struct Framed;
 
@@ -220,7 +266,12 @@ impl BlockForm for Framed {
 
     ghost IsOne = { IsFramedBlock };
 
-    fn block(&self, alloc: Global, closed: &Closed) -> Result<Vec<u8>, NoMemory> {
-        framed_block(alloc, closed)
+    fn block(
+        &self,
+        alloc: Global,
+        key: TransactionKey,
+        transaction: &Transaction,
+    ) -> Result<Vec<u8>, NoMemory> {
+        framed_block(alloc, key, transaction)
     }
 }

@@ -3,7 +3,7 @@ ghost use Rattle.std.specs.Prelude.{◌≡◌, ◌||◌};
 ghost use Rattle.bac_apdu.specs.Views.{apdu_view};
 ghost use Rattle.bac_explain.specs.SentViews.{sent_view};
 ghost use Rattle.bac_explain.specs.Views.{transaction_view};
-ghost use Rattle.bac_explain_report.specs.Endings.{answer_ending, apdu_ending, delay_of, ending_name, ending_of, is_unanswered, no_answer_ending, seen_ending};
+ghost use Rattle.bac_explain_report.specs.Endings.{answer_ending, apdu_ending, delay_of, ending_name, ending_of, is_refused, is_unanswered, no_answer_ending, reply_name, seen_ending};
 
 use bac_apdu::{Apdu, read};
 use bac_explain::{Sent, Transaction};
@@ -11,8 +11,10 @@ use bac_explain::{Sent, Transaction};
 /// How a transaction ended.
 #[derive(Clone, Copy, Debug, PartialEq, Eq)]
 pub enum Ending {
-    /// By a SimpleACK, a ComplexACK or an Error.
+    /// By a SimpleACK or a ComplexACK.
     Answered,
+    /// By an Error.
+    Failed,
     /// By a Reject.
     Rejected,
     /// By an Abort of either end.
@@ -28,6 +30,7 @@ impl Ending {
     {
         match self {
             Ending::Answered => "answered",
+            Ending::Failed => "error",
             Ending::Rejected => "rejected",
             Ending::Aborted => "aborted",
             Ending::Unanswered => "unanswered",
@@ -35,10 +38,21 @@ impl Ending {
     }
 }
 
+/// The first word of the line of a reply: that of an Error says so itself.
+pub(crate) fn reply_name(ending: Ending) -> &'static str
+    ensures { result.now ≡ reply_name ending }
+{
+    match ending {
+        Ending::Failed => Ending::Answered.name(),
+        _ => ending.name(),
+    }
+}
+
 fn apdu_ending(apdu: Apdu<'_>) -> Ending
     ensures { result ≡ apdu_ending (apdu_view apdu.entry) }
 {
     match apdu {
+        Apdu::Error { .. } => Ending::Failed,
         Apdu::Reject { .. } => Ending::Rejected,
         Apdu::Abort { .. } => Ending::Aborted,
         _ => Ending::Answered,
@@ -84,6 +98,16 @@ pub fn ending_of(transaction: &Transaction) -> Ending
     match &transaction.answer {
         Some(answer) => seen_ending(transaction.broken_off, transaction.gave_up, answer),
         None => no_answer_ending(transaction.gave_up),
+    }
+}
+
+/// Whether a transaction ended by an Error, a Reject or an Abort.
+pub fn is_refused(transaction: &Transaction) -> bool
+    ensures { result ≡ is_refused (transaction_view transaction.now) }
+{
+    match ending_of(transaction) {
+        Ending::Failed | Ending::Rejected | Ending::Aborted => true,
+        Ending::Answered | Ending::Unanswered => false,
     }
 }
 

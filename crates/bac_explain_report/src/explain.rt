@@ -3,6 +3,7 @@ ghost use Rattle.bac_explain_report.specs.Explained.{IsReportOf, IsReportWith};
 ghost use Rattle.bac_explain_report.specs.Blocks.{IsBlock, IsFramedBlock};
 
 use crate::block::{BlockForm, Framed, Plain};
+use crate::devices::Device;
 use crate::form::ReportForm;
 use crate::frame_report::{FrameReport, report_text};
 use crate::reporter::Reporter;
@@ -10,7 +11,7 @@ use crate::selection::{ReportOptions, Selection};
 use crate::summary::last_lines;
 use crate::tally::Tally;
 use bac_capture::{Ports, report_over};
-use bac_explain::Closed;
+use bac_explain::{Transaction, TransactionKey};
 use bac_text::{CheckError, Status, stopped};
 use bac_value::NoMemory;
 use std::alloc::Global;
@@ -40,8 +41,13 @@ impl<B: BlockForm> ReportForm for Lines<B> {
         ""
     }
 
-    fn transaction_text(&self, alloc: Global, closed: &Closed) -> Result<Vec<u8>, NoMemory> {
-        self.block.block(alloc, closed)
+    fn transaction_text(
+        &self,
+        alloc: Global,
+        key: TransactionKey,
+        transaction: &Transaction,
+    ) -> Result<Vec<u8>, NoMemory> {
+        self.block.block(alloc, key, transaction)
     }
 
     fn frame_text(
@@ -59,9 +65,9 @@ impl<B: BlockForm> ReportForm for Lines<B> {
         alloc: Global,
         selection: Selection,
         tally: Tally,
+        devices: &[Device],
     ) -> Result<Vec<u8>, NoMemory> {
-        let text = last_lines(alloc, selection, tally)?;
-        Ok(text.into_bytes())
+        Ok(last_lines(alloc, selection, tally, devices)?)
     }
 }
 
@@ -102,16 +108,17 @@ fn explain_frames_over<R: BufRead, O: Write, E: Write>(
 /// Explains a file of pcap or pcapng: prints its transactions, and what was wrong with their datagrams.
 ///
 /// A fault is printed when its frame is read, with the number of the frame from 1 and the transaction; so is a frame that cannot be
-/// read. A transaction is printed when it is over, 65,000 ms after its request, or gives way to another one, if it passes the selection.
+/// read. With `early` a transaction is printed as soon as it is over, if it passes the selection then, and each later frame of its request or reply has a line
+/// of its own. Otherwise it is printed when it is closed, 65,000 ms after its request, or gives way to another one, if it passes then.
 /// A fault is printed if its transaction passes as it stands then; one of no transaction if its peers are selected, and none of
-/// `unanswered`, `repeated` and `slower` is. At the end of the file the transactions that are still open are printed if they pass, then how many
-/// were printed, if there is a filter, and then how many there were, how they ended, the slowest reply in milliseconds, and how
-/// many findings, frames and unread frames there were, printed or not. With `frames` a transaction has a line with the moment of its
-/// request as text, and the numbers of its frames from 1. Returns `Faulty` if there is a finding or an unread frame; if it
+/// `unanswered`, `errors`, `repeated` and `slower` is. At the end of the file the transactions that are still open are printed if they pass and were not, then
+/// the counts of each server, if there are several, then how many were printed, if there is a filter, and then how many there were, how they ended, the slowest
+/// reply in milliseconds, and how many findings, frames and unread frames there were, printed or not. A transaction begins with the moment of its request; with
+/// `frames` it has a line with the numbers of its frames from 1. Returns `Faulty` if there is a finding or an unread frame; if it
 /// is strict, if there is an unread frame, a printed transaction that is unanswered or has a finding, or a printed finding of no
 /// transaction. Prints `no capture file` on `err` if the first four octets are of neither format, `cannot read` if the input cannot be read, and
 /// `no memory` if an allocation fails. Returns `Output` if `out` cannot be written, even if the input fails too. Memory does not
-/// grow with the file, except for at most 16,384 transactions and the numbers of their frames.
+/// grow with the file, except for at most 16,384 transactions, the numbers of their frames, and the counts of at most 4,096 servers.
 pub fn explain_over<R: BufRead, O: Write, E: Write>(
     alloc: Global,
     options: ReportOptions,

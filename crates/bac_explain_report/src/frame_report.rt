@@ -4,7 +4,7 @@ ghost use Rattle.std.specs.Option.{option_map};
 ghost use Rattle.bac_explain.specs.Closings.{closed_view};
 ghost use Rattle.bac_explain.specs.KeyViews.{key_view};
 ghost use Rattle.bac_explain_report.specs.AccountViews.{hearing_view, report_view};
-ghost use Rattle.bac_explain_report.specs.FrameReports.{finding_line, unread_line, IsHearing, IsFrameReport};
+ghost use Rattle.bac_explain_report.specs.FrameReports.{again_line, finding_line, unread_line, IsHearing, IsFrameReport};
 ghost use Rattle.bac_explain_report.specs.Rest.{IsOptional};
 
 use crate::block::BlockForm;
@@ -25,6 +25,10 @@ pub struct Hearing {
     pub closed: Option<Closed>,
     /// What is wrong with it, if anything.
     pub finding: Option<Finding>,
+    /// Whether it is a request or a reply of a transaction that was told before, with nothing wrong.
+    pub again: bool,
+    /// Whether its transaction is told now.
+    pub answered: bool,
 }
 
 /// The report on a frame.
@@ -41,6 +45,23 @@ fn unread_line(alloc: Global, number: u64, why: Unread) -> Result<Vec<u8>, Alloc
     ensures { IfOk result (λ t. t.items ≡ unread_line number why) }
 {
     let text = format!(in alloc; "frame {number}: {why}\n")?;
+    Ok(text.into_bytes())
+}
+
+/// The line of an APDU that comes after its transaction was told.
+fn again_line(
+    alloc: Global,
+    number: u64,
+    key: TransactionKey,
+    again: bool,
+) -> Result<Vec<u8>, AllocError>
+    ensures { IfOk result (λ t. t.items ≡ again_line number (key_view key) again) }
+{
+    if !again {
+        return Ok(Vec::new(alloc));
+    }
+    let key = key_text(alloc, key)?;
+    let text = format!(in alloc; "frame {number}: again, {key}\n")?;
     Ok(text.into_bytes())
 }
 
@@ -70,7 +91,7 @@ fn optional_text<B: BlockForm>(
     ensures { IfOk result (λ t. IsOptional B.IsOne (option_map closed_view closed.now) t.items) }
 {
     match closed {
-        Some(closed) => form.block(alloc, closed),
+        Some(closed) => form.block(alloc, closed.key, &closed.transaction),
         None => Ok(Vec::new(alloc)),
     }
 }
@@ -85,9 +106,11 @@ fn hearing_text<B: BlockForm>(
 {
     let closed = optional_text(form, alloc, &hearing.closed)?;
     let finding = finding_line(alloc, number, hearing.key, hearing.finding)?;
+    let again = again_line(alloc, number, hearing.key, hearing.again)?;
     let mut text = optional_text(form, alloc, &hearing.over)?;
     text.extend_from_slice(closed.as_slice())?;
     text.extend_from_slice(finding.as_slice())?;
+    text.extend_from_slice(again.as_slice())?;
     Ok(text)
 }
 

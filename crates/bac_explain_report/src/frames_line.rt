@@ -1,11 +1,8 @@
-//! The frames of a transaction, and the moment of its request as text.
+//! The frames of a transaction.
 ghost use Rattle.std.specs.Prelude.{◌≡◌, IfOk, string_bytes};
-ghost use Rattle.std.specs.Option.{option_map};
-ghost use Rattle.bac_explain.specs.Views.{transaction_view};
-ghost use Rattle.bac_explain_report.specs.FramesLines.{IsFramesLine, more_numbers, next_number, numbers, time_word};
+ghost use Rattle.bac_explain_report.specs.FramesLines.{frames_line, more_numbers, next_number, numbers};
 
-use bac_explain::{Step, Transaction};
-use bac_moment::{TimeText, time_text};
+use bac_explain::Step;
 use std::alloc::{AllocError, Global};
 
 /// The number of a frame, behind a comma.
@@ -41,25 +38,12 @@ fn numbers(alloc: Global, steps: &[Step]) -> Result<Vec<u8>, AllocError>
     Ok(text)
 }
 
-/// A moment as text; `-` beyond the year 9999.
-fn time_word(time: &Option<TimeText>) -> &[u8]
-    ensures { result.now ≡ time_word (option_map (λ t. t.bytes) time.now) }
+/// The line with the numbers of the frames of a transaction.
+pub(crate) fn frames_line(alloc: Global, steps: &[Step]) -> Result<Vec<u8>, AllocError>
+    ensures { IfOk result (λ t. t.items ≡ frames_line steps.now) }
 {
-    match time {
-        Some(time) => time.as_str().as_bytes(),
-        None => b"-",
-    }
-}
-
-/// The line with the moment of the request of a transaction as text, and the numbers of its frames.
-pub(crate) fn frames_line(alloc: Global, transaction: &Transaction) -> Result<Vec<u8>, AllocError>
-    ensures { IfOk result (λ t. IsFramesLine (transaction_view transaction.now) t.items) }
-{
-    let time = time_text(Some(transaction.request.moment));
-    let numbers = numbers(alloc, &transaction.steps)?;
-    let mut text = Vec::from_slice(alloc, b"  time=")?;
-    text.extend_from_slice(time_word(&time))?;
-    text.extend_from_slice(b" frames=")?;
+    let numbers = numbers(alloc, steps)?;
+    let mut text = Vec::from_slice(alloc, b"  frames=")?;
     text.extend_from_slice(&numbers)?;
     text.push(b'\n')?;
     Ok(text)

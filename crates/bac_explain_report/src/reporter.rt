@@ -1,17 +1,22 @@
 //! The report on the transactions of a capture file, in any form.
 ghost use Rattle.std.specs.Prelude.{◌≡◌, IfOk, OnOk, Some};
 ghost use Rattle.bac_explain.specs.Closings.{closed_view};
+ghost use Rattle.bac_explain.specs.KeyViews.{key_view};
+ghost use Rattle.bac_explain.specs.Tables.{awaited};
 ghost use Rattle.bac_explain_report.specs.AccountViews.{account_view, report_view};
 ghost use Rattle.bac_explain_report.specs.Accounts.{fresh};
 ghost use Rattle.bac_explain_report.specs.Rest.{ArePrinted, IsOptional, IsStep};
 ghost use Rattle.bac_explain_report.specs.Selections.{shown};
+ghost use Rattle.bac_explain_report.specs.Counting.{summed};
+ghost use Rattle.bac_explain_report.specs.Reported.{IsAnswered, IsAnsweredAt, IsAnsweredIn, IsFrameText};
 ghost use Rattle.bac_text.specs.Texts.{AppendsText};
+ghost use Rattle.std.specs.Io.KnownBytes.{Appends};
 
 use crate::account::Account;
+use crate::devices::count_closed;
 use crate::form::ReportForm;
-use crate::frame_report::FrameReport;
+use crate::frame_report::{FrameReport, Hearing};
 use crate::selection::{ReportOptions, Selection};
-use crate::tally::Tally;
 use bac_capture::{FileFault, FileReport, Frame, Ports, print_text};
 use bac_explain::Closed;
 use bac_text::{CheckError, Status, complain};
@@ -39,24 +44,101 @@ impl<F: ReportForm + Drop> Reporter<F> {
     }
 }
 
-/// Prints the report on the frame with this number and this moment.
+/// The text of the transaction of an APDU, if it is told now.
+fn told_text<F: ReportForm>(
+    form: &F,
+    account: &Account,
+    now: u64,
+    hearing: &Hearing,
+) -> Result<Vec<u8>, NoMemory>
+    ensures { IfOk result (λ t. IsAnsweredIn F.IsOne hearing.now.answered (key_view hearing.now.key)
+        (awaited now (key_view hearing.now.key) (account_view account.now).slots) t.items) }
+{
+    if !hearing.answered {
+        return Ok(Vec::new(account.alloc));
+    }
+    match account.explainer.awaited(now, &hearing.key) {
+        Some(transaction) => form.transaction_text(account.alloc, hearing.key, transaction),
+        None => Ok(Vec::new(account.alloc)),
+    }
+}
+
+/// The text of the transaction of a frame of that moment, if it is told now.
+fn answered_at<F: ReportForm>(
+    form: &F,
+    account: &Account,
+    now: u64,
+    told: &FrameReport,
+) -> Result<Vec<u8>, NoMemory>
+    ensures { IfOk result (λ t. IsAnsweredAt F.IsOne now (report_view told.now) (account_view account.now).slots t.items) }
+{
+    match told {
+        FrameReport::Heard(hearing) => told_text(form, account, now, hearing),
+        FrameReport::Nothing | FrameReport::Unread(_) => Ok(Vec::new(account.alloc)),
+    }
+}
+
+/// The text of the transaction of a frame, if it is told now.
+fn answered_text<F: ReportForm>(
+    form: &F,
+    account: &Account,
+    moment: Option<u64>,
+    told: &FrameReport,
+) -> Result<Vec<u8>, NoMemory>
+    ensures { IfOk result (λ t. IsAnswered F.IsOne moment (report_view told.now) (account_view account.now).slots t.items) }
+{
+    match moment {
+        Some(now) => answered_at(form, account, now, told),
+        None => Ok(Vec::new(account.alloc)),
+    }
+}
+
+/// The text of the report on the last frame, with its moment, and then of its transaction, if it is told now.
+fn frame_text<F: ReportForm>(
+    form: &F,
+    account: &Account,
+    moment: Option<u64>,
+    told: &FrameReport,
+) -> Result<Vec<u8>, NoMemory>
+    ensures { IfOk result (λ t. IsFrameText F.IsTold F.IsOne moment (report_view told.now) (account_view account.now) t.items) }
+{
+    let back = answered_text(form, account, moment, told)?;
+    let mut text = form.frame_text(account.alloc, account.tally.frames, moment, told)?;
+    text.extend_from_slice(back.as_slice())?;
+    Ok(text)
+}
+
+/// Prints a text; where it is to go out at once, with a flush.
+fn print_flushed<W: Write>(text: &[u8], flush: bool, out: &mut W) -> Result<(), CheckError>
+    ensures { OnOk result (Appends (W.contents out.old) (W.contents out.new) text.now) }
+{
+    print_text(text, out)?;
+    if !flush || text.is_empty() {
+        return Ok(());
+    }
+    match out.flush() {
+        Ok(()) => Ok(()),
+        Err(error) => Err(CheckError::Output(error)),
+    }
+}
+
+/// Prints the report on the last frame, with its moment.
 fn print_report<F: ReportForm, W: Write>(
     form: &F,
-    alloc: Global,
-    number: u64,
+    account: &Account,
     moment: Option<u64>,
     told: &FrameReport,
     out: &mut W,
 ) -> Result<(), CheckError>
-    ensures { OnOk result (AppendsText (W.contents out.old) (W.contents out.new) (F.IsTold number moment (report_view told.now))) }
+    ensures { OnOk result (AppendsText (W.contents out.old) (W.contents out.new) (IsFrameText F.IsTold F.IsOne moment (report_view told.now) (account_view account.now))) }
 {
-    match form.frame_text(alloc, number, moment, told) {
-        Ok(text) => print_text(text.as_slice(), out),
+    match frame_text(form, account, moment, told) {
+        Ok(text) => print_flushed(text.as_slice(), account.options.flush, out),
         Err(_) => Err(CheckError::Memory),
     }
 }
 
-/// The text of a transaction, if it passes.
+/// The text of a closed transaction, if it is printed then.
 fn shown_text<F: ReportForm>(
     form: &F,
     alloc: Global,
@@ -65,14 +147,30 @@ fn shown_text<F: ReportForm>(
 ) -> Result<Vec<u8>, NoMemory>
     ensures { IfOk result (λ t. IsOptional F.IsOne (shown selection (Some (closed_view closed.now))) t.items) }
 {
-    if selection.passes(closed.key, &closed.transaction) {
-        form.transaction_text(alloc, closed)
+    let transaction = &closed.transaction;
+    if !transaction.told && selection.passes(closed.key, transaction) {
+        form.transaction_text(alloc, closed.key, transaction)
     } else {
         Ok(Vec::new(alloc))
     }
 }
 
-/// Prints the open transaction that began first, if it passes, and closes it. Returns false if none is open.
+/// Counts a closed transaction. Returns its text, if it is printed then.
+fn close<F: ReportForm>(
+    form: &F,
+    account: &mut Account,
+    closed: &Closed,
+) -> Result<Vec<u8>, NoMemory>
+    ensures text { IfOk result (λ t. IsOptional F.IsOne (shown account.old.options.selection (Some (closed_view closed.now))) t.items) }
+    ensures next { OnOk result (account_view account.new ≡ record (account_view account.old) { sums = summed account.old.options.selection (closed_view closed.now) (account_view account.old).sums }) }
+{
+    let selection = account.options.selection;
+    count_closed(&mut account.devices, closed)?;
+    account.tally = account.tally.with_block(selection, closed);
+    shown_text(form, account.alloc, selection, closed)
+}
+
+/// Prints the open transaction that began first, if it passes and was not told, and closes it. Returns false if none is open.
 fn print_next<F: ReportForm, W: Write>(
     form: &F,
     account: &mut Account,
@@ -83,9 +181,7 @@ fn print_next<F: ReportForm, W: Write>(
     let Some(closed) = account.explainer.pop() else {
         return Ok(false);
     };
-    let selection = account.options.selection;
-    account.tally = account.tally.with_block(selection, &closed);
-    match shown_text(form, account.alloc, selection, &closed) {
+    match close(form, account, &closed) {
         Ok(text) => {
             print_text(text.as_slice(), out)?;
             Ok(true)
@@ -100,7 +196,7 @@ fn print_rest<F: ReportForm, W: Write>(
     account: &mut Account,
     out: &mut W,
 ) -> Result<(), CheckError>
-    ensures { OnOk result (ArePrinted F.IsOne (account_view account.old) (account_view account.new).tally (W.contents out.old) (W.contents out.new)) }
+    ensures { OnOk result (ArePrinted F.IsOne (account_view account.old) (account_view account.new).sums (W.contents out.old) (W.contents out.new)) }
 {
     for _ in 0..u64::MAX {
         if !print_next(form, account, out)? {
@@ -113,21 +209,17 @@ fn print_rest<F: ReportForm, W: Write>(
 /// Prints what comes last.
 fn print_last<F: ReportForm, W: Write>(
     form: &F,
-    alloc: Global,
+    account: &Account,
     selection: Selection,
-    tally: Tally,
     out: &mut W,
 ) -> Result<(), CheckError>
-    ensures { OnOk result (AppendsText (W.contents out.old) (W.contents out.new) (F.AreLast selection tally)) }
+    ensures { OnOk result (AppendsText (W.contents out.old) (W.contents out.new)
+        (F.AreLast selection account.now.tally (account_view account.now).sums.devices)) }
 {
-    let Ok(text) = form.last_text(alloc, selection, tally) else {
+    let Ok(text) = form.last_text(account.alloc, selection, account.tally, &account.devices) else {
         return Err(CheckError::Memory);
     };
-    print_text(text.as_slice(), out)?;
-    match out.flush() {
-        Ok(()) => Ok(()),
-        Err(error) => Err(CheckError::Output(error)),
-    }
+    print_flushed(text.as_slice(), true, out)
 }
 
 impl<W: Write, F: ReportForm + Drop> FileReport<W> for Reporter<F> {
@@ -140,9 +232,9 @@ impl<W: Write, F: ReportForm + Drop> FileReport<W> for Reporter<F> {
 
     ghost state = { λ r. account_view r.account };
 
-    ghost Visits = { SeesFrame F.IsTold };
+    ghost Visits = { SeesFrame F.IsTold F.IsOne };
 
-    ghost Breaks = { BreaksFile F.IsTold };
+    ghost Breaks = { BreaksFile F.IsTold F.IsOne };
 
     ghost heading = { λ _. F.front };
 
@@ -157,28 +249,14 @@ impl<W: Write, F: ReportForm + Drop> FileReport<W> for Reporter<F> {
         out: &mut W,
     ) -> Result<(), CheckError> {
         match self.account.hear_frame(frame, ports) {
-            Ok(told) => print_report(
-                &self.form,
-                self.account.alloc,
-                self.account.tally.frames,
-                frame.moment,
-                &told,
-                out,
-            ),
+            Ok(told) => print_report(&self.form, &self.account, frame.moment, &told, out),
             Err(_) => Err(CheckError::Memory),
         }
     }
 
     fn break_off(&mut self, fault: FileFault, out: &mut W) -> Result<(), CheckError> {
         let told = self.account.break_off(fault);
-        print_report(
-            &self.form,
-            self.account.alloc,
-            self.account.tally.frames,
-            None,
-            &told,
-            out,
-        )
+        print_report(&self.form, &self.account, None, &told, out)
     }
 
     fn heading_text(&self) -> &'static str {
@@ -188,9 +266,8 @@ impl<W: Write, F: ReportForm + Drop> FileReport<W> for Reporter<F> {
     fn end(&mut self, out: &mut W) -> Result<Status, CheckError> {
         let options = self.account.options;
         print_rest(&self.form, &mut self.account, out)?;
-        let (alloc, tally) = (self.account.alloc, self.account.tally);
-        print_last(&self.form, alloc, options.selection, tally, out)?;
-        Ok(tally.status(options.strict))
+        print_last(&self.form, &self.account, options.selection, out)?;
+        Ok(self.account.tally.status(options.strict))
     }
 
     fn report_other<R: BufRead, E: Write>(

@@ -1,12 +1,25 @@
 //! Requests in words.
 ghost use Rattle.std.specs.Prelude.{◌≡◌, IfOk};
 ghost use Rattle.bac_apdu.specs.Views.{apdu_view};
-ghost use Rattle.bac_explain_report.specs.RequestWords.{AreAskingWords, AreOctetsWords};
+ghost use Rattle.bac_explain_report.specs.RequestWords.{AreAskingWords, AreFoundWords, AreOctetsWords};
+ghost use Rattle.bac_service.specs.Services.{request_at};
 
+use crate::service_words::{segments_words, service_words};
 use bac_apdu::{Apdu, read};
-use bac_service_text::{request_data_words, segments_text};
+use bac_service::read_request;
+use bac_service_text::request_words;
 use bac_value::NoMemory;
 use std::alloc::Global;
+
+/// The words of service data: of a request of the four services, or the name of the service.
+fn data_words(alloc: Global, choice: u8, service: &[u8]) -> Result<Vec<u8>, NoMemory>
+    ensures { IfOk result (λ t. AreFoundWords choice (request_at choice service.now) t.items) }
+{
+    match read_request(choice, service) {
+        Ok(request) => request_words(alloc, request),
+        Err(_) => Ok(service_words(alloc, choice)?),
+    }
+}
 
 /// The words of an APDU with a request.
 fn asking_words(alloc: Global, apdu: Apdu<'_>) -> Result<Vec<u8>, NoMemory>
@@ -22,8 +35,8 @@ fn asking_words(alloc: Global, apdu: Apdu<'_>) -> Result<Vec<u8>, NoMemory>
         return Ok(Vec::new(alloc));
     };
     match segment {
-        None => request_data_words(alloc, choice, service),
-        Some(_) => Ok(segments_text(alloc, choice)?),
+        None => data_words(alloc, choice, service),
+        Some(_) => Ok(segments_words(alloc, choice)?),
     }
 }
 

@@ -6,9 +6,9 @@ ghost use Rattle.bac_explain.specs.Closings.{closed_view};
 ghost use Rattle.bac_explain.specs.KeyViews.{key_view};
 ghost use Rattle.bac_explain.specs.SentViews.{sent_view};
 ghost use Rattle.bac_explain.specs.Views.{transaction_view};
-ghost use Rattle.bac_explain_report.specs.Selections.{exceeds, has_finding, has_peer, is_at, is_host, is_narrow, is_port, is_repeated, is_sent_again, is_slow_enough, is_slower, is_wrong, passes, shown, takes_alone};
+ghost use Rattle.bac_explain_report.specs.Selections.{exceeds, has_finding, has_peer, is_at, is_host, is_narrow, is_port, is_printed, is_repeated, is_sent_again, is_slow_enough, is_slower, is_wrong, passes, shown, takes_alone};
 
-use crate::ending::{delay_of, is_unanswered};
+use crate::ending::{delay_of, is_refused, is_unanswered};
 use bac_explain::{Closed, Sent, Transaction, TransactionKey};
 use bac_npdu::{LinkAddress, Peer};
 
@@ -26,6 +26,8 @@ pub struct PeerFilter {
 pub struct Selection {
     /// Only those without an answer: its end was not seen, nor an Abort of the server. The client may have given up.
     pub unanswered: bool,
+    /// Only those that ended by an Error, a Reject or an Abort.
+    pub errors: bool,
     /// Only those whose request, or a segment of it, was sent more than once, with an answer or without. Segments are counted, not told apart, so one that came
     /// again is not seen where the capture lacks as many others of its request.
     pub repeated: bool,
@@ -44,8 +46,14 @@ pub struct ReportOptions {
     pub selection: Selection,
     /// Whether the status is that of the printed transactions, and an unanswered one is a fault.
     pub strict: bool,
-    /// Whether a transaction in words has the moment of its request as text, and the numbers of its frames; other forms have them anyway.
+    /// Whether a transaction in words has the numbers of its frames; other forms have them anyway.
     pub frames: bool,
+    /// Whether another request with the invoke ID of a transaction that is over is a finding, for 65,000 ms.
+    pub strict_ids: bool,
+    /// Whether a transaction is printed once it is over, and what follows of it has lines of its own; otherwise it is printed when it is closed.
+    pub early: bool,
+    /// Whether what is printed of a frame goes out at once.
+    pub flush: bool,
 }
 
 fn is_host(host: [u8; 4], link: LinkAddress) -> bool
@@ -129,10 +137,22 @@ pub(crate) fn is_wrong(transaction: &Transaction) -> bool
     is_unanswered(transaction) || has_finding(transaction)
 }
 
+/// Whether a transaction is printed when it is closed, or was told before.
+pub(crate) fn is_printed(
+    selection: Selection,
+    key: TransactionKey,
+    transaction: &Transaction,
+) -> bool
+    ensures { result ≡ is_printed selection (key_view key) (transaction_view transaction.now) }
+{
+    transaction.told || selection.passes(key, transaction)
+}
+
 impl Selection {
     /// All transactions.
     pub const ALL: Selection = Selection {
         unanswered: false,
+        errors: false,
         repeated: false,
         findings: false,
         slower: None,
@@ -144,6 +164,7 @@ impl Selection {
         ensures { result ≡ is_narrow self }
     {
         self.unanswered
+            || self.errors
             || self.repeated
             || self.findings
             || self.slower.is_some()
@@ -155,18 +176,20 @@ impl Selection {
         ensures { result ≡ passes self (key_view key) (transaction_view transaction.now) }
     {
         (!self.unanswered || is_unanswered(transaction))
+            && (!self.errors || is_refused(transaction))
             && (!self.repeated || is_repeated(transaction))
             && (!self.findings || has_finding(transaction))
             && is_slow_enough(self.slower, transaction)
             && has_peer(self.peer, key)
     }
 
-    /// A transaction, if it passes.
+    /// A closed transaction, if it passes and was not told before.
     pub(crate) fn shown(self, closed: Option<Closed>) -> Option<Closed>
         ensures { option_map closed_view result ≡ shown self (option_map closed_view closed) }
     {
         let closed = closed?;
-        if self.passes(closed.key, &closed.transaction) {
+        let told = closed.transaction.told;
+        if !told && self.passes(closed.key, &closed.transaction) {
             Some(closed)
         } else {
             None
@@ -177,6 +200,10 @@ impl Selection {
     pub(crate) fn takes_alone(self, key: TransactionKey) -> bool
         ensures { result ≡ takes_alone self (key_view key) }
     {
-        !self.unanswered && !self.repeated && self.slower.is_none() && has_peer(self.peer, key)
+        !self.unanswered
+            && !self.errors
+            && !self.repeated
+            && self.slower.is_none()
+            && has_peer(self.peer, key)
     }
 }

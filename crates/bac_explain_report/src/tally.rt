@@ -2,10 +2,11 @@
 ghost use Rattle.std.specs.Prelude.{◌≡◌};
 ghost use Rattle.std.specs.Option.{option_map};
 ghost use Rattle.bac_explain.specs.Closings.{closed_view};
-ghost use Rattle.bac_explain_report.specs.Tallies.{later, more_if, one_more, status_of, with_alone, with_block, with_blocks, with_delay, with_ending, with_finding, with_frame, with_shown, with_unread};
+ghost use Rattle.bac_explain_report.specs.Tallies.{more_if, no_frames, status_of, with_alone, with_block, with_blocks, with_finding, with_frame, with_shown, with_unread};
 
-use crate::ending::{Ending, delay_of, ending_of};
-use crate::selection::{Selection, is_wrong};
+use crate::ending::{delay_of, ending_of};
+use crate::selection::{Selection, is_printed, is_wrong};
+use crate::totals::{Totals, one_more};
 use bac_explain::{Closed, Finding};
 use bac_text::Status;
 
@@ -16,33 +17,12 @@ pub struct Tally {
     /// Frames that cannot be read.
     pub unread: u64,
     pub findings: u64,
-    pub transactions: u64,
-    pub answered: u64,
-    pub rejected: u64,
-    pub aborted: u64,
-    pub unanswered: u64,
-    /// The greatest delay of a first reply after its request, in milliseconds; None if there is no reply.
-    pub slowest: Option<u64>,
+    /// How the transactions ended.
+    pub totals: Totals,
     /// Transactions that were printed.
     pub shown: u64,
     /// Those of them that are unanswered or have a finding, and printed findings of no transaction.
     pub wrong: u64,
-}
-
-fn one_more(count: u64) -> u64
-    ensures { result ≡ one_more count }
-{
-    count.saturating_add(1)
-}
-
-/// The greater of two delays.
-fn later(slowest: Option<u64>, delay: u64) -> Option<u64>
-    ensures { result ≡ later slowest delay }
-{
-    match slowest {
-        None => Some(delay),
-        Some(slowest) => Some(slowest.max(delay)),
-    }
 }
 
 /// One more than a count, or the same.
@@ -53,19 +33,19 @@ fn more_if(more: bool, count: u64) -> u64
 }
 
 impl Tally {
-    pub(crate) const NONE: Tally = Tally {
-        frames: 0,
-        unread: 0,
-        findings: 0,
-        transactions: 0,
-        answered: 0,
-        rejected: 0,
-        aborted: 0,
-        unanswered: 0,
-        slowest: None,
-        shown: 0,
-        wrong: 0,
-    };
+    /// No frames.
+    pub(crate) fn none() -> Tally
+        ensures { result ≡ no_frames }
+    {
+        Tally {
+            frames: 0,
+            unread: 0,
+            findings: 0,
+            totals: Totals::none(),
+            shown: 0,
+            wrong: 0,
+        }
+    }
 
     pub(crate) fn with_frame(self) -> Tally
         ensures { result ≡ with_frame self }
@@ -97,41 +77,6 @@ impl Tally {
         }
     }
 
-    fn with_ending(self, ending: Ending) -> Tally
-        ensures { result ≡ with_ending ending self }
-    {
-        match ending {
-            Ending::Answered => Tally {
-                answered: one_more(self.answered),
-                ..self
-            },
-            Ending::Rejected => Tally {
-                rejected: one_more(self.rejected),
-                ..self
-            },
-            Ending::Aborted => Tally {
-                aborted: one_more(self.aborted),
-                ..self
-            },
-            Ending::Unanswered => Tally {
-                unanswered: one_more(self.unanswered),
-                ..self
-            },
-        }
-    }
-
-    fn with_delay(self, delay: Option<u64>) -> Tally
-        ensures { result ≡ with_delay delay self }
-    {
-        match delay {
-            None => self,
-            Some(delay) => Tally {
-                slowest: later(self.slowest, delay),
-                ..self
-            },
-        }
-    }
-
     fn with_shown(self, shown: bool, wrong: bool) -> Tally
         ensures { result ≡ with_shown shown wrong self }
     {
@@ -148,16 +93,15 @@ impl Tally {
     {
         let transaction = &closed.transaction;
         let counted = Tally {
-            transactions: one_more(self.transactions),
+            totals: self
+                .totals
+                .with_one(ending_of(transaction), delay_of(transaction)),
             ..self
         };
-        counted
-            .with_ending(ending_of(transaction))
-            .with_delay(delay_of(transaction))
-            .with_shown(
-                selection.passes(closed.key, transaction),
-                is_wrong(transaction),
-            )
+        counted.with_shown(
+            is_printed(selection, closed.key, transaction),
+            is_wrong(transaction),
+        )
     }
 
     pub(crate) fn with_blocks(self, selection: Selection, closed: &Option<Closed>) -> Tally

@@ -35,3 +35,24 @@ guess text =
     (if opens text then form.CArray else
     (if begins_dump text then form.HexDump else
     (if begins_note text || are_of_stream text then form.Hex else form.Base64)))
+
+-- zeros at the front end at a blank or a colon
+abbrev pub ends_offset : List ℕ → Bool
+ends_offset [] = false
+ends_offset (octet ∷ text) = if octet == 48 then ends_offset text else octet == 32 || (octet == 9 || octet == 58)
+
+-- 0x81 and a function below 0x10
+abbrev pub begins_base64 : List ℕ → Bool
+begins_base64 (a ∷ b ∷ text) = a == 103 && b == 81
+begins_base64 text = false
+
+abbrev pub evident_in : Form → List ℕ → Form
+evident_in form.Hex text = form.Hex
+evident_in form.HexDump text = if ends_offset text then form.HexDump else form.Hex
+evident_in form.Escaped text = form.Escaped
+evident_in form.CArray text = form.CArray
+evident_in form.Base64 text = if begins_base64 text then form.Base64 else form.Hex
+
+-- the form that a text has beyond doubt
+abbrev pub evident : List ℕ → Form
+evident text = evident_in (guess text) text

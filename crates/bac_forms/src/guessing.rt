@@ -1,6 +1,6 @@
 //! Finding the form of a text.
 ghost use Rattle.std.specs.Prelude.{◌≡◌};
-ghost use Rattle.bac_forms.specs.Guess.{are_of_stream, begins_dump, begins_note, begins_quoted, guess, is_of_stream, opens};
+ghost use Rattle.bac_forms.specs.Guess.{are_of_stream, begins_base64, begins_dump, begins_note, begins_quoted, ends_offset, evident, guess, is_of_stream, opens};
 
 use crate::blanks::is_space;
 use crate::digits::is_digit;
@@ -72,5 +72,38 @@ pub fn guess(text: &[u8]) -> Form
         Form::Hex
     } else {
         Form::Base64
+    }
+}
+
+/// Whether zeros at the front end at a blank or a colon, as the offset of a hex dump does.
+fn ends_offset(text: &[u8]) -> bool
+    ensures { result ≡ ends_offset text.now }
+{
+    let mut rest = text;
+    while let Some((octet, others)) = rest.split_first() {
+        if *octet != b'0' {
+            return *octet == b' ' || *octet == b'\t' || *octet == b':';
+        }
+        rest = others;
+    }
+    false
+}
+
+/// Whether a text begins as a datagram of BACnet/IP does in Base64.
+fn begins_base64(text: &[u8]) -> bool
+    ensures { result ≡ begins_base64 text.now }
+{
+    matches!(text, [a, b, ..] if *a == b'g' && *b == b'Q')
+}
+
+/// The form that a text has beyond doubt, as [`guess`] finds it: a hex dump only where a blank or a colon follows its offset, and Base64 only where it begins as a
+/// datagram of BACnet/IP does. Otherwise lines of digits.
+pub fn evident(text: &[u8]) -> Form
+    ensures { result ≡ evident text.now }
+{
+    match guess(text) {
+        Form::HexDump if !ends_offset(text) => Form::Hex,
+        Form::Base64 if !begins_base64(text) => Form::Hex,
+        form => form,
     }
 }

@@ -22,6 +22,6 @@ mod stream;
 pub use decode::{Printing, decode_form_over};
 pub use fault::FormFault;
 pub use form::{FORM_NAMES, Form};
-pub use guessing::guess;
+pub use guessing::{evident, guess};
 pub use place::Position;
 pub use reading::read_datagrams;

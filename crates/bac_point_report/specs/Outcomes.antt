@@ -1,5 +1,5 @@
 -- What came of an ask, for people.
-use Rattle.std.specs.Prelude.{◌≡◌, ℕ, Bool, true, false, List, Option, Some, None, codes, if◌then◌else◌}
+use Rattle.std.specs.Prelude.{ℕ, Bool, true, false, List, Option, None, codes, if◌then◌else◌}
 use Rattle.std.specs.Option.{is_some}
 use Rattle.bac_service.specs.Replies as plain
 use Rattle.bac_service.specs.Values.{values_answered}

@@ -4,7 +4,7 @@ use Rattle.std.specs.Str.{bytes_eq}
 use Rattle.bac_value.specs.Element.{Part, SpellsElement, part_spelling}
 use Rattle.bac_value.specs.Meaning.{IsValueOf}
 use Rattle.bac_value.specs.Value.{Datum}
-use Rattle.bac_value_text.specs.Texts.{IsTextOf}
+use Rattle.bac_value.specs.Writing.{value_spelling}
 use Rattle.bac_service.specs.Values.{Reference}
 use Rattle.bac_point_text.specs.Kinds.{kind_of}
 use Rattle.bac_point_text.specs.PropertyNames.{enumeration_of}
@@ -54,12 +54,13 @@ kind_or None otherwise = otherwise
 abbrev pub kind_named : List ℕ → Option Kind
 kind_named name = kind_or (number_kind_named name) (string_kind_named name)
 
--- ---- the word of a value
+-- ---- the values that are written
 
--- the word is a printed text of the value that was read, with its kind and a colon
-abbrev pub IsWordFor : Result Datum WrittenFault → (word : List ℕ) → Type 0
-IsWordFor (Ok d) word = IsTextOf 58 d word
-IsWordFor (Err f) word = ⊥
+-- a value was read, and these are its octets
+pub record AreValuesFor (read : Result Datum WrittenFault) (octets : List ℕ) : Type 0 where
+  pub value : Datum
+  pub means : read ≡ Ok value
+  pub are : octets ≡ value_spelling value
 
 -- why there is no value, or an allocation failed; a name that is like an unknown one is left open
 abbrev pub IsFaultFor : Result Datum WrittenFault → WrittenFault → Type 0

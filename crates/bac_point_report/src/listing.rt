@@ -1,11 +1,13 @@
 //! The objects of a device, by its object-list.
-ghost use Rattle.std.specs.Prelude.{◌≡◌, map, IfOk, IfSome};
+ghost use Rattle.std.specs.Prelude.{◌≡◌, map, IfOk, IfSome, MatchOption};
+ghost use Rattle.std.specs.Option.{option_map};
 ghost use Rattle.bac_ask_report.specs.Records.{outcome_view};
 ghost use Rattle.bac_service.specs.Views.{property_reference_view};
 ghost use Rattle.bac_value.specs.Meaning.{IsValueOf};
-ghost use Rattle.bac_value.specs.Value.{object as datum};
-ghost use Rattle.bac_value.specs.Views.{element_view, object_identifier_view};
-ghost use Rattle.bac_point_report.specs.Listing.{AreObjects, AreObjectsOf, IsNumber, IsNumberOf, IsStep};
+ghost use Rattle.bac_value.specs.Value.{ObjectId, object as datum};
+ghost use Rattle.bac_value.specs.Views.{element_view, object_identifier_view, value_view};
+ghost use Rattle.bac_point_report.specs.Listing.{AreNoObjects, AreNoObjectsOf, AreObjects, AreObjectsOf, IsNumber, IsNumberOf, IsStep};
+ghost use Rattle.bac_point_report.specs.Listing.{is_aborted, object_in};
 
 use crate::outcome::values_of;
 use bac_ask_report::Outcome;
@@ -24,19 +26,43 @@ pub enum ListStep {
     Failed,
 }
 
-/// The object that an element is. None if it is none.
-fn object_of(alloc: Global, element: Element<&[u8]>) -> Result<Option<ObjectIdentifier>, NoMemory>
-    ensures { IfOk result (λ o. IfSome o (λ i. IsValueOf (datum (object_identifier_view i)) (element_view (λ s. s.now) element.entry))) }
+/// The object that a value is.
+fn object_in(value: &Value) -> Option<ObjectIdentifier>
+    ensures { option_map object_identifier_view result ≡ object_in (value_view value.now) }
 {
-    match value_of(alloc, element)? {
-        Some(Value::ObjectIdentifier(object)) => Ok(Some(object)),
-        _ => Ok(None),
+    match value {
+        Value::ObjectIdentifier(object) => Some(*object),
+        Value::Null => None,
+        Value::Boolean(_) => None,
+        Value::Unsigned(_) => None,
+        Value::Signed(_) => None,
+        Value::Real(_) => None,
+        Value::Double(_) => None,
+        Value::OctetString(_) => None,
+        Value::CharacterString(_) => None,
+        Value::BitString(_) => None,
+        Value::Enumerated(_) => None,
+        Value::Date(_) => None,
+        Value::Time(_) => None,
     }
 }
 
-/// The objects that values are. None if one is no object.
+/// The object that an element is; None exactly if it is none.
+#[tactic(auto, using(crate::proofs::Objects::object_told))]
+fn object_of(alloc: Global, element: Element<&[u8]>) -> Result<Option<ObjectIdentifier>, NoMemory>
+    ensures { IfOk result (λ o. MatchOption o ((i : ObjectId) → IsValueOf (datum i) (element_view (λ s. s.now) element.entry) → ⊥)
+        (λ i. IsValueOf (datum (object_identifier_view i)) (element_view (λ s. s.now) element.entry))) }
+{
+    match value_of(alloc, element)? {
+        Some(value) => Ok(object_in(&value)),
+        None => Ok(None),
+    }
+}
+
+/// The objects that values are; None exactly if one is no object.
 fn objects_in(alloc: Global, values: Data<'_>) -> Result<Option<Vec<ObjectIdentifier>>, NoMemory>
-    ensures { IfOk result (λ o. IfSome o (λ objects. AreObjects (map object_identifier_view objects.items) values.entry.octets.now)) }
+    ensures { IfOk result (λ o. MatchOption o (AreNoObjects values.entry.octets.now)
+        (λ objects. AreObjects (map object_identifier_view objects.items) values.entry.octets.now)) }
 {
     let mut objects = Vec::new(alloc);
     let mut rest = values.elements();
@@ -50,13 +76,14 @@ fn objects_in(alloc: Global, values: Data<'_>) -> Result<Option<Vec<ObjectIdenti
     Ok(Some(objects))
 }
 
-/// The objects with which a read of a property was answered. None if it was not answered with objects. An Err is out of memory.
+/// The objects with which a read of a property was answered; None exactly if it was not answered with objects. An Err is out of memory.
 pub fn objects_of(
     alloc: Global,
     reference: PropertyReference,
     outcome: Outcome<'_>,
 ) -> Result<Option<Vec<ObjectIdentifier>>, NoMemory>
-    ensures { IfOk result (λ o. IfSome o (λ objects. AreObjectsOf (property_reference_view reference) (outcome_view outcome.entry) (map object_identifier_view objects.items))) }
+    ensures { IfOk result (λ o. MatchOption o (AreNoObjectsOf (property_reference_view reference) (outcome_view outcome.entry))
+        (λ objects. AreObjectsOf (property_reference_view reference) (outcome_view outcome.entry) (map object_identifier_view objects.items))) }
 {
     match values_of(AnyRequest::ReadProperty(reference), outcome) {
         Some(values) => objects_in(alloc, values),
@@ -94,6 +121,22 @@ pub fn number_of(
     }
 }
 
+/// Whether an Abort came.
+fn is_aborted(outcome: Outcome<'_>) -> bool
+    ensures { result ≡ is_aborted (outcome_view outcome.entry) }
+{
+    match outcome {
+        Outcome::Aborted(_) => true,
+        Outcome::Answered(_) => false,
+        Outcome::Rejected(_) => false,
+        Outcome::TimedOut => false,
+        Outcome::Expired => false,
+        Outcome::Refused(_) => false,
+        Outcome::NoEnding => false,
+        Outcome::NoLink => false,
+    }
+}
+
 /// What follows from how the read of an object-list ended: an Abort says that it does not come as a whole. An Err is out of memory.
 pub fn after_list(
     alloc: Global,
@@ -102,7 +145,7 @@ pub fn after_list(
 ) -> Result<ListStep, NoMemory>
     ensures { IfOk result (λ step. IsStep (property_reference_view reference) (outcome_view outcome.entry) step) }
 {
-    if let Outcome::Aborted(_) = outcome {
+    if is_aborted(outcome) {
         return Ok(ListStep::InParts);
     }
     match objects_of(alloc, reference, outcome)? {

@@ -63,7 +63,7 @@ fn is_unknown(reply: Reply<'_>) -> bool
 }
 
 /// Whether an ask ended since the object has no such property.
-fn is_absent(outcome: Outcome<'_>) -> bool
+pub fn is_absent(outcome: Outcome<'_>) -> bool
     ensures { result ≡ is_absent (outcome_view outcome.entry) }
 {
     match outcome {

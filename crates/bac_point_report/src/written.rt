@@ -1,12 +1,13 @@
 //! Values to be written, as people write them.
 ghost use Rattle.std.specs.Prelude.{◌≡◌, IfOk, IfSome, MatchResult};
+ghost use Rattle.bac_value.specs.Views.{value_view};
+ghost use Rattle.bac_value.specs.Writing.{value_spelling};
 ghost use Rattle.bac_service.specs.Views.{property_reference_view};
-ghost use Rattle.bac_point_report.specs.Written.{IsFaultFor, IsOnlyKind, IsWordFor, kind_named, meant, number_kind_named, string_kind_named};
+ghost use Rattle.bac_point_report.specs.Written.{AreValuesFor, IsFaultFor, IsOnlyKind, kind_named, meant, number_kind_named, string_kind_named};
 
 use bac_point_text::{Kind, WrittenFault, enumeration_of, value_as_written};
 use bac_service::PropertyReference;
-use bac_value::{Data, NoMemory, value_of};
-use bac_value_text::{Separator, value_text};
+use bac_value::{Data, DataBuf, NoMemory, Value, value_of, write_value};
 use std::alloc::Global;
 
 /// The kind of the only value that there is. None if there is none, more than one, a Null, or one of no kind. An Err is out of memory.
@@ -82,21 +83,30 @@ pub fn kind_named(name: &str) -> Option<Kind>
     }
 }
 
-/// The word that means a value in a request: its kind, a colon and the value, which is read as people write it, `null` for none. An Err says why the text is no
-/// value of that kind of the property, or that an allocation failed.
-pub fn written_word(
+/// A value encoded as data.
+fn spelled(alloc: Global, value: &Value) -> Result<DataBuf, NoMemory>
+    ensures { IfOk result (λ d. d.octets.items ≡ value_spelling (value_view value.now)) }
+{
+    let mut octets = Vec::new(alloc);
+    write_value(value, &mut octets)?;
+    Ok(DataBuf { octets })
+}
+
+/// The value which a text means, encoded: it is read as people write it, `null` for none. An Err says why the text is no value of that kind of the property, or
+/// that an allocation failed.
+pub fn written_values(
     alloc: Global,
     reference: PropertyReference,
     kind: Kind,
     text: &str,
-) -> Result<Vec<u8>, WrittenFault>
-    ensures { MatchResult result (λ w. IsWordFor (meant (property_reference_view reference) kind text.now) w.items)
+) -> Result<DataBuf, WrittenFault>
+    ensures { MatchResult result (λ d. AreValuesFor (meant (property_reference_view reference) kind text.now) d.octets.items)
         (λ f. IsFaultFor (meant (property_reference_view reference) kind text.now) f) }
 {
     let names = enumeration_of(reference.object.kind, reference.property);
     let value = value_as_written(alloc, kind, names, text.as_bytes())?;
-    match value_text(alloc, Separator::Colon, &value) {
-        Ok(word) => Ok(word),
+    match spelled(alloc, &value) {
+        Ok(values) => Ok(values),
         Err(_) => Err(WrittenFault::NoMemory),
     }
 }

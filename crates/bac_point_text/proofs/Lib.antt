@@ -7,3 +7,4 @@ pub mod OwnFaults
 pub mod Rows
 pub mod ListTexts
 pub mod PlainTexts
+pub mod AllRows

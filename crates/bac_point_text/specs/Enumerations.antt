@@ -1,8 +1,9 @@
 -- The enumerations of the standard (clause 21): tables in code, and the object types and properties, whose tables stand in bac_value_text.
-use Rattle.std.specs.Prelude.{ℕ, Bool, List, map, Option, Some, codes, if◌then◌else◌}
-use Rattle.std.specs.List.{find, list_any}
+use Rattle.std.specs.Prelude.{ℕ, Bool, List, [], ◌∷◌, map, Option, Some, None, codes, if◌then◌else◌}
+use Rattle.std.specs.List.{filter_map, find, flat_map, list_any, range_with_len}
 use Rattle.std.specs.Option.{option_map}
 use Rattle.std.specs.Str.{bytes_eq}
+use Rattle.std.specs.Str.Lines.{lines}
 use Rattle.bac_value_text.specs.Names as rows
 use Rattle.bac_value_text.specs.ObjectTypes.{OBJECT_TYPES}
 use Rattle.bac_value_text.specs.Properties.{PROPERTIES}
@@ -46,3 +47,22 @@ abbrev pub number_of : Names → (name : List ℕ) → Option ℕ
 number_of object_types name = rows.number_in OBJECT_TYPES name
 number_of properties name = rows.number_in PROPERTIES name
 number_of (listed table) name = line.number_in table name
+
+-- ---- all names
+
+-- a number with its name, if it has one
+abbrev pub row_with : (number : ℕ) → (name : Option (List ℕ)) → List (ℕ × List ℕ)
+row_with number None = []
+row_with number (Some name) = (number, name) ∷ []
+
+abbrev pub rows_at : Names → (number : ℕ) → List (ℕ × List ℕ)
+rows_at e number = row_with number (name_of e number)
+
+-- numbers among which are all that have a name
+abbrev pub numbers_of : Names → List ℕ
+numbers_of object_types = range_with_len 0 1024
+numbers_of properties = range_with_len 0 1024
+numbers_of (listed table) = filter_map line.number_part (lines table)
+
+abbrev pub rows_of : Names → List (ℕ × List ℕ)
+rows_of e = flat_map (rows_at e) (numbers_of e)

@@ -1,10 +1,12 @@
 -- Laws of texts.
-use Rattle.std.specs.Prelude.{◌≡◌, ℕ, true, List, Option, Some, None, Ok, IsSome}
+use Rattle.std.specs.Prelude.{◌≡◌, ℕ, Bool, true, ◌&&◌, ◌==◌, List, Option, Some, None, Ok, IsSome}
+use Rattle.std.specs.List.{list_any}
+use Rattle.std.specs.Str.{bytes_eq}
 use Rattle.bac_value.specs.Value.{Datum, IsValue, real, double, characters, bits, enumerated}
 use Rattle.bac_value_text.specs.Laws.{HasOctets}
 use Rattle.bac_value_text.specs.Texts.{is_real_number, is_double_number, is_text, escaped}
 use Rattle.bac_point_text.specs.Alone.{IsAlone}
-use Rattle.bac_point_text.specs.Enumerations.{Names, object_types, properties, listed, name_of, number_of, is_table}
+use Rattle.bac_point_text.specs.Enumerations.{Names, object_types, properties, listed, name_of, number_of, is_table, rows_of}
 use Rattle.bac_point_text.specs.Kinds.{kind_of}
 use Rattle.bac_point_text.specs.Written.{is_finite, written}
 
@@ -23,6 +25,18 @@ pub record IsInverse (e : Names) : Type 0 where
 
 abbrev pub AreInverse : Type 0
 AreInverse = (e : Names) → IsEnumeration e → IsInverse e
+
+-- a row with that number and name
+abbrev pub is_row : (number : ℕ) → (name : List ℕ) → List (ℕ × List ℕ) → Bool
+is_row number name rows = list_any (λ row. (row.0 == number) && bytes_eq row.1 name) rows
+
+-- each number that has a name has a row, and the name in a row reads as its number
+pub record IsListed (e : Names) : Type 0 where
+  pub numbers : (number : ℕ) (name : List ℕ) → name_of e number ≡ Some name → is_row number name (rows_of e) ≡ true
+  pub names : (number : ℕ) (name : List ℕ) → is_row number name (rows_of e) ≡ true → number_of e name ≡ Some number
+
+abbrev pub AreListed : Type 0
+AreListed = (e : Names) → IsEnumeration e → IsListed e
 
 -- ---- values
 

@@ -1,9 +1,9 @@
 //! The enumerations of the standard, by name and by number.
-ghost use Rattle.std.specs.Prelude.{◌≡◌, map, All, IfOk};
-ghost use Rattle.std.specs.List.{find};
+ghost use Rattle.std.specs.Prelude.{◌≡◌, ◌++◌, map, IfOk, OnOk};
+ghost use Rattle.std.specs.List.{find, range_with_len};
 ghost use Rattle.std.specs.Option.{option_map};
-ghost use Rattle.bac_point_text.specs.Enumerations.{TABLES, has_heading, word_of, named, name_of, number_of};
-ghost use Rattle.bac_point_text.specs.Views.{names_view, IsRow};
+ghost use Rattle.bac_point_text.specs.Enumerations.{TABLES, has_heading, word_of, named, name_of, number_of, numbers_of, rows_at, rows_of};
+ghost use Rattle.bac_point_text.specs.Views.{names_view, row_view};
 
 use crate::lines::{heading, name_in, number_in, numbers_in};
 use crate::names;
@@ -16,8 +16,8 @@ const OBJECT_TYPE: &str = "object-type";
 /// The heading of the properties, whose names stand elsewhere.
 const PROPERTY_IDENTIFIER: &str = "property-identifier";
 
-/// The standard names no object type and no property with a greater number.
-const MOST_NUMBER: u32 = 1_023;
+/// The standard names no object type and no property with this number or a greater one.
+const NUMBERS: u32 = 1_024;
 
 /// An enumeration of the standard, or the bits of a bit string that it names (clause 21): names, and the number of each.
 #[derive(Clone, Copy, Debug)]
@@ -63,6 +63,13 @@ fn table_in(tables: &[&'static str], word: &str) -> Option<&'static str>
         }
     }
     None
+}
+
+/// The numbers below that one.
+fn numbers_below(alloc: Global, count: u32) -> Result<Vec<u32>, AllocError>
+    ensures { IfOk result (λ v. v.items ≡ range_with_len 0 count) }
+{
+    (0..count).collect(alloc)
 }
 
 impl Enumeration {
@@ -114,23 +121,34 @@ impl Enumeration {
     }
 
     /// Numbers among which are all that have a name.
-    fn numbers(self, alloc: Global) -> Result<Vec<u32>, AllocError> {
+    fn numbers(self, alloc: Global) -> Result<Vec<u32>, AllocError>
+        ensures { IfOk result (λ v. v.items ≡ numbers_of (names_view self)) }
+    {
         match self {
+            Enumeration::ObjectType => numbers_below(alloc, NUMBERS),
+            Enumeration::PropertyIdentifier => numbers_below(alloc, NUMBERS),
             Enumeration::Listed(listed) => numbers_in(alloc, listed.table),
-            _ => (0..=MOST_NUMBER).collect(alloc),
         }
     }
 
-    /// All numbers that have a name, and their names, in the order of the numbers. An Err says that an allocation failed.
-    pub fn rows(self, alloc: Global) -> Result<Vec<NamedNumber>, AllocError>
-        ensures named { IfOk result (λ rows. All (IsRow (names_view self)) rows.items) }
+    /// Adds a number with its name, if it has one.
+    fn add_row(self, number: u32, rows: &mut Vec<NamedNumber>) -> Result<(), AllocError>
+        ensures { OnOk result (map row_view rows.new.items ≡ map row_view rows.old.items ++ rows_at (names_view self) number) }
     {
+        if let Some(name) = self.name_of(number) {
+            rows.push(NamedNumber { number, name })?;
+        }
+        Ok(())
+    }
+
+    /// All numbers that have a name, and their names. An Err says that an allocation failed.
+    pub fn rows(self, alloc: Global) -> Result<Vec<NamedNumber>, AllocError>
+        ensures are { IfOk result (λ rows. map row_view rows.items ≡ rows_of (names_view self)) }
+    {
+        let numbers = self.numbers(alloc)?;
         let mut rows = Vec::new(alloc);
-        for number in &self.numbers(alloc)? {
-            let number = *number;
-            if let Some(name) = self.name_of(number) {
-                rows.push(NamedNumber { number, name })?;
-            }
+        for number in &numbers {
+            self.add_row(*number, &mut rows)?;
         }
         Ok(rows)
     }

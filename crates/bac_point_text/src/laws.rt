@@ -1,5 +1,5 @@
 //! Laws of texts: empty functions whose contracts are the laws.
-ghost use Rattle.bac_point_text.specs.Laws.{AreInverse, AreWritten};
+ghost use Rattle.bac_point_text.specs.Laws.{AreInverse, AreListed, AreWritten};
 
 use bac_value_text::{names_and_numbers_are_inverse, printed_values_are_read};
 
@@ -8,6 +8,13 @@ pub fn enumerations_are_inverse()
     ensures { AreInverse }
 {
     names_and_numbers_are_inverse();
+}
+
+/// In the rows of each enumeration each number that has a name stands, and each name reads as the number beside it.
+pub fn enumerations_are_listed()
+    ensures { AreListed }
+{
+    enumerations_are_inverse();
 }
 
 /// What [`value_alone`](crate::value_alone) prints of a value reads as that value, given its kind: of every value but NaN and infinite numbers,

@@ -23,7 +23,7 @@ mod written_fault;
 pub use alone::value_alone;
 pub use enumeration::{Enumeration, Listed, NamedNumber};
 pub use kind::Kind;
-pub use laws::{enumerations_are_inverse, plain_texts_are_read};
+pub use laws::{enumerations_are_inverse, enumerations_are_listed, plain_texts_are_read};
 pub use list_alone::data_alone;
 pub use lists::{enumerations_text, names_text};
 pub use property_names::enumeration_of;

@@ -2,9 +2,10 @@
 ghost use Rattle.std.specs.Prelude.{◌≡◌, ◌++◌, codes, map, IfOk, string_bytes};
 ghost use Rattle.std.specs.List.{flat_map};
 ghost use Rattle.bac_point_text.specs.Enumerations.{TABLES};
-ghost use Rattle.bac_point_text.specs.Lists.{heading_line, words_text};
+ghost use Rattle.bac_point_text.specs.Lists.{heading_line, names_text, row_line, words_text};
+ghost use Rattle.bac_point_text.specs.Views.{names_view, row_view};
 
-use crate::enumeration::{Enumeration, tables};
+use crate::enumeration::{Enumeration, NamedNumber, tables};
 use crate::lines::heading;
 use std::alloc::{AllocError, Global};
 
@@ -30,13 +31,29 @@ pub fn enumerations_text(alloc: Global) -> Result<Vec<u8>, AllocError>
     Ok(text)
 }
 
-/// The names of an enumeration, a line each: the number, a space and the name. An Err says that an allocation failed.
-pub fn names_text(alloc: Global, names: Enumeration) -> Result<String, AllocError> {
-    let mut text = String::new(alloc);
-    for row in &names.rows(alloc)? {
-        let number = row.number;
-        let name = row.name;
-        writeln!(text, "{number} {name}")?;
+/// The line of a row: the number, a space and the name.
+fn row_line(alloc: Global, row: &NamedNumber) -> Result<String, AllocError>
+    ensures { IfOk result (λ t. string_bytes t ≡ row_line (row_view row.now)) }
+{
+    let number = row.number;
+    let name = row.name;
+    format!(in alloc; "{number} {name}\n")
+}
+
+fn rows_text(alloc: Global, rows: &[NamedNumber]) -> Result<Vec<u8>, AllocError>
+    ensures { IfOk result (λ t. t.items ≡ flat_map row_line (map row_view rows.now)) }
+{
+    let mut text = Vec::new(alloc);
+    for row in rows {
+        text.extend_from_slice(row_line(alloc, row)?.as_bytes())?;
     }
     Ok(text)
+}
+
+/// The names of an enumeration, a line each: the number, a space and the name. An Err says that an allocation failed.
+pub fn names_text(alloc: Global, names: Enumeration) -> Result<Vec<u8>, AllocError>
+    ensures { IfOk result (λ t. t.items ≡ names_text (names_view names)) }
+{
+    let rows = names.rows(alloc)?;
+    rows_text(alloc, &rows)
 }

@@ -1,1 +1,2 @@
-pub mod Stopped
+pub mod Batches
+pub mod Elements

@@ -2,14 +2,16 @@
 #![tactic(auto)]
 
 mod listing;
+mod objects;
 mod performing;
 mod questions;
 mod reading;
 mod silence;
+mod table;
 mod task;
 mod timeout;
 mod writing;
 
 pub use performing::do_with_points;
-pub use task::{PointTask, PointWork, Writing, point_task_of};
+pub use task::{Listing, PointTask, PointWork, Writing, point_task_of};
 pub use timeout::{bad_timeout, print_bad_timeout};

@@ -1,62 +1,36 @@
-//! `bac points`: the objects of a device.
+//! `bac points`: the objects of a device, and what each is.
+ghost use Rattle.std.specs.Prelude.{◌≡◌, false, true, map, IfErr, IfOk, MatchOption};
+ghost use Rattle.bac_value.specs.Views.{object_identifier_view};
+ghost use Rattle.bac_npdu.specs.Views.{peer_view};
+ghost use Rattle.bac_service.specs.Views.{property_reference_view};
+ghost use Rattle.bac_driver.specs.Runs.{timed};
+ghost use Rattle.bac_text.specs.Statuses.{IsFailure};
+ghost use Rattle.bac_environment.specs.Sockets.{OnClock, OnPort};
+ghost use Rattle.bac_points.specs.Lists.{AsksColumns, Lists, ReadsColumns, ReadsPoints, columns, has_come, have_come};
 
+use crate::objects::{ends_of, objects_asked};
 use crate::performing::Desk;
-use crate::questions::{WINDOW, lines_for, question_of};
-use bac_asking::{Client, ClientSockets, ask_on, gather, outcome_of};
+use crate::table::Table;
+use crate::task::Listing;
+use bac_asking::{Client, ClientSockets, outcome_of};
 use bac_driver::AskEnd;
-use bac_point_report::{
-    HEADER, ListStep, after_list, cell_of, failure_line, number_of, objects_of, point_line,
-    point_references,
-};
-use bac_service::PropertyReference;
+use bac_point_report::{has_values, is_absent, point_references};
+use bac_service::{AnyRequest, PropertyReference};
 use bac_text::{Status, no_memory, output_failed};
-use bac_value::{NoMemory, ObjectIdentifier};
+use bac_value::ObjectIdentifier;
 use std::alloc::{AllocError, Global};
-use std::io::{ErrorKind, Write};
-use std::{io, slice};
+use std::io::Write;
 
-/// The property object-list (clause 21).
-const OBJECT_LIST: u32 = 76;
-
-/// So many objects, or elements of a list, are asked for before the next ones are.
+/// The columns of so many objects are asked for before the next ones are.
 const BATCH: usize = 32;
 
-/// How many properties of an object are asked for.
-const COLUMNS: usize = 5;
-
-/// What stands behind why an object-list was not read.
-const ADVICE: &[u8] = b"--device N reads the list of device N\n";
-
-/// The object-list of a device, or an element of it.
-fn list_of(device: ObjectIdentifier, index: Option<u32>) -> PropertyReference {
-    PropertyReference {
-        object: device,
-        property: OBJECT_LIST,
-        index,
-    }
-}
-
-/// The elements of a batch of an object-list that has so many; batches are counted from 0.
-fn elements_of(
-    alloc: Global,
-    device: ObjectIdentifier,
-    batch: u32,
-    count: u32,
-) -> Result<Vec<PropertyReference>, AllocError> {
-    let mut elements = Vec::new(alloc);
-    let first = batch.saturating_mul(BATCH as u32);
-    for place in first..first.saturating_add(BATCH as u32).min(count) {
-        let index = Some(place.saturating_add(1));
-        elements.push(list_of(device, index))?;
-    }
-    Ok(elements)
-}
-
-/// The properties of the columns of some objects.
+/// What the columns of some objects are read from.
 fn columns_of(
     alloc: Global,
     objects: &[ObjectIdentifier],
-) -> Result<Vec<PropertyReference>, AllocError> {
+) -> Result<Vec<PropertyReference>, AllocError>
+    ensures { IfOk result (λ v. map property_reference_view v.items ≡ columns (map object_identifier_view objects.now)) }
+{
     let mut columns = Vec::new(alloc);
     for object in objects {
         columns.extend_from_slice(&point_references(*object))?;
@@ -64,200 +38,31 @@ fn columns_of(
     Ok(columns)
 }
 
-/// Tells why an object-list, or an element of it, was not read.
-fn tell_unlisted<M: ClientSockets, E: Write>(
-    desk: &Desk<'_, M>,
-    reference: PropertyReference,
-    end: &AskEnd,
-    err: &mut E,
-) -> Result<(), Status> {
-    if desk.tell_if_silent(slice::from_ref(end), err) {
-        return Ok(());
-    }
-    let Ok(line) = failure_line(desk.alloc, reference, outcome_of(end)) else {
-        return Err(no_memory(err));
-    };
-    // if that fails too, only the status is left
-    let _ = err.write_all(&line);
-    let _ = err.write_all(ADVICE);
-    Ok(())
+/// Whether the values of a property came, or the object has no such property.
+fn has_come(reference: PropertyReference, end: &AskEnd) -> bool
+    ensures { result ≡ has_come (property_reference_view reference) end.now }
+{
+    let outcome = outcome_of(end);
+    has_values(AnyRequest::ReadProperty(reference), outcome) || is_absent(outcome)
 }
 
-/// How the asks for properties ended.
-fn ends_of<M: ClientSockets, E: Write>(
-    desk: &Desk<'_, M>,
-    client: &mut Client<'_, M>,
-    references: &[PropertyReference],
-    err: &mut E,
-) -> Result<Vec<AskEnd>, Status> {
-    let Ok(lines) = lines_for(desk.alloc, desk.peer, references) else {
-        return Err(no_memory(err));
-    };
-    gather(desk.asking, WINDOW, client, &lines, err)
-}
-
-// ---- the objects
-
-/// Adds the objects with which elements of a list were answered. Answers the place of the first that was not.
-fn add_objects(
-    alloc: Global,
-    elements: &[PropertyReference],
-    ends: &[AskEnd],
-    objects: &mut Vec<ObjectIdentifier>,
-) -> Result<Option<usize>, NoMemory> {
-    for (place, (element, end)) in elements.iter().zip(ends).enumerate() {
-        match objects_of(alloc, *element, outcome_of(end))? {
-            Some(found) => objects.extend_from_slice(&found)?,
-            None => return Ok(Some(place)),
-        }
-    }
-    Ok(None)
-}
-
-/// Adds the objects of a batch of an object-list that has so many elements. Answers whether all came; where one did not, `err` says why.
-fn add_batch<M: ClientSockets, E: Write>(
-    desk: &Desk<'_, M>,
-    client: &mut Client<'_, M>,
-    elements: &[PropertyReference],
-    objects: &mut Vec<ObjectIdentifier>,
-    err: &mut E,
-) -> Result<bool, Status> {
-    let ends = ends_of(desk, client, elements, err)?;
-    let Ok(failed) = add_objects(desk.alloc, elements, &ends, objects) else {
-        return Err(no_memory(err));
-    };
-    let Some(place) = failed else {
-        return Ok(true);
-    };
-    if let (Some(element), Some(end)) = (elements.get(place), ends.get(place)) {
-        tell_unlisted(desk, *element, end, err)?;
-    }
-    Ok(false)
-}
-
-/// How many elements an object-list has. None where that was not told: `err` says why.
-fn count_asked<M: ClientSockets, E: Write>(
-    desk: &Desk<'_, M>,
-    client: &mut Client<'_, M>,
-    device: ObjectIdentifier,
-    err: &mut E,
-) -> Result<Option<u32>, Status> {
-    let reference = list_of(device, Some(0));
-    let question = question_of(desk.peer, reference);
-    let end = ask_on(desk.asking, client, &question, err)?;
-    let Ok(number) = number_of(desk.alloc, reference, outcome_of(&end)) else {
-        return Err(no_memory(err));
-    };
-    match number {
-        Some(number) => Ok(Some(u32::try_from(number).unwrap_or(u32::MAX))),
-        None => {
-            tell_unlisted(desk, reference, &end, err)?;
-            Ok(None)
-        }
-    }
-}
-
-/// The objects of an object-list, read element by element. None where one did not come: `err` says why.
-fn objects_in_parts<M: ClientSockets, E: Write>(
-    desk: &Desk<'_, M>,
-    client: &mut Client<'_, M>,
-    device: ObjectIdentifier,
-    err: &mut E,
-) -> Result<Option<Vec<ObjectIdentifier>>, Status> {
-    let Some(count) = count_asked(desk, client, device, err)? else {
-        return Ok(None);
-    };
-    let mut objects = Vec::new(desk.alloc);
-    for batch in 0..count.div_ceil(BATCH as u32) {
-        let Ok(elements) = elements_of(desk.alloc, device, batch, count) else {
-            return Err(no_memory(err));
+/// Whether those of each property did.
+fn have_come(references: &[PropertyReference], ends: &[AskEnd]) -> bool
+    ensures { result ≡ have_come (map property_reference_view references.now) ends.now }
+{
+    let mut references = references;
+    let mut ends = ends;
+    while let [reference, more_references @ ..] = references {
+        let [end, more_ends @ ..] = ends else {
+            return false;
         };
-        let came = add_batch(desk, client, &elements, &mut objects, err)?;
-        if !came {
-            return Ok(None);
+        if !has_come(*reference, end) {
+            return false;
         }
+        references = more_references;
+        ends = more_ends;
     }
-    Ok(Some(objects))
-}
-
-/// The objects of a device: its object-list as a whole, or element by element where it comes no other way. None where it did not come: `err` says why.
-fn objects_asked<M: ClientSockets, E: Write>(
-    desk: &Desk<'_, M>,
-    client: &mut Client<'_, M>,
-    device: ObjectIdentifier,
-    err: &mut E,
-) -> Result<Option<Vec<ObjectIdentifier>>, Status> {
-    let reference = list_of(device, None);
-    let question = question_of(desk.peer, reference);
-    let end = ask_on(desk.asking, client, &question, err)?;
-    match after_list(desk.alloc, reference, outcome_of(&end)) {
-        Ok(ListStep::Objects(objects)) => Ok(Some(objects)),
-        Ok(ListStep::InParts) => objects_in_parts(desk, client, device, err),
-        Ok(ListStep::Failed) => {
-            tell_unlisted(desk, reference, &end, err)?;
-            Ok(None)
-        }
-        Err(_) => Err(no_memory(err)),
-    }
-}
-
-// ---- the table
-
-/// Prints the line of an object. Answers whether each property that it has came.
-fn print_point<O: Write>(
-    alloc: Global,
-    object: ObjectIdentifier,
-    ends: &[AskEnd],
-    out: &mut O,
-) -> io::Result<bool> {
-    let mut cells = Vec::new(alloc);
-    let mut all = true;
-    for (reference, end) in point_references(object).iter().zip(ends) {
-        let Ok(cell) = cell_of(alloc, *reference, outcome_of(end)) else {
-            return Err(io::Error::from(ErrorKind::OutOfMemory));
-        };
-        all = all && !cell.is_faulty;
-        cells.push(cell)?;
-    }
-    out.write_all(&point_line(alloc, object, &cells)?)?;
-    Ok(all)
-}
-
-/// Prints the lines of some objects. Answers whether each property that they have came.
-fn print_points<O: Write>(
-    alloc: Global,
-    objects: &[ObjectIdentifier],
-    ends: &[AskEnd],
-    out: &mut O,
-) -> io::Result<bool> {
-    let mut all = true;
-    for (object, ends) in objects.iter().zip(ends.chunks(COLUMNS)) {
-        let came = print_point(alloc, *object, ends, out)?;
-        all = all && came;
-    }
-    out.flush()?;
-    Ok(all)
-}
-
-/// Asks for the columns of some objects, and prints their lines. Answers whether each property that they have came; where the node did not answer, `err` says so.
-fn list_batch<M: ClientSockets, O: Write, E: Write>(
-    desk: &Desk<'_, M>,
-    client: &mut Client<'_, M>,
-    objects: &[ObjectIdentifier],
-    out: &mut O,
-    err: &mut E,
-) -> Result<ListedBatch, Status> {
-    let Ok(columns) = columns_of(desk.alloc, objects) else {
-        return Err(no_memory(err));
-    };
-    let ends = ends_of(desk, client, &columns, err)?;
-    match print_points(desk.alloc, objects, &ends, out) {
-        Ok(is_whole) => Ok(ListedBatch {
-            is_whole,
-            is_silent: desk.tell_if_silent(&ends, err),
-        }),
-        Err(error) => Err(output_failed(err, &error)),
-    }
+    true
 }
 
 /// What came of a batch.
@@ -269,33 +74,116 @@ struct ListedBatch {
     is_silent: bool,
 }
 
-/// Prints the line of the columns' names.
-fn print_names<O: Write, E: Write>(out: &mut O, err: &mut E) -> Result<(), Status> {
-    match out.write_all(HEADER.as_bytes()) {
-        Ok(()) => Ok(()),
+/// Asks for the columns of some objects, and prints their lines. Answers what came; where the node did not answer, `err` says so.
+fn list_batch<M: ClientSockets, O: Write, E: Write>(
+    desk: &Desk<'_, M>,
+    client: &mut Client<'_, M>,
+    objects: &[ObjectIdentifier],
+    table: &mut Table,
+    out: &mut O,
+    err: &mut E,
+) -> Result<ListedBatch, Status>
+    ensures asked { IfOk result (λ l. AsksColumns (OnPort M.is_bound M.Link.failures M.Link.calls) desk.now.asking.now (peer_view desk.now.peer)
+        (columns (map object_identifier_view objects.now)) l.is_whole l.is_silent
+        (timed client.old.station.bound_node (M.Timer.told client.old.station.clock))
+        (timed client.new.station.bound_node (M.Timer.told client.new.station.clock))) }
+    ensures failed { IfErr result IsFailure }
+{
+    let Ok(columns) = columns_of(desk.alloc, objects) else {
+        return Err(no_memory(err));
+    };
+    let ends = ends_of(desk, client, &columns, err)?;
+    if let Err(error) = table.print(objects, &ends, out) {
+        return Err(output_failed(err, &error));
+    }
+    Ok(ListedBatch {
+        is_whole: have_come(&columns, &ends),
+        is_silent: desk.tell_if_silent(&ends, err),
+    })
+}
+
+/// Asks for the columns of objects, some at a time, until the node does not answer, and prints their lines. Answers whether each property that they have came.
+fn list_objects<M: ClientSockets, O: Write, E: Write>(
+    desk: &Desk<'_, M>,
+    client: &mut Client<'_, M>,
+    objects: &[ObjectIdentifier],
+    table: &mut Table,
+    out: &mut O,
+    err: &mut E,
+) -> Result<bool, Status>
+    ensures read { IfOk result (λ all. ReadsColumns (OnPort M.is_bound M.Link.failures M.Link.calls) desk.now.asking.now (peer_view desk.now.peer)
+        (map object_identifier_view objects.now) all
+        (timed client.old.station.bound_node (M.Timer.told client.old.station.clock))
+        (timed client.new.station.bound_node (M.Timer.told client.new.station.clock))) }
+    ensures failed { IfErr result IsFailure }
+{
+    let mut rest = objects;
+    let mut all = true;
+    while !rest.is_empty() {
+        let (batch, more) = rest.split_at(rest.len().min(BATCH));
+        let listed = list_batch(desk, client, batch, table, out, err)?;
+        all = all && listed.is_whole;
+        if listed.is_silent {
+            return Ok(all);
+        }
+        rest = more;
+    }
+    Ok(all)
+}
+
+/// Prints the table of these objects. Answers whether each property that they have came.
+fn list_table<M: ClientSockets, O: Write, E: Write>(
+    desk: &Desk<'_, M>,
+    client: &mut Client<'_, M>,
+    objects: &[ObjectIdentifier],
+    is_screen: bool,
+    out: &mut O,
+    err: &mut E,
+) -> Result<bool, Status>
+    ensures read { IfOk result (λ all. ReadsColumns (OnPort M.is_bound M.Link.failures M.Link.calls) desk.now.asking.now (peer_view desk.now.peer)
+        (map object_identifier_view objects.now) all
+        (timed client.old.station.bound_node (M.Timer.told client.old.station.clock))
+        (timed client.new.station.bound_node (M.Timer.told client.new.station.clock))) }
+    ensures failed { IfErr result IsFailure }
+{
+    let mut table = Table::new(desk.alloc, desk.asking.records, is_screen);
+    match table.begin(objects, out) {
+        Ok(()) => list_objects(desk, client, objects, &mut table, out, err),
         Err(error) => Err(output_failed(err, &error)),
     }
 }
 
-/// Prints the objects of a device, by its instance: a table with a line for each. Answers whether each property that they have came.
-pub(crate) fn list<M: ClientSockets, O: Write, E: Write>(
+/// Reads the objects of a device, and prints their table. Answers whether the list came, and each property that the objects have.
+fn list_points<M: ClientSockets, O: Write, E: Write>(
     desk: &Desk<'_, M>,
-    device: ObjectIdentifier,
+    client: &mut Client<'_, M>,
+    listing: Listing,
     out: &mut O,
     err: &mut E,
-) -> Result<bool, Status> {
-    let mut client = desk.client(err)?;
-    let Some(objects) = objects_asked(desk, &mut client, device, err)? else {
-        return Ok(false);
-    };
-    print_names(out, err)?;
-    let mut all = true;
-    for batch in objects.chunks(BATCH) {
-        let listed = list_batch(desk, &mut client, batch, out, err)?;
-        if listed.is_silent {
-            return Ok(false);
-        }
-        all = all && listed.is_whole;
+) -> Result<bool, Status>
+    ensures read { IfOk result (λ all. ReadsPoints (OnPort M.is_bound M.Link.failures M.Link.calls) desk.now.asking.now (peer_view desk.now.peer)
+        (object_identifier_view listing.device) all
+        (timed client.old.station.bound_node (M.Timer.told client.old.station.clock))
+        (timed client.new.station.bound_node (M.Timer.told client.new.station.clock))) }
+    ensures failed { IfErr result IsFailure }
+{
+    match objects_asked(desk, client, listing.device, err)? {
+        Some(objects) => list_table(desk, client, &objects, listing.is_screen, out, err),
+        None => Ok(false),
     }
-    Ok(all)
+}
+
+/// Prints the objects of a device, by its instance: a table with a line for each. Answers whether the list came, and each property that the objects have.
+pub(crate) fn list<M: ClientSockets, O: Write, E: Write>(
+    desk: &Desk<'_, M>,
+    listing: Listing,
+    out: &mut O,
+    err: &mut E,
+) -> Result<bool, Status>
+    ensures read { IfOk result (λ all. Lists (OnPort M.is_bound M.Link.failures M.Link.calls) (OnClock M.is_made M.Timer.told) desk.now.asking.now (peer_view desk.now.peer)
+        (object_identifier_view listing.device) all) }
+    ensures failed { IfErr result IsFailure }
+{
+    let mut client = desk.client(err)?;
+    list_points(desk, &mut client, listing, out, err)
 }

@@ -1,8 +1,9 @@
 //! Doing what `read`, `write` and `points` ask for.
-ghost use Rattle.std.specs.Prelude.{IfErr, IfOk};
+ghost use Rattle.std.specs.Prelude.{◌≡◌, false, true, IfErr, IfOk, MatchOption};
 ghost use Rattle.bac_text.specs.Statuses.{IsFailure};
 ghost use Rattle.bac_asking.specs.Online.{IsClient};
 ghost use Rattle.bac_environment.specs.Sockets.{OnClock, OnPort};
+ghost use Rattle.bac_points.specs.Lists.{any_silent};
 ghost use Rattle.bac_points.specs.Points.{ArePoints};
 
 use crate::listing::list;
@@ -28,6 +29,20 @@ pub(crate) struct Desk<'e, M> {
     pub peer: Peer,
 }
 
+/// How the first ask ended that got no answer; None exactly if each got one.
+fn first_silent(ends: &[AskEnd]) -> Option<&AskEnd>
+    ensures { MatchOption result (any_silent ends.now ≡ false) (λ _. any_silent ends.now ≡ true) }
+{
+    let mut rest = ends;
+    while let [end, more @ ..] = rest {
+        if is_silent(outcome_of(end)) {
+            return Some(end);
+        }
+        rest = more;
+    }
+    None
+}
+
 impl<'e, M: ClientSockets> Desk<'e, M> {
     /// A client that has asked nothing. Where there is none, `err` and the status say so.
     pub(crate) fn client<E: Write>(&self, err: &mut E) -> Result<Client<'e, M>, Status>
@@ -39,8 +54,10 @@ impl<'e, M: ClientSockets> Desk<'e, M> {
     }
 
     /// If an ask got no answer, `err` says so, and what to look at. Answers whether one did not.
-    pub(crate) fn tell_if_silent<E: Write>(&self, ends: &[AskEnd], err: &mut E) -> bool {
-        let Some(end) = ends.iter().find(|end| is_silent(outcome_of(end))) else {
+    pub(crate) fn tell_if_silent<E: Write>(&self, ends: &[AskEnd], err: &mut E) -> bool
+        ensures { result ≡ any_silent ends.now }
+    {
+        let Some(end) = first_silent(ends) else {
             return false;
         };
         let timeout = self.asking.timeout;
@@ -66,7 +83,7 @@ pub fn do_with_points<F: OpenFiles, M: ClientSockets, O: Write, E: Write>(
     out: &mut O,
     err: &mut E,
 ) -> Status
-    ensures { ArePoints (OnPort M.is_bound M.Link.failures M.Link.calls) (OnClock M.is_made M.Timer.told) task.now result }
+    ensures { ArePoints (OnPort M.is_bound M.Link.failures M.Link.calls) (OnClock M.is_made M.Timer.told) task.now result (O.contents out.old) (O.contents out.new) }
 {
     let desk = Desk {
         alloc: environment.alloc,
@@ -77,7 +94,7 @@ pub fn do_with_points<F: OpenFiles, M: ClientSockets, O: Write, E: Write>(
     let done = match task.work {
         PointWork::Read(words) => read(&desk, words, out, err),
         PointWork::Write(writing) => write(&desk, writing, out, err),
-        PointWork::List(device) => list(&desk, device, out, err),
+        PointWork::List(listing) => list(&desk, listing, out, err),
     };
     match done {
         Ok(true) => Status::Done,

@@ -1,7 +1,7 @@
 //! What a node is asked for.
 ghost use Rattle.std.specs.Prelude.{◌≡◌, map, IfErr, IfOk};
 ghost use Rattle.bac_npdu.specs.Views.{peer_view};
-ghost use Rattle.bac_service.specs.Views.{property_reference_view};
+ghost use Rattle.bac_service.specs.Views.{owned_request_view, property_reference_view};
 ghost use Rattle.bac_service.specs.Values.Request.{ReadProperty};
 ghost use Rattle.bac_driver.specs.Views.{question_view};
 ghost use Rattle.bac_commands.specs.Questions.{IsQuestion, question_for};
@@ -16,7 +16,7 @@ use bac_driver::Question;
 use bac_lists::{LineQuestion, print_bad_words};
 use bac_npdu::Peer;
 use bac_point_report::Target;
-use bac_service::{AnyRequest, PropertyReference};
+use bac_service::{AnyRequest, OwnedRequest, PropertyReference};
 use bac_service_text::FormFault;
 use bac_text::{Status, no_memory};
 use std::alloc::{AllocError, Global};
@@ -32,15 +32,22 @@ const LIMITS: Limits = Limits {
     max_segments: 7,
 };
 
-/// The question for a property.
-pub(crate) fn question_of(peer: Peer, reference: PropertyReference) -> Question
-    ensures { question_view result ≡ question_for (peer_view peer) (ReadProperty (property_reference_view reference)) }
+/// The question that asks for a request.
+pub(crate) fn question_for(peer: Peer, request: OwnedRequest) -> Question
+    ensures { question_view result ≡ question_for (peer_view peer) (owned_request_view request) }
 {
     Question {
         peer,
         limits: LIMITS,
-        request: AnyRequest::ReadProperty(reference),
+        request,
     }
+}
+
+/// The question for a property.
+pub(crate) fn question_of(peer: Peer, reference: PropertyReference) -> Question
+    ensures { question_view result ≡ question_for (peer_view peer) (ReadProperty (property_reference_view reference)) }
+{
+    question_for(peer, AnyRequest::ReadProperty(reference))
 }
 
 /// The line of a question in a list without names.

@@ -12,7 +12,7 @@ use crate::performing::Desk;
 use crate::questions::{WINDOW, lines_in};
 use bac_ask_report::Outcome;
 use bac_asking::{Client, ClientSockets, gather, outcome_of, print_header};
-use bac_driver::{AskEnd, Question};
+use bac_driver::AskEnd;
 use bac_lists::LineQuestion;
 use bac_point_report::{
     failure_line, has_values, is_silent, shown, targets_in, value_line, values_of,
@@ -22,15 +22,6 @@ use bac_text::{Status, no_memory, output_failed};
 use std::alloc::Global;
 use std::io;
 use std::io::{ErrorKind, Write};
-
-/// The property that a question is for. None if it is for a file.
-pub(crate) fn reference_of(question: &Question) -> Option<PropertyReference> {
-    match question.request.as_request() {
-        AnyRequest::ReadProperty(reference) => Some(reference),
-        AnyRequest::WriteProperty(write) => Some(write.reference),
-        AnyRequest::ReadFile(_) | AnyRequest::WriteFile(_) => None,
-    }
-}
 
 /// Whether a line was answered with a value.
 fn is_valued(line: &LineQuestion, end: &AskEnd) -> bool
@@ -95,7 +86,7 @@ fn print_answers<O: Write, E: Write>(
 ) -> io::Result<()> {
     let is_named = lines.len() > 1;
     for (line, end) in lines.iter().zip(ends) {
-        if let Some(reference) = reference_of(&line.question) {
+        if let Some(reference) = line.question.request.as_request().property() {
             print_answer(alloc, is_named, reference, outcome_of(end), out, err)?;
         }
     }

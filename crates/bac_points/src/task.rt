@@ -6,6 +6,7 @@ use bac_asking::{Asking, ClientSockets, RecordForm};
 use bac_commands::{OutputFormat, Style};
 use bac_lists::{BACNET_PORT, EVERY_HOST, LOCAL_HOST, link_at, read_link, read_route};
 use bac_npdu::{LinkAddress, Peer, Route};
+use bac_service::Priority;
 use bac_value::ObjectIdentifier;
 use clap::ArgMatches;
 
@@ -26,10 +27,19 @@ const FORMAT: OutputFormat = OutputFormat {
 pub struct Writing<'m, 'a> {
     /// The object, the property if it is not the present-value, and the value.
     pub words: &'m [&'a str],
-    /// The priority, 1 to 16. None if none is given.
-    pub priority: Option<u64>,
+    /// The priority. None if none is given.
+    pub priority: Option<Priority>,
     /// The name of the value's kind. None if it is that of the value that the property has.
     pub kind: Option<&'a str>,
+}
+
+/// Whose objects are listed, and where.
+#[derive(Clone, Copy)]
+pub struct Listing {
+    /// The device.
+    pub device: ObjectIdentifier,
+    /// Whether a terminal shows the table, whose columns are aligned then.
+    pub is_screen: bool,
 }
 
 /// What is done with properties of a node.
@@ -39,8 +49,8 @@ pub enum PointWork<'m, 'a> {
     Read(&'m [&'a str]),
     /// A property gets a value.
     Write(Writing<'m, 'a>),
-    /// The objects of this device are printed.
-    List(ObjectIdentifier),
+    /// The objects of a device are printed.
+    List(Listing),
 }
 
 /// How a node is asked, which node, and what for.
@@ -52,6 +62,22 @@ pub struct PointTask<'m, 'a> {
 }
 
 impl<'m, 'a> PointTask<'m, 'a> {
+    /// The same, but what it prints is shown on a terminal, or is not.
+    pub fn shown_on(self, is_screen: bool) -> PointTask<'m, 'a> {
+        let work = match self.work {
+            PointWork::List(listing) => PointWork::List(Listing {
+                device: listing.device,
+                is_screen,
+            }),
+            work => work,
+        };
+        PointTask {
+            asking: self.asking,
+            peer: self.peer,
+            work,
+        }
+    }
+
     /// The same, but asked from the address of this machine that the peer sees, if the machine tells it.
     pub fn from_source<M: ClientSockets>(self, machine: &M) -> PointTask<'m, 'a> {
         PointTask {
@@ -85,7 +111,15 @@ fn peer_in(given: &ArgMatches<'_>) -> Option<Peer> {
     Some(Peer { link, route })
 }
 
-/// The form of the records that `read` prints; None where it prints none.
+/// The priority of a write, where one is given. None where it is none.
+fn priority_in(given: &ArgMatches<'_>) -> Option<Option<Priority>> {
+    match given.get_one::<u64>("priority") {
+        Some(number) => Some(Some(Priority::new(u8::try_from(number).ok()?)?)),
+        None => Some(None),
+    }
+}
+
+/// The form of the records that are printed; None where none are.
 fn records_in(given: &ArgMatches<'_>) -> Option<RecordForm> {
     if given.get_flag("json") {
         Some(RecordForm::Json)
@@ -136,14 +170,17 @@ pub fn point_task_of<'m, 'a>(
             peer,
             work: PointWork::Write(Writing {
                 words: given.get_strs("OBJECT")?,
-                priority: given.get_one("priority"),
+                priority: priority_in(given)?,
                 kind: given.get_str("kind"),
             }),
         }),
         "points" => Some(PointTask {
-            asking: asking_in(given, None)?,
+            asking: asking_in(given, records_in(given))?,
             peer,
-            work: PointWork::List(device_in(given)?),
+            work: PointWork::List(Listing {
+                device: device_in(given)?,
+                is_screen: false,
+            }),
         }),
         _ => None,
     }

@@ -1,27 +1,50 @@
 //! `bac write`: a property gets a value.
+ghost use Rattle.std.specs.Prelude.{◌≡◌, codes, map, IfErr, IfOk, OnOk};
+ghost use Rattle.std.specs.Option.{option_map};
+ghost use Rattle.std.specs.Io.KnownBytes.{Appends};
+ghost use Rattle.bac_npdu.specs.Views.{peer_view};
+ghost use Rattle.bac_service.specs.Values.Request.{ReadProperty};
+ghost use Rattle.bac_service.specs.Views.{property_reference_view};
+ghost use Rattle.bac_driver.specs.Runs.{timed};
+ghost use Rattle.bac_driver.specs.Views.{question_view};
+ghost use Rattle.bac_text.specs.Statuses.{IsFailure, IsStop};
+ghost use Rattle.bac_point_report.specs.Outcomes.{values_of};
+ghost use Rattle.bac_point_report.specs.Targets.{target_view};
+ghost use Rattle.bac_asking.specs.Recording.{outcome_of};
+ghost use Rattle.bac_environment.specs.Sockets.{OnClock, OnPort};
+ghost use Rattle.bac_points.specs.Writes.{AsksKind, FindsKind, IsKindOf, IsOrder, IsWriting, PrintsBack, PrintsFound, PrintsOther, ReadsBack, Writes, WritesAs, WritesOnce, WritesOrder};
+ghost use Rattle.bac_points.specs.Writes.{differs_line, order_view, ordered_in, writes_values};
 
 use crate::performing::Desk;
-use crate::questions::question_by;
-use crate::reading::reference_of;
+use crate::questions::{question_by, question_for};
 use crate::task::Writing;
 use bac_asking::{Client, ClientSockets, ask_on, outcome_of};
 use bac_driver::{AskEnd, Question};
 use bac_point_report::{
-    Target, failure_line, is_done, kind_in, kind_named, shown, value_line, values_of, written_word,
+    Target, failure_line, is_done, kind_in, kind_named, shown, value_line, values_of,
+    written_values,
 };
 use bac_point_text::{Kind, WrittenFault};
-use bac_service::{AnyRequest, PropertyReference};
+use bac_service::{AnyRequest, Priority, PropertyReference, WriteProperty};
 use bac_text::{Status, no_memory, output_failed};
+use bac_value::Data;
+use std::alloc::{AllocError, Global};
 use std::io::{ErrorKind, Write};
-use std::{io, slice, str};
+use std::{io, slice};
 
-/// A property that is to get a value: by its words, and the question that reads it.
+/// A property that is to get a value.
 #[derive(Drop)]
-struct Order<'a> {
-    target: Target<'a>,
-    text: &'a str,
-    reading: Question,
-    reference: PropertyReference,
+pub(crate) struct Order<'a> {
+    /// The text of the value.
+    pub text: &'a str,
+    /// The priority, if one is given.
+    pub priority: Option<Priority>,
+    /// The name of the value's kind, if one is given.
+    pub kind: Option<&'a str>,
+    /// The question that reads the property.
+    pub reading: Question,
+    /// The property.
+    pub reference: PropertyReference,
 }
 
 /// What is printed where a property got the value.
@@ -30,8 +53,13 @@ const WRITTEN: &[u8] = b"written\n";
 /// What is printed where it has another value now; the line of that stands behind.
 const DIFFERS: &[u8] = b"written, but now ";
 
+/// What the words have to be.
+const FORM: &str = "expected OBJECT [PROPERTY] VALUE";
+
 /// The property that is written, and the text of its new value. None if the words are not those.
-fn written_in<'a>(words: &[&'a str]) -> Option<(Target<'a>, &'a str)> {
+fn ordered_in<'a>(words: &[&'a str]) -> Option<(Target<'a>, &'a str)>
+    ensures { option_map (λ o. (target_view o.0, o.1.now)) result ≡ ordered_in (map (λ w. w.now) words.now) }
+{
     match words {
         [object, text] => {
             let target = Target {
@@ -47,19 +75,25 @@ fn written_in<'a>(words: &[&'a str]) -> Option<(Target<'a>, &'a str)> {
             };
             Some((target, *text))
         }
-        _ => None,
+        [] => None,
+        [_] => None,
+        [_, _, _, _, ..] => None,
     }
 }
 
 /// Complains of words that are bad.
-fn print_bad<E: Write>(reason: &str, err: &mut E) -> Status {
+fn print_bad<E: Write>(reason: &str, err: &mut E) -> Status
+    ensures { IsStop result }
+{
     // if that fails too, only the status is left
     let _ = writeln!(err, "bad words: {reason}");
     Status::CommandLine
 }
 
 /// Complains of a text that is no value of the kind that is wanted.
-fn print_bad_value<E: Write>(text: &str, fault: WrittenFault, err: &mut E) -> Status {
+fn print_bad_value<E: Write>(text: &str, fault: WrittenFault, err: &mut E) -> Status
+    ensures { IsStop result }
+{
     match fault {
         WrittenFault::NoMemory => return no_memory(err),
         WrittenFault::UnknownName {
@@ -79,26 +113,30 @@ fn print_bad_value<E: Write>(text: &str, fault: WrittenFault, err: &mut E) -> St
     Status::CommandLine
 }
 
-/// What words order to be written. Where they are no such words, `err` and the status say so.
+/// What the words of a write order. Where they are no such words, `err` and the status say so.
 fn order_of<'a, M: ClientSockets, E: Write>(
     desk: &Desk<'_, M>,
-    words: &[&'a str],
+    writing: Writing<'_, 'a>,
     err: &mut E,
-) -> Result<Order<'a>, Status> {
-    let Some((target, text)) = written_in(words) else {
-        return Err(print_bad("expected OBJECT [PROPERTY] VALUE", err));
+) -> Result<Order<'a>, Status>
+    ensures read { IfOk result (λ o. IsOrder (peer_view desk.now.peer) writing.entry (order_view o)) }
+    ensures told { IfErr result IsStop }
+{
+    let Some((target, text)) = ordered_in(writing.words) else {
+        return Err(print_bad(FORM, err));
     };
     let words = ["read", target.object, target.property];
     let reading = question_by(desk.alloc, desk.peer, &words, err)?;
-    let Some(reference) = reference_of(&reading) else {
-        return Err(print_bad("expected OBJECT [PROPERTY] VALUE", err));
-    };
-    Ok(Order {
-        target,
-        text,
-        reading,
-        reference,
-    })
+    match reading.request.as_request().property() {
+        Some(reference) => Ok(Order {
+            text,
+            priority: writing.priority,
+            kind: writing.kind,
+            reading,
+            reference,
+        }),
+        None => Err(print_bad(FORM, err)),
+    }
 }
 
 /// Tells why an ask for a property did not succeed.
@@ -107,7 +145,9 @@ fn tell_failure<M: ClientSockets, E: Write>(
     reference: PropertyReference,
     end: &AskEnd,
     err: &mut E,
-) -> Result<(), Status> {
+) -> Result<(), Status>
+    ensures { IfErr result IsFailure }
+{
     if desk.tell_if_silent(slice::from_ref(end), err) {
         return Ok(());
     }
@@ -119,17 +159,22 @@ fn tell_failure<M: ClientSockets, E: Write>(
     Ok(())
 }
 
-/// The kind of the value that a property has. None where it did not come: `err` says why. Where it has none of its own, `err` and the status say so.
-fn kind_asked<M: ClientSockets, E: Write>(
+// ---- the kind of the new value
+
+/// The kind of the value with which a read of a property was answered. None where no value came: `err` says why. Where the value has none of its own, `err` and
+/// the status say so.
+fn kind_answered<M: ClientSockets, E: Write>(
     desk: &Desk<'_, M>,
-    client: &mut Client<'_, M>,
-    order: &Order<'_>,
+    reference: PropertyReference,
+    end: &AskEnd,
     err: &mut E,
-) -> Result<Option<Kind>, Status> {
-    let end = ask_on(desk.asking, client, &order.reading, err)?;
-    let request = AnyRequest::ReadProperty(order.reference);
-    let Some(values) = values_of(request, outcome_of(&end)) else {
-        tell_failure(desk, order.reference, &end, err)?;
+) -> Result<Option<Kind>, Status>
+    ensures kind { IfOk result (λ kind. IsKindOf (values_of (ReadProperty (property_reference_view reference)) (outcome_of end.now)) kind) }
+    ensures told { IfErr result IsStop }
+{
+    let request = AnyRequest::ReadProperty(reference);
+    let Some(values) = values_of(request, outcome_of(end)) else {
+        tell_failure(desk, reference, end, err)?;
         return Ok(None);
     };
     match kind_in(desk.alloc, values) {
@@ -142,89 +187,165 @@ fn kind_asked<M: ClientSockets, E: Write>(
     }
 }
 
+/// The kind of the value that a property has, as `kind_answered` does.
+fn kind_asked<M: ClientSockets, E: Write>(
+    desk: &Desk<'_, M>,
+    client: &mut Client<'_, M>,
+    order: &Order<'_>,
+    err: &mut E,
+) -> Result<Option<Kind>, Status>
+    ensures asked { IfOk result (λ kind. AsksKind (OnPort M.is_bound M.Link.failures M.Link.calls) desk.now.asking.now (order_view order.now) kind
+        (timed client.old.station.bound_node (M.Timer.told client.old.station.clock))
+        (timed client.new.station.bound_node (M.Timer.told client.new.station.clock))) }
+    ensures told { IfErr result IsStop }
+{
+    let end = ask_on(desk.asking, client, &order.reading, err)?;
+    kind_answered(desk, order.reference, &end, err)
+}
+
 /// The kind that the new value has: that of the given name, or that of the value that the property has. None where it did not come.
 fn kind_of<M: ClientSockets, E: Write>(
     desk: &Desk<'_, M>,
     client: &mut Client<'_, M>,
     order: &Order<'_>,
-    name: Option<&str>,
     err: &mut E,
-) -> Result<Option<Kind>, Status> {
-    match name {
+) -> Result<Option<Kind>, Status>
+    ensures found { IfOk result (λ kind. FindsKind (OnPort M.is_bound M.Link.failures M.Link.calls) desk.now.asking.now (order_view order.now) kind
+        (timed client.old.station.bound_node (M.Timer.told client.old.station.clock))
+        (timed client.new.station.bound_node (M.Timer.told client.new.station.clock))) }
+    ensures told { IfErr result IsStop }
+{
+    match order.kind {
         Some(name) => Ok(kind_named(name)),
         None => kind_asked(desk, client, order, err),
     }
 }
 
-/// The question that writes the value of that kind. Where the text is none, `err` and the status say so.
-fn writing_question<M: ClientSockets, E: Write>(
-    desk: &Desk<'_, M>,
-    order: &Order<'_>,
-    kind: Kind,
-    priority: Option<u64>,
-    err: &mut E,
-) -> Result<Question, Status> {
-    let alloc = desk.alloc;
-    let word = match written_word(alloc, order.reference, kind, order.text) {
-        Ok(word) => word,
-        Err(fault) => return Err(print_bad_value(order.text, fault, err)),
-    };
-    let Ok(value) = str::from_utf8(&word) else {
-        return Err(print_bad("the value is not UTF-8", err));
-    };
-    let target = order.target;
-    let Some(priority) = priority else {
-        let words = ["write", target.object, target.property, value];
-        return question_by(alloc, desk.peer, &words, err);
-    };
-    let Ok(number) = format!(in alloc; "{priority}") else {
-        return Err(no_memory(err));
-    };
-    let words = [
-        "write",
-        target.object,
-        target.property,
-        value,
-        "priority",
-        number.as_str(),
-    ];
-    question_by(alloc, desk.peer, &words, err)
-}
+// ---- what is printed
 
 /// Whether those octets are the values that a question writes.
-fn has_values_of(question: &Question, octets: &[u8]) -> bool {
+fn writes_values(question: &Question, octets: &[u8]) -> bool
+    ensures { result ≡ writes_values (question_view question.now).request octets.now }
+{
     match question.request.as_request() {
         AnyRequest::WriteProperty(write) => write.values.octets == octets,
-        _ => false,
+        AnyRequest::ReadProperty(_) => false,
+        AnyRequest::ReadFile(_) => false,
+        AnyRequest::WriteFile(_) => false,
     }
 }
 
+/// The line of another value that reads back.
+fn differs_line(alloc: Global, value: &[u8]) -> Result<Vec<u8>, AllocError>
+    ensures { IfOk result (λ t. t.items ≡ differs_line value.now) }
+{
+    let line = value_line(alloc, None, value)?;
+    let mut text = Vec::from_slice(alloc, DIFFERS)?;
+    text.extend_from_slice(&line)?;
+    Ok(text)
+}
+
+/// Prints a line.
+fn print_line<O: Write>(line: &[u8], out: &mut O) -> io::Result<()>
+    ensures { OnOk result (Appends (O.contents out.old) (O.contents out.new) line.now) }
+{
+    out.write_all(line)?;
+    out.flush()
+}
+
+/// Prints that a property was written, which has another value now.
+fn print_other<O: Write>(
+    alloc: Global,
+    reference: PropertyReference,
+    values: Data<'_>,
+    out: &mut O,
+) -> io::Result<()>
+    ensures { OnOk result (PrintsOther (property_reference_view reference) values.entry.octets.now (O.contents out.old) (O.contents out.new)) }
+{
+    let Ok(value) = shown(alloc, reference, values) else {
+        return Err(io::Error::from(ErrorKind::OutOfMemory));
+    };
+    let line = differs_line(alloc, &value)?;
+    print_line(&line, out)
+}
+
 /// Prints that a property was written, and what it has now if that is something else.
-fn print_written<M: ClientSockets, O: Write, E: Write>(
-    desk: &Desk<'_, M>,
-    order: &Order<'_>,
+fn print_found<O: Write>(
+    alloc: Global,
+    reference: PropertyReference,
+    question: &Question,
+    values: Data<'_>,
+    out: &mut O,
+) -> io::Result<()>
+    ensures { OnOk result (PrintsFound (writes_values (question_view question.now).request values.entry.octets.now) (property_reference_view reference)
+        values.entry.octets.now (O.contents out.old) (O.contents out.new)) }
+{
+    if writes_values(question, values.octets) {
+        print_line(WRITTEN, out)
+    } else {
+        print_other(alloc, reference, values, out)
+    }
+}
+
+/// Prints that a property was written, which could not be read back: `err` says why.
+fn print_unread<O: Write, E: Write>(
+    alloc: Global,
+    reference: PropertyReference,
+    end: &AskEnd,
+    out: &mut O,
+    err: &mut E,
+) -> io::Result<()>
+    ensures { OnOk result (Appends (O.contents out.old) (O.contents out.new) (codes "written\n")) }
+{
+    print_line(WRITTEN, out)?;
+    // if that fails too, only the status is left
+    let _ = err.write_all(&failure_line(alloc, reference, outcome_of(end))?);
+    Ok(())
+}
+
+/// Prints that a property was written, and what came of reading it back if that is something else.
+fn print_back<O: Write, E: Write>(
+    alloc: Global,
+    reference: PropertyReference,
     question: &Question,
     end: &AskEnd,
     out: &mut O,
     err: &mut E,
-) -> io::Result<()> {
-    let request = AnyRequest::ReadProperty(order.reference);
-    let Some(values) = values_of(request, outcome_of(end)) else {
-        out.write_all(WRITTEN)?;
-        out.flush()?;
-        let line = failure_line(desk.alloc, order.reference, outcome_of(end))?;
-        return err.write_all(&line);
-    };
-    if has_values_of(question, values.octets) {
-        out.write_all(WRITTEN)?;
-        return out.flush();
+) -> io::Result<()>
+    ensures { OnOk result (PrintsBack (question_view question.now).request (property_reference_view reference)
+        (values_of (ReadProperty (property_reference_view reference)) (outcome_of end.now)) (O.contents out.old) (O.contents out.new)) }
+{
+    let request = AnyRequest::ReadProperty(reference);
+    match values_of(request, outcome_of(end)) {
+        Some(values) => print_found(alloc, reference, question, values, out),
+        None => print_unread(alloc, reference, end, out, err),
     }
-    let Ok(value) = shown(desk.alloc, order.reference, values) else {
-        return Err(io::Error::from(ErrorKind::OutOfMemory));
-    };
-    out.write_all(DIFFERS)?;
-    out.write_all(&value_line(desk.alloc, None, &value)?)?;
-    out.flush()
+}
+
+// ---- the write
+
+/// The question that writes the value. Where the text is none of that kind, `err` and the status say so.
+fn writing_question<M: ClientSockets, E: Write>(
+    desk: &Desk<'_, M>,
+    order: &Order<'_>,
+    kind: Kind,
+    err: &mut E,
+) -> Result<Question, Status>
+    ensures written { IfOk result (λ q. IsWriting (peer_view desk.now.peer) (order_view order.now) kind (question_view q)) }
+    ensures told { IfErr result IsStop }
+{
+    let reference = order.reference;
+    match written_values(desk.alloc, reference, kind, order.text) {
+        Ok(values) => {
+            let write = WriteProperty {
+                reference,
+                values,
+                priority: order.priority,
+            };
+            Ok(question_for(desk.peer, AnyRequest::WriteProperty(write)))
+        }
+        Err(fault) => Err(print_bad_value(order.text, fault, err)),
+    }
 }
 
 /// Reads a property back that was written, and prints what it has now if that is something else.
@@ -235,12 +356,86 @@ fn read_back<M: ClientSockets, O: Write, E: Write>(
     question: &Question,
     out: &mut O,
     err: &mut E,
-) -> Result<(), Status> {
+) -> Result<(), Status>
+    ensures read { OnOk result (ReadsBack (OnPort M.is_bound M.Link.failures M.Link.calls) desk.now.asking.now (order_view order.now) (question_view question.now).request
+        (timed client.old.station.bound_node (M.Timer.told client.old.station.clock))
+        (timed client.new.station.bound_node (M.Timer.told client.new.station.clock))
+        (O.contents out.old) (O.contents out.new)) }
+    ensures failed { IfErr result IsFailure }
+{
     let end = ask_on(desk.asking, client, &order.reading, err)?;
-    match print_written(desk, order, question, &end, out, err) {
+    match print_back(desk.alloc, order.reference, question, &end, out, err) {
         Ok(()) => Ok(()),
         Err(error) => Err(output_failed(err, &error)),
     }
+}
+
+/// Asks a write, and reads the property back where it was performed. Answers whether it was.
+fn write_once<M: ClientSockets, O: Write, E: Write>(
+    desk: &Desk<'_, M>,
+    client: &mut Client<'_, M>,
+    order: &Order<'_>,
+    question: &Question,
+    out: &mut O,
+    err: &mut E,
+) -> Result<bool, Status>
+    ensures written { IfOk result (λ done. WritesOnce (OnPort M.is_bound M.Link.failures M.Link.calls) desk.now.asking.now (order_view order.now)
+        (question_view question.now) done
+        (timed client.old.station.bound_node (M.Timer.told client.old.station.clock))
+        (timed client.new.station.bound_node (M.Timer.told client.new.station.clock))
+        (O.contents out.old) (O.contents out.new)) }
+    ensures failed { IfErr result IsFailure }
+{
+    let end = ask_on(desk.asking, client, question, err)?;
+    if is_done(outcome_of(&end)) {
+        read_back(desk, client, order, question, out, err)?;
+        Ok(true)
+    } else {
+        tell_failure(desk, order.reference, &end, err)?;
+        Ok(false)
+    }
+}
+
+/// Writes the value as one of that kind, if there is one. Answers whether it was written.
+fn write_as<M: ClientSockets, O: Write, E: Write>(
+    desk: &Desk<'_, M>,
+    client: &mut Client<'_, M>,
+    order: &Order<'_>,
+    kind: Option<Kind>,
+    out: &mut O,
+    err: &mut E,
+) -> Result<bool, Status>
+    ensures written { IfOk result (λ done. WritesAs (OnPort M.is_bound M.Link.failures M.Link.calls) desk.now.asking.now (peer_view desk.now.peer) (order_view order.now)
+        kind done
+        (timed client.old.station.bound_node (M.Timer.told client.old.station.clock))
+        (timed client.new.station.bound_node (M.Timer.told client.new.station.clock))
+        (O.contents out.old) (O.contents out.new)) }
+    ensures told { IfErr result IsStop }
+{
+    let Some(kind) = kind else {
+        return Ok(false);
+    };
+    let question = writing_question(desk, order, kind, err)?;
+    write_once(desk, client, order, &question, out, err)
+}
+
+/// Finds the kind of the new value, and writes it. Answers whether it was written.
+fn write_order<M: ClientSockets, O: Write, E: Write>(
+    desk: &Desk<'_, M>,
+    client: &mut Client<'_, M>,
+    order: &Order<'_>,
+    out: &mut O,
+    err: &mut E,
+) -> Result<bool, Status>
+    ensures written { IfOk result (λ done. WritesOrder (OnPort M.is_bound M.Link.failures M.Link.calls) desk.now.asking.now (peer_view desk.now.peer)
+        (order_view order.now) done
+        (timed client.old.station.bound_node (M.Timer.told client.old.station.clock))
+        (timed client.new.station.bound_node (M.Timer.told client.new.station.clock))
+        (O.contents out.old) (O.contents out.new)) }
+    ensures told { IfErr result IsStop }
+{
+    let kind = kind_of(desk, client, order, err)?;
+    write_as(desk, client, order, kind, out, err)
 }
 
 /// Writes a property, and reads it back. Answers whether it was written.
@@ -249,18 +444,12 @@ pub(crate) fn write<M: ClientSockets, O: Write, E: Write>(
     writing: Writing<'_, '_>,
     out: &mut O,
     err: &mut E,
-) -> Result<bool, Status> {
-    let order = order_of(desk, writing.words, err)?;
+) -> Result<bool, Status>
+    ensures written { IfOk result (λ done. Writes (OnPort M.is_bound M.Link.failures M.Link.calls) (OnClock M.is_made M.Timer.told) desk.now.asking.now
+        (peer_view desk.now.peer) writing.entry done (O.contents out.old) (O.contents out.new)) }
+    ensures told { IfErr result IsStop }
+{
+    let order = order_of(desk, writing, err)?;
     let mut client = desk.client(err)?;
-    let Some(kind) = kind_of(desk, &mut client, &order, writing.kind, err)? else {
-        return Ok(false);
-    };
-    let question = writing_question(desk, &order, kind, writing.priority, err)?;
-    let end = ask_on(desk.asking, &mut client, &question, err)?;
-    if !is_done(outcome_of(&end)) {
-        tell_failure(desk, order.reference, &end, err)?;
-        return Ok(false);
-    }
-    read_back(desk, &mut client, &order, &question, out, err)?;
-    Ok(true)
+    write_order(desk, &mut client, &order, out, err)
 }

@@ -322,6 +322,10 @@ impl Machine for BenchMachine<'_> {
         self.scene.is_terminal
     }
 
+    fn is_screen(&self) -> bool {
+        self.scene.is_screen
+    }
+
     fn built(&self) -> Option<String> {
         let heading = self.setup.line("built")?;
         String::from_str(self.alloc, heading.words).ok()

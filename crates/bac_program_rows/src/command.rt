@@ -127,7 +127,7 @@ impl<'a> Command<'a> {
     /// What comes of it on the machine that plays the rows, and how long that took by a clock that was made before.
     fn run_on_machine(&self, out: &mut Sink, err: &mut Sink) -> Ended {
         let clock = MonotonicClock::new(self.rt).ok();
-        let system = System::new(self.rt, false);
+        let system = System::new(self.rt, false, false);
         let code = run(self.rt.alloc(), &self.words, &system, &system, out, err).code();
         let took = match clock {
             Some(mut clock) => clock.now(),

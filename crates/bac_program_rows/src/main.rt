@@ -20,7 +20,7 @@
 //! - `disk`: files can be written. `disk NAME`: those whose names begin so get half of the octets, and then the disk is full.
 //!   `disk silent NAME`: they get half of the octets, and nothing is said.
 //! - `database NAME` keeps cells, each `PLACE HEX` after `| `; `database NAME new` is made when it is opened; `locked` and `damaged` can't be opened.
-//! - `terminal`: standard error is one. `errors fail`: nothing can be written to it; `errors fail once`: the first write fails. `output fails`: nothing
+//! - `screen`: standard output is a terminal. `terminal`: standard error is one. `errors fail`: nothing can be written to it; `errors fail once`: the first write fails. `output fails`: nothing
 //!   can be written to standard output.
 //! - `full FROM TO`: where a server asks whether standard error has room, it has none from the FROM-th time on, counted from 0, and again from the TO-th on.
 //! - `taken N`: clients try the ports from 40,000 on, and so many of them are taken. `source A.B.C.D`: the address that the machine sends from.

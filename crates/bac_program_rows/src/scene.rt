@@ -77,8 +77,8 @@ impl<'a> Setup<'a> {
 
 /// The words that begin lines of a setup.
 const WORDS: &[&str] = &[
-    "|", "#", "links", "clock", "day", "file", "hex", "disk", "database", "terminal", "errors",
-    "output", "taken", "source", "machine", "pairs", "built", "full",
+    "|", "#", "links", "clock", "day", "file", "hex", "disk", "database", "terminal", "screen",
+    "errors", "output", "taken", "source", "machine", "pairs", "built", "full",
 ];
 
 /// Whether each line of a text begins with a word that sets a scene.
@@ -112,6 +112,8 @@ pub(crate) struct Scene<'a> {
     /// The address that it sends from.
     pub source: Option<[u8; 4]>,
     pub is_terminal: bool,
+    /// Whether standard output is a terminal.
+    pub is_screen: bool,
 }
 
 /// `MOMENT +STEP` or `MOMENT -STEP`.
@@ -210,5 +212,6 @@ pub(crate) fn scene_of(setup: Setup<'_>) -> Option<Scene<'_>> {
         full: full_in(setup)?,
         source: source_in(setup)?,
         is_terminal: setup.has("terminal"),
+        is_screen: setup.has("screen"),
     })
 }

@@ -3,12 +3,18 @@ use Rattle.std.proofs.Common.{◌≡◌, ◌∙◌, ℕ, Bool, true, false, List
 use Rattle.std.specs.Prelude.{IfSome}
 use Rattle.bac_explain_report.specs.Charted.{IsReportIn}
 use Rattle.bac_chart.specs.declared.drawing.ChartFormat.{ChartFormat}
-use Rattle.bac_reading.specs.Copied.{IfKnown}
+use Rattle.bac_reading.specs.Copied.{AreDecodedOf, IfKnown}
+use Rattle.bac_reading.specs.declared.copied.Copied.{Copied}
 use Rattle.std.specs.Io.KnownBytes.{Keeps, prepend_known}
 use Rattle.bac_text.specs.declared.status.Status.{Status}
 use Rattle.bac_text.specs.declared.status.Status.TheVariants as status
+use Rattle.bac_commands.specs.Statuses.{ByStatus}
+use Rattle.bac_text.specs.DecodedLines.{AreDecoded}
+use Rattle.bac_reading.specs.Decodings.{AreLayered}
 use Rattle.bac_reading.specs.Files.{IsPrintedFile}
 use Rattle.bac_reading.specs.Reports.{IsReport}
+use Rattle.bac_reading.specs.declared.decoding.LayerForm.{LayerForm}
+use Rattle.bac_reading.specs.declared.decoding.LayerForm.TheVariants.{Numbers, Objects, Words}
 use Rattle.bac_reading.specs.declared.report.Report.{Report}
 use Rattle.bac_reading.specs.declared.report.Report.TheVariants.{Chart, Check, CheckJson, CheckLines, CheckLinesJson, Explain, ExplainHtml, ExplainJson}
 
@@ -24,6 +30,23 @@ printed_file IsAt path read Says status.Faulty at told = record { content = read
 printed_file IsAt path read Says status.CommandLine at told = tt
 printed_file IsAt path read Says status.Output at told = tt
 printed_file IsAt path read Says status.Memory at told = tt
+
+-- what is so at any status is so where a command ended with 0 or 1
+pub at_any : (s : Status) (Says : Type 0) → Says → ByStatus s Says Says (Unit {0})
+at_any status.Done Says is = is
+at_any status.Faulty Says is = is
+at_any status.CommandLine Says is = tt
+at_any status.Output Says is = tt
+at_any status.Memory Says is = tt
+
+-- what is so there of a file at the path
+pub ended_file : (IsAt : (path : List ℕ) → (content : Option (List ℕ)) → Type 0) (path : List ℕ) (read : Option (List ℕ))
+    (Says : Option (List ℕ) → Type 0) (s : Status) → IsAt path read → ByStatus s (Says read) (Says read) (Unit {0}) → IsPrintedFile IsAt path s Says
+ended_file IsAt path read Says status.Done at told = record { content = read; at = at; says = told }
+ended_file IsAt path read Says status.Faulty at told = record { content = read; at = at; says = told }
+ended_file IsAt path read Says status.CommandLine at told = tt
+ended_file IsAt path read Says status.Output at told = tt
+ended_file IsAt path read Says status.Memory at told = tt
 
 -- what is so of an input whose next octets were looked at was so before
 pub told_before : (old new : Option (List ℕ)) (Says : Option (List ℕ) → Type 0) → Keeps old new → Says None → Says new → Says old
@@ -54,6 +77,28 @@ said_of_nothing (Explain options) also old new s = tt
 said_of_nothing (ExplainJson options) also old new s = tt
 said_of_nothing (ExplainHtml options) also old new s = tt
 said_of_nothing (Chart options) also old new s = drawn_of_nothing options.pairs options.form options.values also old new s
+
+-- nothing is said of the lines of an input of which nothing is known
+lines_of_nothing : (in_words : Bool) (old new : Option (List ℕ)) (s : Status) → AreDecoded in_words None old new s
+lines_of_nothing in_words old new status.Done = tt
+lines_of_nothing in_words old new status.Faulty = tt
+lines_of_nothing in_words old new status.CommandLine = tt
+lines_of_nothing in_words old new status.Output = tt
+lines_of_nothing in_words old new status.Memory = tt
+
+-- nor of datagrams whose digits are
+pub layered_of_nothing : (layers : LayerForm) (old new : Option (List ℕ)) (s : Status) → AreLayered layers None old new s
+layered_of_nothing Numbers old new s = lines_of_nothing false old new s
+layered_of_nothing Words old new s = lines_of_nothing true old new s
+layered_of_nothing Objects old new status.Done = tt
+layered_of_nothing Objects old new status.Faulty = tt
+layered_of_nothing Objects old new status.CommandLine = tt
+layered_of_nothing Objects old new status.Output = tt
+layered_of_nothing Objects old new status.Memory = tt
+
+-- what was printed as by one way was printed as by any equal one
+pub decoded_as : (k l : Copied) (content old new : Option (List ℕ)) (s : Status) → k ≡ l → AreDecodedOf k content old new s → AreDecodedOf l content old new s
+decoded_as k l content old new s is told = subst (λ (j : Copied). AreDecodedOf j content old new s) is told
 
 -- what is known of a file's octets is said of what was read
 pub copied_told : (read : Option (List ℕ)) (items text : List ℕ) (Says : List ℕ → Type 0) → IfSome read (λ octets. items ≡ octets) → text ≡ items → Says text

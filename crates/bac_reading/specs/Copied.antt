@@ -1,6 +1,7 @@
 -- What `decode` prints of datagrams in another form, or with their numbers.
 use Rattle.std.specs.Prelude.{ℕ, Bool, true, false, List, Option, Some, None, ⊤, codes}
 use Rattle.std.specs.Str.{bytes_eq}
+use Rattle.bac_commands.specs.Statuses.{ByStatus}
 use Rattle.bac_forms.specs.Decoded.{IsFormDecoded}
 use Rattle.bac_forms.specs.Guess.{guess}
 use Rattle.bac_forms.specs.declared.form.Form.{Form}
@@ -20,6 +21,11 @@ AreDecodedIn copied text old new s = IsFormDecoded (form_in copied.form text) co
 abbrev pub IfKnown : Option (List ℕ) → (List ℕ → Type 0) → Type 0
 IfKnown None Says = ⊤
 IfKnown (Some text) Says = Says text
+
+-- those of an input were printed where the command ended with 0 or 1
+abbrev pub AreDecodedOf : Copied → (content old new : Option (List ℕ)) → Status → Type 0
+AreDecodedOf copied content old new s =
+    ByStatus s (IfKnown content (λ text. AreDecodedIn copied text old new s)) (IfKnown content (λ text. AreDecodedIn copied text old new s)) ⊤
 
 abbrev pub IsCopiedFile : (IsAt : (path : List ℕ) → (content : Option (List ℕ)) → Type 0) → Copied → (path : List ℕ) → Status → (old new : Option (List ℕ)) → Type 0
 IsCopiedFile IsAt copied path s old new =

@@ -1,8 +1,10 @@
 -- What `decode` prints of a datagram, and of those on standard input.
-use Rattle.std.specs.Prelude.{ℕ, Bool, true, false, List, Option, codes}
+use Rattle.std.specs.Prelude.{ℕ, Bool, true, false, List, Option, Some, None, codes}
 use Rattle.std.specs.Str.{bytes_eq}
 use Rattle.bac_json_report.specs.Decoded as json
-use Rattle.bac_reading.specs.Copied.{AreDecodedCopied}
+use Rattle.bac_forms.specs.declared.form.Form.{Form}
+use Rattle.bac_reading.specs.Copied.{AreDecodedCopied, AreDecodedOf}
+use Rattle.bac_reading.specs.declared.copied.Copied as copied
 use Rattle.bac_reading.specs.Files.{IsPrintedFile}
 use Rattle.bac_reading.specs.declared.decoding.Decoding.{Decoding}
 use Rattle.bac_reading.specs.declared.decoding.Decoding.TheVariants.{Copied, Lines}
@@ -24,9 +26,27 @@ IsLayered Numbers text old new s = IsDecodedAs false text old new s
 IsLayered Words text old new s = IsDecodedAs true text old new s
 IsLayered Objects text old new s = json.IsDecoded text old new s
 
--- each line of the file was
+-- the same of datagrams that are copied in a form
+abbrev pub in_words : LayerForm → Bool
+in_words Numbers = false
+in_words Words = true
+in_words Objects = false
+
+abbrev pub copied_as : Form → LayerForm → copied.Copied
+copied_as form layers = record { form = Some form; printing = record { in_words = in_words layers; numbered = false; frames = false } }
+
+-- each line was printed, or each datagram that is copied in another form
+abbrev pub AreReadAs : LayerForm → (form : Option Form) → (content old new : Option (List ℕ)) → Status → Type 0
+AreReadAs layers None content old new s = AreLayered layers content old new s
+AreReadAs layers (Some form) content old new s = AreDecodedOf (copied_as form layers) content old new s
+
+pub record AreRead (layers : LayerForm) (content old new : Option (List ℕ)) (s : Status) : Type 0 where
+  pub form : Option Form
+  pub are : AreReadAs layers form content old new s
+
+-- so of the file
 abbrev pub AreLayeredIn : (IsAt : (path : List ℕ) → (content : Option (List ℕ)) → Type 0) → LayerForm → (path : List ℕ) → Status → (old new : Option (List ℕ)) → Type 0
-AreLayeredIn IsAt form path s old new = IsPrintedFile IsAt path s (λ content. AreLayered form content old new s)
+AreLayeredIn IsAt form path s old new = IsPrintedFile IsAt path s (λ content. AreRead form content old new s)
 
 -- the datagram was, or where the text is that of standard input each line of it
 abbrev pub IsLayeredBy : (IsAt : (path : List ℕ) → (content : Option (List ℕ)) → Type 0) → LayerForm → (is_input : Bool) → (text : List ℕ) → Status

@@ -1,5 +1,5 @@
 //! `decode` of datagrams in another form than a datagram on each line, with their numbers, or in frames.
-ghost use Rattle.bac_reading.specs.Copied.{AreDecodedCopied, AreDecodedIn, IsCopiedFile};
+ghost use Rattle.bac_reading.specs.Copied.{AreDecodedCopied, AreDecodedIn, AreDecodedOf, IsCopiedFile};
 ghost use Rattle.bac_environment.specs.Files.{OnFile};
 
 use crate::decoding::STANDARD_INPUT;
@@ -8,7 +8,7 @@ use bac_forms::{Form, Printing, decode_form_over, guess};
 use bac_text::Status;
 use clap::ArgMatches;
 use std::alloc::Global;
-use std::io::Write;
+use std::io::{Read, Write};
 
 /// How `decode` reads and prints datagrams.
 #[derive(Clone, Copy)]
@@ -61,6 +61,32 @@ fn decode_text<O: Write, E: Write>(
     decode_form_over(alloc, form, copied.printing, text, out, err)
 }
 
+/// The layers of the datagrams of an input that is read to its end. One that cannot be: `cannot read` on `err`.
+pub(crate) fn decode_octets<R: Read + Drop, O: Write, E: Write>(
+    alloc: Global,
+    copied: Copied,
+    path: &str,
+    input: R,
+    out: &mut O,
+    err: &mut E,
+) -> Status
+    ensures { AreDecodedOf copied (R.remaining input) (O.contents out.old) (O.contents out.new) result }
+{
+    match octets_of(alloc, path, input, err) {
+        Ok(text) => decode_text(alloc, copied, &text, out, err),
+        Err(status) => status,
+    }
+}
+
+/// Where a text is refused that looks like the name of a file, tells how a file is read.
+pub(crate) fn print_file_meant<E: Write>(status: Status, text: &str, err: &mut E) {
+    let is_name = text.contains('.') && !text.contains(' ');
+    if status == Status::CommandLine && is_name {
+        // if that fails too, only the status is left
+        let _ = writeln!(err, "did you mean: bac decode - < {text}");
+    }
+}
+
 /// The layers of the datagrams of a file. One that cannot be opened or read: `cannot read` on `err`.
 fn decode_file<F: OpenFiles, O: Write, E: Write>(
     alloc: Global,
@@ -76,10 +102,7 @@ fn decode_file<F: OpenFiles, O: Write, E: Write>(
         Ok(file) => file,
         Err(status) => return status,
     };
-    match octets_of(alloc, path, file, err) {
-        Ok(text) => decode_text(alloc, copied, &text, out, err),
-        Err(status) => status,
-    }
+    decode_octets(alloc, copied, path, file, out, err)
 }
 
 /// Prints the layers of the datagrams in a text, or in standard input if the text is `-`.
@@ -96,6 +119,8 @@ pub(crate) fn decode_copied<F: OpenFiles, O: Write, E: Write>(
     if datagrams == STANDARD_INPUT {
         decode_file(alloc, files, copied, datagrams, out, err)
     } else {
-        decode_text(alloc, copied, datagrams.as_bytes(), out, err)
+        let status = decode_text(alloc, copied, datagrams.as_bytes(), out, err);
+        print_file_meant(status, datagrams, err);
+        status
     }
 }

@@ -1,15 +1,20 @@
 //! Datagrams that `decode` prints. The text `-` stands for standard input.
+ghost use Rattle.std.specs.Prelude.{◌≡◌};
+ghost use Rattle.std.specs.Io.Buffered.{reader_remaining};
+ghost use Rattle.std.specs.Io.KnownBytes.{Keeps};
 ghost use Rattle.bac_environment.specs.Files.{OnFile};
-ghost use Rattle.bac_reading.specs.Decodings.{AreLayered, AreLayeredIn, IsDecodedFrom, IsLayered, IsLayeredFrom};
+ghost use Rattle.bac_reading.specs.Decodings.{AreLayered, AreLayeredIn, AreRead, IsDecodedFrom, IsLayered, IsLayeredFrom, copied_as};
 
-use crate::copied::{Copied, decode_copied};
+use crate::copied::{Copied, decode_copied, decode_octets, print_file_meant};
 use crate::files::digits_of;
 use crate::reasons::{print_bad_digits, print_unfit};
+use crate::watched::Watched;
 use bac_environment::{Digits, OpenFiles, print_bad_digit};
+use bac_forms::{Form, Printing, evident};
 use bac_json_report::{decode_json_lines_over, decode_json_over};
 use bac_text::{Status, decode_lines_over, decode_text_over};
 use std::alloc::Global;
-use std::io::{BufRead, Write};
+use std::io::{BufRead, BufReader, Read, Write};
 
 /// The argument that stands for standard input.
 pub const STANDARD_INPUT: &str = "-";
@@ -35,6 +40,20 @@ pub enum Decoding {
 }
 
 impl LayerForm {
+    /// The same of datagrams that are copied in a form.
+    fn copied(self, form: Form) -> Copied
+        ensures { result ≡ copied_as form self }
+    {
+        Copied {
+            form: Some(form),
+            printing: Printing {
+                in_words: self == LayerForm::Words,
+                numbered: false,
+                frames: false,
+            },
+        }
+    }
+
     /// What follows a line that is no hexadecimal: lines may be read in other forms too.
     fn hint(self) -> &'static str {
         match self {
@@ -78,8 +97,65 @@ impl LayerForm {
     }
 }
 
-/// The layers of the datagrams in a file, one on each line. A file that cannot be opened or read on: `cannot read` on `err`, and why. Lines that are no hexadecimal:
-/// the first of them on `err`, and why.
+/// The layers of the datagrams on the lines of an input. Lines that are no hexadecimal: the first of them on `err`, and why.
+fn decode_digits<F: Read + Drop, O: Write, E: Write>(
+    alloc: Global,
+    form: LayerForm,
+    path: &str,
+    input: &mut BufReader<Watched<F>>,
+    out: &mut O,
+    err: &mut E,
+) -> Status
+    ensures { AreLayered form (reader_remaining (λ w. F.remaining w.file) input.old) (O.contents out.old) (O.contents out.new) result }
+{
+    let status = form.decode_lines(alloc, input, out, err);
+    print_unfit(status, path, input.get_ref(), None, err);
+    print_bad_digits(status, input.get_ref(), form.hint(), err);
+    status
+}
+
+/// The form of the datagrams of an input, as its next octets show: lines of digits, unless they have another form beyond doubt. It takes none of them.
+fn form_of<R: BufRead>(layers: LayerForm, input: &mut R) -> Form
+    ensures { Keeps (R.remaining input.old) (R.remaining input.new) }
+{
+    if layers == LayerForm::Objects {
+        return Form::Hex;
+    }
+    match input.fill_buf() {
+        Ok(octets) => evident(octets),
+        // who reads on meets the fault, or goes on after a signal
+        Err(_) => Form::Hex,
+    }
+}
+
+/// Tells the form in which an input is read.
+fn print_form<E: Write>(form: Form, err: &mut E) {
+    let name = form.name();
+    // if that fails too, only the status is left
+    let _ = writeln!(err, "read as --form {name}");
+}
+
+/// The layers of the datagrams of an input, in the form that it has.
+fn decode_input<F: Read + Drop, O: Write, E: Write>(
+    alloc: Global,
+    layers: LayerForm,
+    path: &str,
+    input: BufReader<Watched<F>>,
+    out: &mut O,
+    err: &mut E,
+) -> Status
+    ensures { AreRead layers (reader_remaining (λ w. F.remaining w.file) input) (O.contents out.old) (O.contents out.new) result }
+{
+    let mut input = input;
+    let form = form_of(layers, &mut input);
+    if form == Form::Hex {
+        return decode_digits(alloc, layers, path, &mut input, out, err);
+    }
+    print_form(form, err);
+    decode_octets(alloc, layers.copied(form), path, input, out, err)
+}
+
+/// The layers of the datagrams in a file, one on each line, unless it has another form. A file that cannot be opened or read on: `cannot read` on `err`, and why.
 fn decode_lines<F: OpenFiles, O: Write, E: Write>(
     alloc: Global,
     files: &F,
@@ -91,12 +167,7 @@ fn decode_lines<F: OpenFiles, O: Write, E: Write>(
     ensures { AreLayeredIn (OnFile F.is_file F.File.remaining) form path.now result (O.contents out.old) (O.contents out.new) }
 {
     match digits_of(alloc, files, path, err) {
-        Ok(mut input) => {
-            let status = form.decode_lines(alloc, &mut input, out, err);
-            print_unfit(status, path, input.get_ref(), None, err);
-            print_bad_digits(status, input.get_ref(), form.hint(), err);
-            status
-        }
+        Ok(input) => decode_input(alloc, form, path, input, out, err),
         Err(status) => status,
     }
 }
@@ -117,6 +188,7 @@ fn decode_layers<F: OpenFiles, O: Write, E: Write>(
     } else {
         let status = form.decode_text(alloc, datagram, out, err);
         print_bad_digit(status, datagram, Digits::Grouped, err);
+        print_file_meant(status, datagram, err);
         status
     }
 }

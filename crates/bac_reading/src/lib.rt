@@ -15,4 +15,4 @@ pub use copied::Copied;
 pub use decoding::{Decoding, LayerForm, STANDARD_INPUT, decode};
 pub use report::{CaptureFile, Report, print_report};
 pub use script::{ScriptFile, simulate};
-pub use selecting::{check_of, decoding_of, report_of};
+pub use selecting::{MOST_SLOWER, check_of, decoding_of, read_slower, report_of};

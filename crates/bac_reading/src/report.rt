@@ -1,5 +1,7 @@
 //! What is printed of a capture: what `check` and `explain` do.
+ghost use Rattle.std.specs.Prelude.{◌≡◌};
 ghost use Rattle.std.specs.Io.KnownBytes.{Keeps};
+ghost use Rattle.bac_text.specs.declared.status.Status.TheVariants as status;
 ghost use Rattle.bac_reading.specs.Reports.{IsReport, IsReportedFile};
 ghost use Rattle.bac_environment.specs.Files.{OnFile};
 
@@ -96,7 +98,7 @@ impl Report {
     }
 }
 
-/// What is told of a file with bad lines, of which the first, as many as were read at once, are none of a capture.
+/// What is told of a file whose first lines, as many as were read at once, are none of a capture.
 const NO_CAPTURE: &str =
     "not a capture: expected pcap, pcapng or lines `moment from to hex`; see bac help check";
 
@@ -135,23 +137,19 @@ fn begins_as_none<R: BufRead>(alloc: Global, report: Report, input: &mut R) -> b
     }
 }
 
-/// Where the status says that something is bad of a file that begins as no capture, tells so.
-fn print_no_capture<E: Write>(
-    is_none: bool,
-    status: Status,
-    capture: &CaptureFile<'_>,
-    err: &mut E,
-) {
-    if is_none && capture.reasons && status == Status::Faulty {
-        // if that fails too, only the status is left
-        let _ = writeln!(err, "{}: {NO_CAPTURE}", capture.path);
-    }
+/// Tells that a file begins as no capture.
+fn refuse_no_capture<E: Write>(path: &str, err: &mut E) -> Status
+    ensures { result ≡ status.CommandLine }
+{
+    // if that fails too, only the status is left
+    let _ = writeln!(err, "{path}: {NO_CAPTURE}");
+    Status::CommandLine
 }
 
 /// Prints a report of a capture.
 ///
-/// If the file cannot be read, prints `cannot read` and the reason on `err`. If a file that is checked does not begin like a capture, prints a hint, where reasons are
-/// told.
+/// If the file cannot be read, prints `cannot read` and the reason on `err`. If a file that is checked does not begin like a capture, prints only that, where
+/// reasons are told; the status is then `CommandLine`.
 pub fn print_report<F: OpenFiles, O: Write, E: Write>(
     alloc: Global,
     files: &F,
@@ -166,8 +164,10 @@ pub fn print_report<F: OpenFiles, O: Write, E: Write>(
         Ok(mut input) => {
             let ports = Ports { also: capture.port };
             let is_none = begins_as_none(alloc, report, &mut input);
+            if is_none && capture.reasons {
+                return refuse_no_capture(capture.path, err);
+            }
             let status = report.print(alloc, &mut input, ports, out, err);
-            print_no_capture(is_none, status, capture, err);
             print_unfit(status, capture.path, input.get_ref(), report.taken(), err);
             status
         }

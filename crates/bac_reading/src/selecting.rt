@@ -1,11 +1,11 @@
 //! What the arguments of `decode`, `check` and `explain` ask for: which transactions are printed, what counts as a fault, and how datagrams are drawn.
-ghost use Rattle.std.specs.Prelude.{◌≡◌, IfSome};
-ghost use Rattle.bac_reading.specs.Selecting.{AreChartOptions, AreGivenOptions, form_by};
+ghost use Rattle.std.specs.Prelude.{◌≡◌, ◌<◌, ◌≤◌, ℕ, IfSome, Some, decimal};
+ghost use Rattle.bac_reading.specs.Selecting.{AreChartOptions, AreGivenOptions, IsSlower, form_by};
 
 use crate::copied::{copied_of, is_copied};
-use crate::decoding::{Decoding, LayerForm};
+use crate::decoding::{Decoding, LayerForm, STANDARD_INPUT};
 use crate::report::Report;
-use bac_environment::{flag_of, number_of};
+use bac_environment::{flag_of, read_time};
 use bac_explain_report::{ChartFormat, ChartOptions, PeerFilter, ReportOptions, Selection};
 use bac_lists::read_end;
 use clap::ArgMatches;
@@ -21,21 +21,50 @@ fn peer_of(given: &ArgMatches<'_>) -> Option<Option<PeerFilter>> {
     }
 }
 
-/// Which transactions the arguments of `explain` select, and what counts as a fault. None if the address of `--peer` is invalid.
-fn options_of(given: &ArgMatches<'_>) -> Option<ReportOptions>
-    ensures { IfSome result (AreGivenOptions given.now) }
+/// The most milliseconds behind `--slower`.
+pub const MOST_SLOWER: u64 = 1_000_000_000;
+
+/// The milliseconds of the time behind `--slower`, from 1 to 1,000,000,000; a number alone is of milliseconds. None of any other text.
+pub fn read_slower(text: &str) -> Option<u64>
+    ensures { (n : ℕ) → 0 < n → n ≤ MOST_SLOWER → text.now ≡ decimal n → result ≡ Some n }
+{
+    let milliseconds = read_time(text, 1)?;
+    if milliseconds == 0 || milliseconds > MOST_SLOWER {
+        return None;
+    }
+    Some(milliseconds)
+}
+
+/// The time behind `--slower`, if there is one. None where it is invalid.
+fn slower_of(given: &ArgMatches<'_>) -> Option<Option<u64>>
+    ensures { IfSome result (IsSlower given.now) }
+{
+    match given.get_str("slower") {
+        Some(text) => Some(Some(read_slower(text)?)),
+        None => Some(None),
+    }
+}
+
+/// Which transactions the arguments of `explain` select, and what counts as a fault. What is read of standard input, where a capture may go on, is printed at
+/// once. None if the address of `--peer` or the time of `--slower` is invalid.
+fn options_of(given: &ArgMatches<'_>, early: bool) -> Option<ReportOptions>
+    ensures { IfSome result (AreGivenOptions given.now early) }
 {
     let selection = Selection {
         unanswered: flag_of(given, "unanswered"),
+        errors: flag_of(given, "errors"),
         repeated: flag_of(given, "repeated"),
         findings: flag_of(given, "findings"),
-        slower: number_of(given, "slower"),
+        slower: slower_of(given)?,
         peer: peer_of(given)?,
     };
     Some(ReportOptions {
         selection,
         strict: flag_of(given, "fail"),
         frames: flag_of(given, "frames"),
+        strict_ids: flag_of(given, "strict-ids"),
+        early,
+        flush: given.get_str("FILE") == Some(STANDARD_INPUT),
     })
 }
 
@@ -78,19 +107,18 @@ pub fn check_of(given: &ArgMatches<'_>) -> Report {
     }
 }
 
-/// What the arguments of `explain` say is printed of a capture. None if the address of `--peer` is invalid.
+/// What the arguments of `explain` say is printed of a capture. None if the address of `--peer` or the time of `--slower` is invalid.
 pub fn report_of(given: &ArgMatches<'_>) -> Option<Report> {
     if let Some(options) = chart_of(given) {
         return Some(Report::Chart(options));
     }
-    let options = options_of(given)?;
     if given.get_flag("json") {
-        return Some(Report::ExplainJson(options));
+        return Some(Report::ExplainJson(options_of(given, false)?));
     }
     if given.get_flag("html") {
-        return Some(Report::ExplainHtml(options));
+        return Some(Report::ExplainHtml(options_of(given, false)?));
     }
-    Some(Report::Explain(options))
+    Some(Report::Explain(options_of(given, true)?))
 }
 
 /// How the arguments of `decode` say that datagrams are read and printed. None if the form is invalid.

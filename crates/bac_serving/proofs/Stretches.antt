@@ -1,19 +1,14 @@
 -- Stretches of a server, one after the other.
-use Rattle.std.proofs.Common.{◌≡◌, ℕ, ◌+◌, ◌≤◌, true, List, ◌∷◌, Option, Some, IfSome, MatchOption, refl, ap, subst, ◌∙◌, inl, inr, arith, min}
-use Rattle.std.specs.Io.KnownBytes.{Appends}
+use Rattle.std.proofs.Common.{◌≡◌, ℕ, ◌+◌, ◌≤◌, true, ◌∷◌, Option, Some, IfSome, MatchOption, refl, ap, subst, ◌∙◌, inl, inr, arith, min}
 use Rattle.bac_driver.specs.BoundNodes.{BoundNode}
 use Rattle.bac_driver.specs.Moments.{Told, with_moment}
 use Rattle.bac_driver.specs.Runs.{Timed, timed}
 use Rattle.bac_driver.specs.Serving.{IsBefore, IsOver, Serves}
 use Rattle.bac_driver.specs.Waits.{MOST}
 use Rattle.bac_driver.specs.declared.wait_limit.WaitLimit.{WaitLimit}
-use Rattle.bac_store.specs.Stores.{Store}
-use Rattle.bac_commands.specs.Reports.{served_line}
-use Rattle.bac_serving.specs.Looking.{AreTaken, IsChanged, IsServer, STRETCH, ServesLooking, TakesStretch, TakesStretches, stop_limit, stop_of, stretch_limit}
-use Rattle.bac_environment.specs.Sockets.{Clocks, Links}
+use Rattle.bac_serving.specs.Looking.{AreTaken, IsChanged, STRETCH, TakesStretch, TakesStretches, stop_limit, stretch_limit}
 use Rattle.bac_serving.specs.declared.looking.Stop.{Stop}
 use Rattle.bac_serving.specs.declared.looking.Stretch.{Stretch}
-use Rattle.bac_serving.specs.declared.serving.Serving.{Serving}
 
 -- a stretch whose limit is that of its beginning
 pub one_taken : (stop : Option ℕ) (began longest turns effects : ℕ) (limit : WaitLimit) (old new : BoundNode) (before looked middle after : Told) (served : BoundNode)
@@ -54,18 +49,3 @@ pub until_input : (stop : Stop) {count effects : ℕ} {old new : Timed} (found :
 until_input stop {count} {new = new} found stretch is last input taken =
     let told = subst (λ (f : Option Stretch). IfSome f (λ s. s.is_last ≡ true → stop.with_input ≡ true)) is input in
     record { count = count; last = new; taken = taken; stopped = inr (refl, inl (told last)) }
-
--- a server that began at a moment stops as its words say
-pub serves_so : {IsOn : Links} {IsClock : Clocks} {serving : Serving} {old new : Option (List ℕ)} {document : Store} (start effects : ℕ) (before after : Timed)
-    (stop : Stop) → IsServer IsOn IsClock serving document start before → stop ≡ stop_of serving start → TakesStretches stop effects before after
-    → Appends old new (served_line effects) → ServesLooking IsOn IsClock serving old new document
-serves_so {serving = serving} start effects before after stop server is takes printed =
-    record {
-      start = start;
-      before = before;
-      after = after;
-      server = server;
-      effects = effects;
-      takes = subst (λ (s : Stop). TakesStretches s effects before after) is takes;
-      printed = printed;
-    }

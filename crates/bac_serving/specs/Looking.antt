@@ -78,6 +78,12 @@ pub record TakesStretches (stop : Stop) (effects : ℕ) (old new : Timed) : Type
   pub taken : AreTaken stop.at count effects old last
   pub stopped : Stops stop count last new
 
+-- stretches up to the stop, and how many requests were performed in them was printed
+pub record PrintsStretches (stop : Stop) (before after : Timed) (old new : Option (List ℕ)) : Type 0 where
+  pub effects : ℕ
+  pub takes : TakesStretches stop effects before after
+  pub printed : Appends old new (served_line effects)
+
 -- ---- the command
 
 -- a node with that store, on a link that was bound, beside a clock that was made and told that moment

@@ -6,7 +6,7 @@ ghost use Rattle.bac_serving.specs.Extents.{KEYS as key_limit, has_too_many_keys
 pub(crate) const KEY_LIMIT: usize = 50_000;
 
 /// How many octets of a text are `=`: a document has at most so many keys.
-fn marks_in(text: &[u8]) -> usize
+pub(crate) fn marks_in(text: &[u8]) -> usize
     ensures { result ≡ count_by is_mark text.now }
 {
     text.iter().filter(|octet| **octet == b'=').count()

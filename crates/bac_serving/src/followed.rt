@@ -1,7 +1,7 @@
 //! A document that a server follows: it is read again, step by step, and where it changed the node gets the values that it changed.
 ghost use Rattle.bac_serving.specs.Looking.{IsChanged};
 
-use crate::extent::{KEY_LIMIT, has_too_many_keys};
+use crate::extent::{KEY_LIMIT, has_too_many_keys, marks_in};
 use crate::fault_lines::{FaultTime, print_fault_objects};
 use crate::listing::kept_words;
 use crate::part_words::print_about;
@@ -14,7 +14,7 @@ use bac_environment::Station;
 use bac_follow::{Documents, FollowFault, changes_between};
 use bac_keep_json::KeptPart;
 use bac_log_json::LogEvent;
-use bac_objects::{DocumentFault, read_object_list, read_objects};
+use bac_objects::{DocumentFault, DocumentSteps, ReadDocument, read_object_list, read_objects};
 use bac_store::{Change, ChangeFault, Object, Store};
 use bac_text::no_memory;
 use bac_value::NoMemory;
@@ -27,6 +27,12 @@ pub(crate) const MEBIBYTE: u64 = 1_048_576;
 
 /// How long a document may be of which all faults are told, in octets; of a longer one the first is told. To find them all takes longer than to read it.
 const TOLD_WHOLE: usize = 16_384;
+
+/// How long a document may be that is read at once, in octets; a longer one is read in steps.
+const AT_ONCE: usize = 262_144;
+
+/// How many `=` a document may have that is read at once.
+const KEYS_AT_ONCE: usize = 4_096;
 
 /// Where a document is, and how many octets it may have.
 #[derive(Clone, Copy)]
@@ -42,6 +48,8 @@ pub(crate) struct Followed<'p, R> {
     at: FollowedPath<'p>,
     /// The file, while it is read again.
     reading: Option<Reading<R>>,
+    /// New octets of a long document, while their objects are read.
+    taking: Option<Taking>,
     /// The octets that were read last; None where the file could not be read.
     octets: Option<Vec<u8>>,
     /// The store that the document meant when its values were last given to the node.
@@ -61,6 +69,30 @@ enum Refusal {
     Unfit(FollowFault),
 }
 
+/// The octets of a document, as far as their objects have been read.
+#[derive(Drop)]
+struct Taking {
+    octets: Vec<u8>,
+    steps: DocumentSteps,
+    /// How many of the octets that were read are `=`.
+    marks: usize,
+    is_read: bool,
+}
+
+/// The octets of a document, and what they mean, or why it is not followed.
+#[derive(Drop)]
+struct Outcome {
+    octets: Vec<u8>,
+    read: Result<ReadDocument, Refusal>,
+}
+
+/// What comes of a step.
+#[derive(Drop)]
+enum Stepped {
+    GoesOn(Taking),
+    Ended(Outcome),
+}
+
 /// What a document as it is now changes.
 #[derive(Drop)]
 struct News {
@@ -77,22 +109,26 @@ fn objects_in(alloc: Global, octets: &[u8]) -> Result<Vec<Object>, NoMemory> {
     }
 }
 
-/// What the octets of a document change of the store that it meant before, when it listed those objects. `NoMemory` where that is refused.
+/// Reads a short document.
+fn read_at_once(alloc: Global, octets: &[u8]) -> Result<ReadDocument, Refusal> {
+    let store = match read_objects(alloc, octets) {
+        Ok(store) => store,
+        Err(fault) => return Err(Refusal::Wrong(fault)),
+    };
+    match objects_in(alloc, octets) {
+        Ok(objects) => Ok(ReadDocument { store, objects }),
+        Err(_) => Err(Refusal::Wrong(DocumentFault::NoMemory)),
+    }
+}
+
+/// What a document changes of the store that it meant before, when it listed those objects. `NoMemory` where that is refused.
 fn news_in(
     alloc: Global,
     before: &Store,
     served: &[Object],
-    octets: &[u8],
+    read: ReadDocument,
 ) -> Result<Result<News, Refusal>, NoMemory> {
-    if has_too_many_keys(octets) {
-        return Ok(Err(Refusal::TooManyKeys));
-    }
-    let store = match read_objects(alloc, octets) {
-        Ok(store) => store,
-        Err(DocumentFault::NoMemory) => return Err(NoMemory),
-        Err(fault) => return Ok(Err(Refusal::Wrong(fault))),
-    };
-    let objects = objects_in(alloc, octets)?;
+    let ReadDocument { store, objects } = read;
     let documents = Documents {
         before,
         now: &store,
@@ -105,6 +141,68 @@ fn news_in(
         })),
         Err(FollowFault::NoMemory) => Err(NoMemory),
         Err(fault) => Ok(Err(Refusal::Unfit(fault))),
+    }
+}
+
+impl Taking {
+    /// Octets of which nothing has been read.
+    fn new(alloc: Global, octets: Vec<u8>) -> Taking {
+        Taking {
+            octets,
+            steps: DocumentSteps::new(alloc),
+            marks: 0,
+            is_read: false,
+        }
+    }
+
+    /// Reads a step, and notes whether all of the document has been read. An Err is why it is not followed.
+    fn read_step(&mut self) -> Result<(), Refusal> {
+        let begin = self.steps.passed();
+        let read = self.steps.step(&self.octets);
+        let passed = self.octets.get(begin..self.steps.passed()).unwrap_or(&[]);
+        self.marks = self.marks.saturating_add(marks_in(passed));
+        if self.marks > KEY_LIMIT {
+            return Err(Refusal::TooManyKeys);
+        }
+        match read {
+            Ok(is_read) => {
+                self.is_read = is_read;
+                Ok(())
+            }
+            Err(_) if has_too_many_keys(&self.octets) => Err(Refusal::TooManyKeys),
+            Err(fault) => Err(Refusal::Wrong(fault)),
+        }
+    }
+
+    /// Reads a step, or ends with the store of all that was read.
+    fn step(self) -> Stepped {
+        if self.is_read {
+            let Taking {
+                octets,
+                steps,
+                marks: _,
+                is_read: _,
+            } = self;
+            let read = match steps.finish() {
+                Ok(read) => Ok(read),
+                Err(fault) => Err(Refusal::Wrong(fault)),
+            };
+            return Stepped::Ended(Outcome { octets, read });
+        }
+        let mut taking = self;
+        let Err(refusal) = taking.read_step() else {
+            return Stepped::GoesOn(taking);
+        };
+        let Taking {
+            octets,
+            steps: _,
+            marks: _,
+            is_read: _,
+        } = taking;
+        Stepped::Ended(Outcome {
+            octets,
+            read: Err(refusal),
+        })
     }
 }
 
@@ -241,6 +339,7 @@ impl<'p, R: Read + Drop> Followed<'p, R> {
             alloc,
             at,
             reading: None,
+            taking: None,
             octets: Some(octets),
             store,
             objects,
@@ -249,7 +348,7 @@ impl<'p, R: Read + Drop> Followed<'p, R> {
 
     /// Whether it is being read: then the next look should come soon.
     pub(crate) fn is_reading(&self) -> bool {
-        self.reading.is_some()
+        self.reading.is_some() || self.taking.is_some()
     }
 
     /// Whether the octets are those that were read last.
@@ -311,27 +410,50 @@ impl<'p, R: Read + Drop> Followed<'p, R> {
         }
     }
 
-    /// Takes the octets of the document that are new. An Err is out of memory: then they are tried again at the next look.
+    /// The node makes the changes of a document that was read. Returns why it does not follow it, if so. An Err is out of memory.
     fn take<L: Link, C: Clock, E: Write>(
         &mut self,
         station: &mut Station<L, C>,
-        octets: &[u8],
+        read: Result<ReadDocument, Refusal>,
+        log: &mut LevelLog,
+        err: &mut E,
+    ) -> Result<Option<Refusal>, NoMemory>
+        ensures { IsChanged station.old.bound_node station.new.bound_node }
+    {
+        let read = match read {
+            Ok(read) => read,
+            Err(Refusal::Wrong(DocumentFault::NoMemory)) => return Err(NoMemory),
+            Err(refusal) => return Ok(Some(refusal)),
+        };
+        match news_in(station.alloc, &self.store, &self.objects, read)? {
+            Ok(news) => match self.make_all(station, news, log, err) {
+                Ok(()) => Ok(None),
+                Err(_) => Err(NoMemory),
+            },
+            Err(refusal) => Ok(Some(refusal)),
+        }
+    }
+
+    /// Takes a document that was read, or tells why not. If memory is refused, it is tried again at the next look.
+    fn end<L: Link, C: Clock, E: Write>(
+        &mut self,
+        outcome: Outcome,
+        station: &mut Station<L, C>,
         format: LogFormat,
         log: &mut LevelLog,
         err: &mut E,
-    ) -> Result<(), NoMemory>
+    )
         ensures { IsChanged station.old.bound_node station.new.bound_node }
     {
-        match news_in(station.alloc, &self.store, &self.objects, octets)? {
-            Ok(news) => match self.make_all(station, news, log, err) {
-                Ok(()) => Ok(()),
-                Err(_) => Err(NoMemory),
-            },
-            Err(refusal) => {
-                self.tell(&mut station.clock, octets, refusal, format, err);
-                Ok(())
-            }
+        let Outcome { octets, read } = outcome;
+        let Ok(refusal) = self.take(station, read, log, err) else {
+            let _ = no_memory(err);
+            return;
+        };
+        if let Some(refusal) = refusal {
+            self.tell(&mut station.clock, &octets, refusal, format, err);
         }
+        self.octets = Some(octets);
     }
 
     /// Tells that the file cannot be read: in the form of the log.
@@ -396,7 +518,7 @@ impl<'p, R: Read + Drop> Followed<'p, R> {
         Ok(None)
     }
 
-    /// Looks at the octets of the document. If it had others before, the node makes its changes.
+    /// Looks at the octets of the document. If it had others before, the node makes its changes: those of a short one at once, of others after some steps.
     fn look_at<L: Link, C: Clock, E: Write>(
         &mut self,
         octets: Vec<u8>,
@@ -410,12 +532,12 @@ impl<'p, R: Read + Drop> Followed<'p, R> {
         if self.has_read(&octets) {
             return;
         }
-        match self.take(station, &octets, format, log, err) {
-            Ok(()) => self.octets = Some(octets),
-            Err(_) => {
-                let _ = no_memory(err);
-            }
+        if octets.len() > AT_ONCE || marks_in(&octets) > KEYS_AT_ONCE {
+            self.taking = Some(Taking::new(self.alloc, octets));
+            return;
         }
+        let read = read_at_once(self.alloc, &octets);
+        self.end(Outcome { octets, read }, station, format, log, err);
     }
 
     /// Reads the document on by a step. Once it is read, and has other octets than before, the node makes its changes; a document that is wrong is told once, and
@@ -430,6 +552,13 @@ impl<'p, R: Read + Drop> Followed<'p, R> {
     )
         ensures { IsChanged station.old.bound_node station.new.bound_node }
     {
+        if let Some(taking) = self.taking.take() {
+            match taking.step() {
+                Stepped::GoesOn(taking) => self.taking = Some(taking),
+                Stepped::Ended(outcome) => self.end(outcome, station, format, log, err),
+            }
+            return;
+        }
         match self.read_on(files) {
             Ok(Some(octets)) => self.look_at(octets, station, format, log, err),
             Ok(None) => {}

@@ -9,7 +9,7 @@ ghost use Rattle.bac_driver.specs.Waits.{MOST};
 ghost use Rattle.bac_text.specs.Statuses.{IsFailure, IsStop};
 ghost use Rattle.bac_environment.specs.Files.{OfFile, OnFile};
 ghost use Rattle.bac_serving.specs.Keeping.{IsDocument};
-ghost use Rattle.bac_serving.specs.Looking.{IsChanged, IsServedLooking, IsServer, ServesLooking, TakesStretch, TakesStretches, stop_limit, stop_of, stretch_limit};
+ghost use Rattle.bac_serving.specs.Looking.{IsChanged, IsServedLooking, IsServer, PrintsStretches, ServesLooking, TakesStretch, TakesStretches, stop_limit, stop_of, stretch_limit};
 ghost use Rattle.bac_serving.specs.Looking.{STRETCH as stretch_most};
 ghost use Rattle.bac_environment.specs.Sockets.{OnClock, OnPort};
 ghost use Rattle.bac_serving.specs.Stores.{MeansStore};
@@ -330,6 +330,23 @@ fn serve_stretches<F: RegularFiles, M: Sockets + StandardInput, E: Write>(
     Ok(effects)
 }
 
+/// A node serves in stretches until it stops, and how many requests it performed is printed.
+fn print_stretches<F: RegularFiles, M: Sockets + StandardInput, O: Write, E: Write>(
+    environment: &Environment<'_, F, M>,
+    stop: Stop,
+    looker: &mut Looker<'_, F::File>,
+    station: &mut Station<M::Link, M::Timer>,
+    out: &mut O,
+    err: &mut E,
+) -> Result<(), Status>
+    ensures printed { IfOk result (λ _. PrintsStretches stop (timed station.old.bound_node (M.Timer.told station.old.clock))
+        (timed station.new.bound_node (M.Timer.told station.new.clock)) (O.contents out.old) (O.contents out.new)) }
+    ensures failed { IfErr result IsFailure }
+{
+    let effects = serve_stretches(environment, stop, looker, station, err)?;
+    print_served(effects, out, err)
+}
+
 /// A node serves with a store, and how many requests it performed is printed.
 fn serve_store<F: RegularFiles, M: Sockets + StandardInput + StandardError, O: Write, E: Write>(
     environment: &Environment<'_, F, M>,
@@ -359,8 +376,7 @@ fn serve_store<F: RegularFiles, M: Sockets + StandardInput + StandardError, O: W
         looker.format,
         err,
     );
-    let effects = serve_stretches(environment, stop, &mut looker, &mut station, &mut err)?;
-    print_served(effects, out, &mut err)?;
+    print_stretches(environment, stop, &mut looker, &mut station, out, &mut err)?;
     looker.log.end(&mut err);
     err.end();
     Ok(())

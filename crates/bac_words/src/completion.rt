@@ -46,7 +46,7 @@ const FILE_CASE: &str = "                    *) case \"$now\" in -*) ;; *) words
 ";
 
 /// Writes the names of some commands, each behind a space.
-fn write_names<O: Write>(out: &mut O, grammars: &[Grammar]) -> io::Result<()> {
+pub(crate) fn write_names<O: Write>(out: &mut O, grammars: &[Grammar]) -> io::Result<()> {
     for grammar in grammars {
         let name = grammar.name;
         write!(out, " {name}")?;
@@ -54,8 +54,8 @@ fn write_names<O: Write>(out: &mut O, grammars: &[Grammar]) -> io::Result<()> {
     Ok(())
 }
 
-/// Writes the names of all commands.
-fn write_all_names<O: Write>(out: &mut O) -> io::Result<()> {
+/// Writes the names of all commands, each behind a space.
+pub(crate) fn write_all_names<O: Write>(out: &mut O) -> io::Result<()> {
     write_names(out, people())?;
     write_names(out, offline())?;
     write_names(out, of_servers())?;
@@ -64,8 +64,16 @@ fn write_all_names<O: Write>(out: &mut O) -> io::Result<()> {
     write_names(out, about())
 }
 
+/// Whether a word begins with two hyphens.
+pub(crate) fn has_hyphens(word: &Word) -> bool {
+    !matches!(
+        word.form,
+        WordForm::Bare | WordForm::Several | WordForm::OneOf(_)
+    )
+}
+
 /// Writes words, each behind a space.
-fn write_choices<O: Write>(out: &mut O, words: &[&str]) -> io::Result<()> {
+pub(crate) fn write_choices<O: Write>(out: &mut O, words: &[&str]) -> io::Result<()> {
     for word in words {
         write!(out, " {word}")?;
     }
@@ -76,7 +84,7 @@ fn write_choices<O: Write>(out: &mut O, words: &[&str]) -> io::Result<()> {
 fn write_behind<O: Write>(out: &mut O, word: &Word) -> io::Result<()> {
     let name = word.name;
     match word.form {
-        WordForm::Bare | WordForm::Several | WordForm::Flag => Ok(()),
+        WordForm::Bare | WordForm::Several | WordForm::OneOf(_) | WordForm::Flag => Ok(()),
         WordForm::Text("FILE" | "DIR") => writeln!(out, "                    --{name}) words= ;;"),
         WordForm::Text("FORM") => writeln!(
             out,
@@ -115,7 +123,7 @@ fn write_case<O: Write>(out: &mut O, grammar: &Grammar) -> io::Result<()> {
     let name = grammar.name;
     write!(out, "            {name})\n                words=\"--help")?;
     for word in grammar.words {
-        if !matches!(word.form, WordForm::Bare | WordForm::Several) {
+        if has_hyphens(word) {
             let name = word.name;
             write!(out, " --{name}")?;
         }
@@ -150,7 +158,8 @@ pub(crate) fn write_completion<O: Write>(out: &mut O) -> io::Result<()> {
     write_cases(out, of_servers())?;
     write_cases(out, of_clients())?;
     write_cases(out, backups())?;
-    out.write_all(b"            help) words=\"--man")?;
+    out.writeln("            completion) words=\"bash zsh fish\" ;;")?;
+    out.write_all(b"            help) words=\"--all --man")?;
     write_all_names(out)?;
     out.writeln("\" ;;")?;
     out.write_all(TAIL.as_bytes())

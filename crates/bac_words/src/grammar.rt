@@ -16,6 +16,9 @@ fn text<'a>(arg: Arg<'a>, name: &'a str, value: &'a str) -> Arg<'a> {
 fn formed<'a>(arg: Arg<'a>, name: &'a str, form: WordForm) -> Arg<'a> {
     match form {
         WordForm::Bare => arg.action(ArgAction::Set),
+        WordForm::OneOf(names) => arg
+            .action(ArgAction::Set)
+            .value_parser(ValueParser::Names(names)),
         WordForm::Several => arg
             .num_args(1..)
             .action(ArgAction::Append)

@@ -3,12 +3,14 @@ ghost use Rattle.std.specs.Prelude.{◌≡◌, false, IfOk};
 ghost use Rattle.std.specs.Io.KnownBytes.{Keeps};
 
 use crate::backup_words::backups;
-use crate::completion::write_completion;
 use crate::help_words::{about, command_named, more_example, of_clients, of_servers, offline};
 use crate::manual::write_manual;
 use crate::people_words::people;
+use crate::shells::{Shell, write_script};
+use crate::value_names::list_named;
 use crate::words::{Grammar, Need, Word, WordForm};
 use crate::wrapping::{SCREEN, write_lines, write_wrapped};
+use std::alloc::Global;
 use std::io;
 use std::io::Write;
 
@@ -18,21 +20,23 @@ const VERSION: &str = "bac 1.0.0";
 /// What is told of the program.
 #[derive(Clone, Copy, Debug)]
 pub enum Telling<'a> {
-    /// All commands, or what the one of that name does, its words and examples.
+    /// The commands on one screen, or what the one of that name does, its words and examples; or the list of names with that name.
     Help(Option<&'a str>),
+    /// All commands, and what each does.
+    All,
     /// The page of the manual, in roff.
     Manual,
     /// The name of the program and its version, on one line.
     Version,
-    /// The script that completes words in bash.
-    Completion,
+    /// The script that completes words in a shell.
+    Completion(Shell),
 }
 
 /// Writes how a word is written, with these hyphens: `--port P`, `--text`, `FILE`.
 pub(crate) fn write_form<O: Write>(out: &mut O, hyphens: &str, word: &Word) -> io::Result<()> {
     let name = word.name;
     match word.form {
-        WordForm::Bare => out.write_all(name.as_bytes()),
+        WordForm::Bare | WordForm::OneOf(_) => out.write_all(name.as_bytes()),
         WordForm::Several => write!(out, "{name}.."),
         WordForm::Flag => write!(out, "{hyphens}{name}"),
         WordForm::Text(value)
@@ -88,6 +92,34 @@ fn write_names<O: Write>(out: &mut O, grammars: &[Grammar]) -> io::Result<()> {
     Ok(())
 }
 
+/// The commands by whom they are for, on one screen of 24 lines.
+const SHORT: &str = "\
+BACnet confirmed services: bac COMMAND ARGUMENTS..
+For people:
+  read        prints values of a device's objects
+  write       writes a value, and reads it back
+  points      lists a device's objects, with their values and units
+  backup      saves a device's files in a folder
+  restore     writes the saved files back
+A device:
+  serve       serves objects over UDP
+  keep        prints what a server keeps in a file
+Captures:
+  explain     lists the transactions in a pcap or pcapng file
+  check       prints the invalid frames of one
+  decode      prints the layers of datagrams
+For tests:
+  simulate    runs a script of events in a simulated network
+  pair        runs two nodes that ask each other
+  answer      prints what a server sends back for a datagram
+More:
+  ask         sends a request, or those of a list
+  help        explains a command: bac help read
+  version     prints the version
+  completion  prints a script for bash, zsh or fish
+`bac help --all` says more of each; `bac help values` lists names of values.
+";
+
 /// Writes all commands.
 fn write_all_commands<O: Write>(out: &mut O) -> io::Result<()> {
     out.writeln("BACnet confirmed services: bac COMMAND ARGUMENTS..\n\nFor people:")?;
@@ -111,23 +143,42 @@ fn write_version<O: Write>(built: Option<&str>, out: &mut O) -> io::Result<()> {
     }
 }
 
+/// Writes the list of names with that name. False, with nothing written, where there is none.
+fn write_list<O: Write>(alloc: Global, name: &str, out: &mut O) -> io::Result<bool>
+    ensures missing { IfOk result (λ told. told ≡ false → Keeps (O.contents out.old) (O.contents out.new)) }
+{
+    match list_named(alloc, name)? {
+        Some(list) => {
+            out.write_all(&list)?;
+            Ok(true)
+        }
+        None => Ok(false),
+    }
+}
+
 impl Telling<'_> {
     /// Writes what is told, without a flush; `built` is what is known of how the program was built. False, with nothing written, where it is help for a command
-    /// and there is none of that name. An Err is the writer's.
-    pub fn write<O: Write>(self, built: Option<&str>, out: &mut O) -> io::Result<bool>
+    /// and there is none of that name, nor a list of names. An Err is the writer's, or out of memory.
+    pub fn write<O: Write>(
+        self,
+        alloc: Global,
+        built: Option<&str>,
+        out: &mut O,
+    ) -> io::Result<bool>
         ensures missing { IfOk result (λ told. told ≡ false → Keeps (O.contents out.old) (O.contents out.new)) }
     {
         match self {
-            Telling::Help(None) => write_all_commands(out)?,
+            Telling::Help(None) => out.write_all(SHORT.as_bytes())?,
+            Telling::All => write_all_commands(out)?,
             Telling::Help(Some(name)) => {
                 let Some(grammar) = command_named(name) else {
-                    return Ok(false);
+                    return write_list(alloc, name, out);
                 };
                 write_command(out, grammar)?;
             }
             Telling::Manual => write_manual(out)?,
             Telling::Version => write_version(built, out)?,
-            Telling::Completion => write_completion(out)?,
+            Telling::Completion(shell) => write_script(shell, out)?,
         }
         Ok(true)
     }

@@ -9,8 +9,15 @@ const HELP: &[Word] = &[
         name: "COMMAND",
         form: WordForm::Bare,
         need: Need::Never,
+        against: &["man", "all"],
+        help: "The command to explain; without it, the commands are listed on one screen. Or names to list: those of object `types`, of `properties`, or of an enumeration; `values` lists the enumerations",
+    },
+    Word {
+        name: "all",
+        form: WordForm::Flag,
+        need: Need::Never,
         against: &["man"],
-        help: "The command to explain; without it, all commands are listed",
+        help: "Lists all commands, and says what each does",
     },
     Word {
         name: "man",
@@ -21,12 +28,21 @@ const HELP: &[Word] = &[
     },
 ];
 
+/// What `completion` takes.
+const COMPLETION: &[Word] = &[Word {
+    name: "SHELL",
+    form: WordForm::OneOf(&["bash", "zsh", "fish"]),
+    need: Need::Never,
+    against: &[],
+    help: "The shell: bash, zsh or fish; bash by default",
+}];
+
 /// The commands that tell of the program, which help lists last.
 const TOLD: &[Grammar] = &[
     Grammar {
         name: "help",
         about: "Explains a command: what it does, what its arguments mean, and examples",
-        after: "Example: bac help ask\nExample: bac help --man > bac.1",
+        after: "Example: bac help ask\nExample: bac help engineering-units\nExample: bac help --man > bac.1",
         words: HELP,
     },
     Grammar {
@@ -37,9 +53,9 @@ const TOLD: &[Grammar] = &[
     },
     Grammar {
         name: "completion",
-        about: "Prints a script for bash that completes the commands and their arguments",
-        after: "Example: bac completion > /usr/share/bash-completion/completions/bac",
-        words: &[],
+        about: "Prints a script for a shell that completes the commands and their arguments",
+        after: "Example: bac completion > /usr/share/bash-completion/completions/bac\nExample: bac completion fish > ~/.config/fish/completions/bac.fish",
+        words: COMPLETION,
     },
 ];
 

@@ -2,14 +2,20 @@
 #![tactic(auto)]
 
 mod backup_words;
+mod capture_words;
 mod completion;
 mod grammar;
 mod help;
 mod help_words;
 mod manual;
+mod nearest;
 mod people_words;
+mod shells;
+mod value_names;
 mod words;
 mod wrapping;
 
 pub use grammar::matches;
 pub use help::Telling;
+pub use nearest::nearest_command;
+pub use shells::Shell;

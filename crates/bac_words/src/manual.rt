@@ -38,6 +38,9 @@ A socket, the clock or the output failed.
 .TP
 .B 4
 An allocation failed.
+.TP
+.B 141
+What reads the output has ended.
 ";
 
 /// Writes a word and what it means.

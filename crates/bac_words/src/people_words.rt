@@ -122,7 +122,7 @@ const WRITE: &[Word] = &[
 const POINTS_EXAMPLES: &str = "\
 Example: bac points
 Example: bac points --to 192.168.1.20
-Example: bac points --to 192.168.1.20 --device 100 | column -t -s \"$(printf '\\t')\"";
+Example: bac points --to 192.168.1.20 --device 100 --csv > points.csv";
 
 /// What `points` takes.
 const POINTS: &[Word] = &[
@@ -135,6 +135,20 @@ const POINTS: &[Word] = &[
         need: Need::Never,
         against: &[],
         help: "The instance of the device; by default 4194303, which stands for any instance, and which not every device accepts",
+    },
+    Word {
+        name: "json",
+        form: WordForm::Flag,
+        need: Need::Never,
+        against: &[],
+        help: "Prints each object as a JSON object, one per line",
+    },
+    Word {
+        name: "csv",
+        form: WordForm::Flag,
+        need: Need::Never,
+        against: &["json"],
+        help: "Prints each object as a CSV row, below a row with the names of the columns",
     },
 ];
 
@@ -154,7 +168,7 @@ const PEOPLE: &[Grammar] = &[
     },
     Grammar {
         name: "points",
-        about: "Prints the objects of a device: name, value, units, description and status, one object per line, with tabs between the columns",
+        about: "Prints the objects of a device: name, value, units, description and status, one object per line; the columns are aligned on a terminal, and elsewhere stand with tabs between",
         after: POINTS_EXAMPLES,
         words: POINTS,
     },

@@ -28,9 +28,7 @@ impl Capture {
         };
         let over = self.explainer.pop_over(now);
         self.close(over)?;
-        let heard = self
-            .explainer
-            .hear(alloc, now, seen.key, seen.role, seen.octets)?;
+        let heard = self.explainer.hear(alloc, now, seen, true)?;
         self.close(heard.closed)?;
         match heard.finding {
             None | Some(Finding::NegativeAck) => {}

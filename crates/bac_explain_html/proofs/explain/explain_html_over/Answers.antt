@@ -10,6 +10,6 @@ use Rattle.bac_explain_html.proofs.explain.explain_html_over.Goals as goal
 
 pub returns-in-Ok : goal.returns-in-Ok
 returns-in-Ok g c =
-    subst (λ (a : Account). IsReportOf Account (SeesFrame (Untimed IsFramePart) c.args.ports.also) (BreaksFile (Untimed IsFramePart)) (λ _. FRONT.now)
+    subst (λ (a : Account). IsReportOf Account (SeesFrame (Untimed IsFramePart) IsEntry c.args.ports.also) (BreaksFile (Untimed IsFramePart) IsEntry) (λ _. FRONT.now)
     (EndsFile IsEntry IsLastPart) no_report a (g.R.Read.remaining c.args.input.now) (g.O.Write.contents c.args.out.now)
     (g.O.Write.contents c.report_over.new.out) c.report_over.result) c.in-Ok.ensures c.report_over.ensures

@@ -1,9 +1,9 @@
--- The five counts, one after the other.
+-- The six counts, one after the other.
 use Rattle.std.proofs.Common.{string_bytes}
-use Rattle.bac_explain_html.proofs.Told.{five_told, if_ok}
+use Rattle.bac_explain_html.proofs.Told.{if_ok, six_told}
 use Rattle.bac_explain_html.proofs.page.endings.Goals as goal
 
 pub returns : goal.returns
 returns c = if_ok c.format.result _ _
-    (λ t is. five_told (string_bytes t) _ _ _ _ _ _ _ _ _ _ is c.in_ok-all.ensures c.in_ok-answered.ensures c.in_ok-rejected.ensures c.in_ok-aborted.ensures
+    (λ t is. six_told (string_bytes t) _ _ _ _ _ _ _ _ _ _ _ _ is c.in_ok-all.ensures c.in_ok-answered.ensures c.in_ok-errors.ensures c.in_ok-rejected.ensures c.in_ok-aborted.ensures
     c.in_ok-unanswered.ensures) c.format.ensures.ok

@@ -1,12 +1,12 @@
 -- A row, and one with its picture.
 use Rattle.std.proofs.Common.{◌∙◌, refl}
-use Rattle.bac_explain.specs.Closings.{closed_view}
+use Rattle.bac_explain.specs.Closings.{told_view}
 use Rattle.bac_explain_html.proofs.Told.{added, entry_told}
 use Rattle.bac_explain_html.proofs.row.entry.Goals as goal
 
 pub returns : goal.returns
 returns c =
-    entry_told (closed_view c.args.closed.now) _ _ _ _ _ _ _ c.entry_front.ensures c.in_ok-key.ensures c.in_ok-words.ensures c.in_ok-end.ensures c.deref.ensures.value
+    entry_told (told_view c.args.key c.args.transaction.now) _ _ _ _ _ _ _ c.entry_front.ensures c.in_ok-cells.ensures c.in_ok-words.ensures c.in_ok-end.ensures c.deref.ensures.value
     c.in_ok-picture.ensures
     (added _ _ _ _ _ c.in_ok-extend_from_slice-6.ensures.items
     (added _ _ _ _ _ c.in_ok-extend_from_slice-5.ensures.items

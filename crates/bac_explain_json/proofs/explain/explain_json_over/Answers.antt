@@ -8,6 +8,6 @@ use Rattle.bac_explain_json.proofs.explain.explain_json_over.Goals as goal
 
 pub returns-in-Ok : goal.returns-in-Ok
 returns-in-Ok g c =
-    subst (λ (a : Account). IsReportOf Account (SeesFrame IsFrameLine c.args.ports.also) (BreaksFile IsFrameLine) (λ _. [])
+    subst (λ (a : Account). IsReportOf Account (SeesFrame IsFrameLine IsTransactionLine c.args.ports.also) (BreaksFile IsFrameLine IsTransactionLine) (λ _. [])
     (EndsFile IsTransactionLine IsSummaryLine) no_report a (g.R.Read.remaining c.args.input.now) (g.O.Write.contents c.args.out.now)
     (g.O.Write.contents c.report_over.new.out) c.report_over.result) c.in-Ok.ensures c.report_over.ensures

@@ -10,6 +10,6 @@ use Rattle.bac_explain_report.proofs.explain.explain_frames_over.Goals as goal
 
 pub returns-in-Ok : goal.returns-in-Ok
 returns-in-Ok g c =
-    subst (λ (a : Account). IsReportOf Account (SeesFrame (Untimed (IsFrameReport IsFramedBlock)) c.args.ports.also) (BreaksFile (Untimed (IsFrameReport IsFramedBlock))) (λ _. [])
+    subst (λ (a : Account). IsReportOf Account (SeesFrame (Untimed (IsFrameReport IsFramedBlock)) IsFramedBlock c.args.ports.also) (BreaksFile (Untimed (IsFrameReport IsFramedBlock)) IsFramedBlock) (λ _. [])
     (EndsFile IsFramedBlock AreLastLines) no_report a (g.R.Read.remaining c.args.input.now) (g.O.Write.contents c.args.out.now)
     (g.O.Write.contents c.report_over.new.out) c.report_over.result) c.in-Ok.ensures c.report_over.ensures

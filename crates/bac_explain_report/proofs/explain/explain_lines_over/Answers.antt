@@ -10,6 +10,6 @@ use Rattle.bac_explain_report.proofs.explain.explain_lines_over.Goals as goal
 
 pub returns-in-Ok : goal.returns-in-Ok
 returns-in-Ok g c =
-    subst (λ (a : Account). IsReportOf Account (SeesFrame (Untimed (IsFrameReport IsBlock)) c.args.ports.also) (BreaksFile (Untimed (IsFrameReport IsBlock))) (λ _. [])
+    subst (λ (a : Account). IsReportOf Account (SeesFrame (Untimed (IsFrameReport IsBlock)) IsBlock c.args.ports.also) (BreaksFile (Untimed (IsFrameReport IsBlock)) IsBlock) (λ _. [])
     (EndsFile IsBlock AreLastLines) no_report a (g.R.Read.remaining c.args.input.now) (g.O.Write.contents c.args.out.now)
     (g.O.Write.contents c.report_over.new.out) c.report_over.result) c.in-Ok.ensures c.report_over.ensures
