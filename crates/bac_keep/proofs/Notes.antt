@@ -1,5 +1,5 @@
 -- When what a node has made is noted, the document and its cells make the store that it has.
-use Rattle.std.proofs.Common.{◌≡◌, ℕ, ℤ, ◌*◌, ◌<◌, ◌≤◌, Bool, true, false, not, ◌==◌, nat_lt, List, length}
+use Rattle.std.proofs.Common.{◌≡◌, ◌≢◌, ◌&&◌, ℕ, ℤ, ◌*◌, ◌<◌, ◌≤◌, Bool, true, false, not, ◌==◌, nat_lt, List, length}
 use Rattle.std.proofs.Common.{Option, Some, None, is_some, refl, sym, ap, ◌∙◌, subst, arith, if◌then◌else◌}
 use Rattle.std.specs.List.{AllPairs}
 use Rattle.std.specs.Option.{IfSome, option_map}
@@ -10,18 +10,18 @@ use Rattle.bac_service.specs.Values.{Reference, Request, WriteAccess}
 use Rattle.bac_service.specs.Values.Request.{WriteFile, WriteProperty}
 use Rattle.bac_service.specs.Values.WriteAccess.{WriteStream, WriteRecords}
 use Rattle.bac_store.specs.AtNode.{Change}
-use Rattle.bac_store.specs.Changes.{IsGranted, after, is_done, with_contents, with_object, with_octets, with_own_values, with_values}
+use Rattle.bac_store.specs.Changes.{IsGranted, after, is_done, resized, size_of, with_contents, with_object, with_octets, with_own_values, with_values}
 use Rattle.bac_store.specs.Kept.{IsInOrder, object_number}
 use Rattle.bac_store.specs.Replies.{at_file, at_object, at_property, file_of, is_no_write_start, is_of_kind, is_out_of_range, reply_to}
 use Rattle.bac_store.specs.Replies.{write_file_reply, write_reply, written}
-use Rattle.bac_store.specs.Limits.{FILE_LIMIT, VALUE_LIMIT}
-use Rattle.bac_store.specs.Stores.{File, Object, Property, Store, is_number, is_object, listed_in, object_in, property_in}
+use Rattle.bac_store.specs.Limits.{FILE_LIMIT, FILE_SIZE, READ_ONLY, VALUE_LIMIT}
+use Rattle.bac_store.specs.Stores.{File, Object, Property, Store, file_size, is_number, is_object, is_written, listed_in, object_in, property_in}
 use Rattle.bac_store.specs.Writes.{file_at, listed_at, listed_of}
 use Rattle.bac_store.proofs.Distinct.{AllPairs-map, some_first}
 use Rattle.bac_store.proofs.GrantLaws.{granted_after, listed}
 use Rattle.bac_store.proofs.OrderLaws.{first_that-map}
 use Rattle.bac_store.proofs.PlanLaws.{same_octets}
-use Rattle.bac_store.proofs.WriteLaws.{file_changed, value_written, where_done}
+use Rattle.bac_store.proofs.WriteLaws.{after_granted, file_changed, size_written, value_written, where_done}
 use Rattle.bac_keep.specs.Cells.{Cells, Fits, NUMBERS, file_place, value_place, with_cell}
 use Rattle.bac_keep.specs.Made.{IsKeepable, IsWritableFile, IsWritableValue, Made, after_made}
 use Rattle.bac_keep.specs.Made.Made.{Changed, Performed}
@@ -159,8 +159,32 @@ module _ (r : Reference) (values : List ℕ) where
   of_property p h =
       by_case (is_some r.index) p.writable (is_of_kind p.kind values) (is_out_of_range r values p) (nat_lt VALUE_LIMIT (length values)) h
 
-  pub granted_value : (s : Store) (priority : Option ℕ) → IsGranted s (WriteProperty r values priority) → IsWritableValue s r.object r.property
-  granted_value s priority granted = go (object_in s r.object) refl granted
+  -- who may set the size of a file may write it
+  pub granted_size : (s : Store) (priority : Option ℕ) → r.property ≡ FILE_SIZE → IsGranted s (WriteProperty r values priority)
+      → IsWritableFile s r.object
+  granted_size s priority is granted = go (object_in s r.object) refl granted
+    where
+      first : (a b : Bool) → (a && b) ≡ true → a ≡ true
+      first true b e = refl
+      first false b e = cc
+
+      in_file : (o : Object) → object_in s r.object ≡ Some o → (x : Option File) → o.file ≡ x
+          → is_done (at_property (option_map (file_size o) x) (write_reply r values)) ≡ true → IsWritableFile s r.object
+      in_file o e None f h = absurd (cc)
+      in_file o e (Some g) f h = record {
+        file = g;
+        found = ap file_of e ∙ f;
+        writable = ap is_written (sym f) ∙ first (is_written o.file) (is_some (listed_in o READ_ONLY)) (of_property (file_size o g) h);
+      }
+
+      go : (x : Option Object) → object_in s r.object ≡ x → is_done (at_object x (λ o. at_property (property_in o r.property) (write_reply r values))) ≡ true
+          → IsWritableFile s r.object
+      go None e h = absurd (cc)
+      go (Some o) e h = in_file o e o.file refl (ap (λ n. is_done (at_property (property_in o n) (write_reply r values))) (sym is) ∙ h)
+
+  pub granted_value : (s : Store) (priority : Option ℕ) → r.property ≢ FILE_SIZE → IsGranted s (WriteProperty r values priority)
+      → IsWritableValue s r.object r.property
+  granted_value s priority other granted = go (object_in s r.object) refl granted
     where
       found : (o : Object) → object_in s r.object ≡ Some o → (x : Option Property) → listed_in o r.property ≡ x
           → is_done (at_property x (write_reply r values)) ≡ true
@@ -171,7 +195,7 @@ module _ (r : Reference) (values : List ℕ) where
       go : (x : Option Object) → object_in s r.object ≡ x → is_done (at_object x (λ o. at_property (property_in o r.property) (write_reply r values))) ≡ true
           → IsWritableValue s r.object r.property
       go None e h = absurd (cc)
-      go (Some o) e h = found o e (listed_in o r.property) refl (listed r values o h)
+      go (Some o) e h = found o e (listed_in o r.property) refl (listed r values o other h)
 
 pub granted_file : (s : Store) (id : ObjectId) (access : WriteAccess) → IsGranted s (WriteFile id access) → IsWritableFile s id
 granted_file s id access granted = go (file_at s id) refl access granted
@@ -210,15 +234,25 @@ records_refused (Some f) start count run h = cc
 
 module _ (cells : Cells) (document : Store) (order : IsInOrder document) (s : Store) (m : Made) (is : s ≡ after_made m (overlay cells document))
     (keepable : IsKeepable m (overlay cells document)) where
-  pub performed_value : (r : Reference) (values : List ℕ) (priority : Option ℕ) → m ≡ Performed (WriteProperty r values priority) → Fits r.object
-      → IfSome (listed_at s r.object r.property) (λ p. p.writable ≡ true → r.property < NUMBERS)
-      → overlay (values_noted s r.object r.property cells) document ≡ s
-  performed_value r values priority e id_fits small =
+  pub performed_size : IsInOrder s → (r : Reference) (values : List ℕ) (priority : Option ℕ) → r.property ≡ FILE_SIZE
+      → m ≡ Performed (WriteProperty r values priority) → Fits r.object → overlay (octets_noted s r.object cells) document ≡ s
+  performed_size s_order r values priority size e id_fits =
       let now = overlay cells document in
       let granted : IsGranted now (WriteProperty r values priority) = subst (λ (x : Made). IsKeepable x now) e keepable in
       let made : s ≡ after now (WriteProperty r values priority) = is ∙ ap (λ (x : Made). after_made x now) e in
-      values_are_noted cells document order r.object r.property values s id_fits (granted_value r values now priority granted)
-      (made ∙ granted_after now r values priority granted) (if_some (λ p. p.writable ≡ true → r.property < NUMBERS) _ small)
+      octets_are_noted cells document order r.object (resized (size_of values)) s id_fits (granted_size r values now priority size granted)
+      (made ∙ after_granted now r values priority granted ∙ size_written r.object r.property values now size) (file_short s s_order r.object)
+
+  pub performed_value : (r : Reference) (values : List ℕ) (priority : Option ℕ) → r.property ≢ FILE_SIZE
+      → m ≡ Performed (WriteProperty r values priority) → Fits r.object
+      → IfSome (listed_at s r.object r.property) (λ p. p.writable ≡ true → r.property < NUMBERS)
+      → overlay (values_noted s r.object r.property cells) document ≡ s
+  performed_value r values priority other e id_fits small =
+      let now = overlay cells document in
+      let granted : IsGranted now (WriteProperty r values priority) = subst (λ (x : Made). IsKeepable x now) e keepable in
+      let made : s ≡ after now (WriteProperty r values priority) = is ∙ ap (λ (x : Made). after_made x now) e in
+      values_are_noted cells document order r.object r.property values s id_fits (granted_value r values now priority other granted)
+      (made ∙ granted_after now r values priority other granted) (if_some (λ p. p.writable ≡ true → r.property < NUMBERS) _ small)
 
   pub changed_value : (id : ObjectId) (n : ℕ) (values : List ℕ) → m ≡ Changed (Change.Value id n values) → Fits id
       → IfSome (listed_at s id n) (λ p. p.writable ≡ true → n < NUMBERS) → overlay (values_noted s id n cells) document ≡ s

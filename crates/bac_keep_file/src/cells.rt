@@ -18,7 +18,7 @@ use crate::putting::TABLE;
 use crate::reading::read_cells;
 use bac_keep::{KeepFault, Keeper, Made, restored};
 use bac_service::AnyRequest;
-use bac_store::{Change, Store as Objects, stores_are_in_order};
+use bac_store::{Change, FILE_SIZE, Store as Objects, stores_are_in_order};
 use sqlite_trees::store::{Shape, Store};
 use std::alloc::Global;
 
@@ -78,7 +78,12 @@ fn note_made<S: Store>(
     match *made {
         Made::Performed(AnyRequest::WriteProperty(write)) => {
             let reference = write.reference;
-            note_values(alloc, database, store, reference.object, reference.property)?;
+            if reference.property == FILE_SIZE {
+                // the file was cut, or made longer
+                note_octets(alloc, database, store, reference.object)?;
+            } else {
+                note_values(alloc, database, store, reference.object, reference.property)?;
+            }
             Ok(())
         }
         Made::Performed(AnyRequest::WriteFile(write)) => {

@@ -6,7 +6,7 @@ use Rattle.std.proofs.lemmas.Bool.Decides.{nat_tests}
 use Rattle.bac_value.specs.Value.{ObjectId}
 use Rattle.bac_value.specs.Spelling.{tag_spelling}
 use Rattle.bac_value.specs.Number.{unsigned_octets}
-use Rattle.bac_value.specs.Reading.{element_at, tag_at, tag_number_at, form_at, length_at, contents_at, class_at, kind_at, raw_at}
+use Rattle.bac_value.specs.Reading.{element_at, tag_at, tag_number_at, form_at, length_at, contents_at, class_at, kind_at, number_at, raw_at}
 use Rattle.bac_service.specs.Values.{Reference, ReadAccess, WriteAccess, Request}
 use Rattle.bac_service.specs.Values.ReadAccess.{ReadStream, ReadRecords}
 use Rattle.bac_service.specs.Values.WriteAccess.{WriteStream, WriteRecords}
@@ -177,10 +177,59 @@ not_an_array = refl
 element_is_not_written : reply_to described (WriteProperty (nth 8 7 76 1) (0xC4 ∷ 2 ∷ 0 ∷ 0 ∷ 8 ∷ []) None) ≡ Error 2 50
 element_is_not_written = refl
 
--- ---- the file of the house
+-- ---- the size of a file: one that lists read-only, one that is not writable, and that of the house
 
 abbrev octets_of : Store → Option (List ℕ)
 octets_of s = option_map (λ f. f.octets) (file_of (object_in s (id 10 1)))
+
+abbrev sized_file : Bool → Store
+sized_file writable =
+    record {
+      id = id 10 1;
+      name = 0x66 ∷ [];
+      properties = record { number = 99; values = 0x10 ∷ []; writable = false; kind = Some 1; allowed = Any } ∷ [];
+      file = Some (record { octets = 0x4F ∷ 0x4B ∷ 0x21 ∷ []; writable = writable });
+    }
+    ∷ []
+
+abbrev set_size : List ℕ → Request
+set_size values = WriteProperty (to 10 1 42) values None
+
+size_is_set : reply_to (sized_file true) (set_size (0x21 ∷ 1 ∷ [])) ≡ Simple
+unfolding element_at tag_at tag_number_at form_at length_at contents_at class_at kind_at number_at raw_at
+size_is_set = refl
+
+is_cut : octets_of (after (sized_file true) (set_size (0x21 ∷ 1 ∷ []))) ≡ Some (0x4F ∷ [])
+unfolding element_at tag_at tag_number_at form_at length_at contents_at class_at kind_at number_at raw_at
+is_cut = refl
+
+is_emptied : octets_of (after (sized_file true) (set_size (0x21 ∷ 0 ∷ []))) ≡ Some []
+unfolding element_at tag_at tag_number_at form_at length_at contents_at class_at kind_at number_at raw_at
+is_emptied = refl
+
+is_extended : octets_of (after (sized_file true) (set_size (0x21 ∷ 5 ∷ []))) ≡ Some (0x4F ∷ 0x4B ∷ 0x21 ∷ 0 ∷ 0 ∷ [])
+unfolding element_at tag_at tag_number_at form_at length_at contents_at class_at kind_at number_at raw_at
+is_extended = refl
+
+greatest_size : reply_to (sized_file true) (set_size (0x22 ∷ 0xEA ∷ 0x60 ∷ [])) ≡ Simple
+unfolding element_at tag_at tag_number_at form_at length_at contents_at class_at kind_at number_at raw_at
+greatest_size = refl
+
+size_above : reply_to (sized_file true) (set_size (0x22 ∷ 0xEA ∷ 0x61 ∷ [])) ≡ Error 2 37
+unfolding element_at tag_at tag_number_at form_at length_at contents_at class_at kind_at number_at raw_at
+size_above = refl
+
+size_of_other_kind : reply_to (sized_file true) (set_size (0x91 ∷ 1 ∷ [])) ≡ Error 2 9
+unfolding element_at tag_at tag_number_at form_at length_at contents_at class_at kind_at number_at raw_at
+size_of_other_kind = refl
+
+size_of_read_only : reply_to (sized_file false) (set_size (0x21 ∷ 1 ∷ [])) ≡ Error 2 40
+size_of_read_only = refl
+
+size_in_house : reply_to house (set_size (0x21 ∷ 1 ∷ [])) ≡ Error 2 40
+size_in_house = refl
+
+-- ---- the file of the house
 
 abbrev write : WriteAccess → Request
 write access = WriteFile (id 10 1) access

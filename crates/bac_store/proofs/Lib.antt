@@ -5,6 +5,7 @@ pub mod Orders
 pub mod ValueData
 pub mod Keeps
 pub mod PlanLaws
+mod SizeLaws
 pub mod Rising
 pub mod Distinct
 pub mod Sorting

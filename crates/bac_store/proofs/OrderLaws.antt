@@ -1,15 +1,16 @@
 -- What is found in a store after a request; and replies depend only on what is found.
-use Rattle.std.proofs.Common.{◌≡◌, ◌∙◌, ℕ, Bool, true, false, List, [], ◌∷◌, map, Option, Some, None, refl, sym, ap, subst, if◌then◌else◌}
+use Rattle.std.proofs.Common.{◌≡◌, ◌∙◌, ℕ, ◌==◌, Bool, true, false, ◌&&◌, List, [], ◌∷◌, length, map, Option, Some, None, is_some, refl, sym, ap, subst, if◌then◌else◌}
 use Rattle.std.specs.Option.{option_map}
 use Rattle.bac_value.specs.Value.{ObjectId}
 use Rattle.bac_service.specs.Values.{Request}
 use Rattle.bac_service.specs.Replies.{Reply}
 use Rattle.bac_service.specs.Values.WriteAccess.{WriteStream, WriteRecords}
 use Rattle.bac_service.specs.Values.Request.{ReadFile, WriteFile, ReadProperty, WriteProperty}
-use Rattle.bac_store.specs.Changes.{after, done, is_done, with_contents, with_object, with_octets, with_own_values, with_values}
+use Rattle.bac_store.specs.Changes.{after, done, is_done, resized, size_of, with_contents, with_object, with_octets, with_own_values, with_values, with_written}
+use Rattle.bac_store.specs.Limits.{FILE_SIZE, READ_ONLY}
 use Rattle.bac_store.specs.Objects.{AreLike, IsLike, IsStoreOf}
 use Rattle.bac_store.specs.Replies.{at_file, at_object, at_property, file_of, read_file_reply, read_reply, reply_to, write_file_reply, write_reply, written}
-use Rattle.bac_store.specs.Stores.{Object, Property, Store, first_that, is_number, is_object, is_same}
+use Rattle.bac_store.specs.Stores.{Object, Property, Store, file_size, first_that, is_number, is_object, is_same, is_written, sized}
 use Rattle.bac_store.specs.Stores.{listed_in, object_in, property_in}
 use Rattle.bac_store.specs.Targets.{read_in}
 use Rattle.bac_store.proofs.ReadTargets.{read_like}
@@ -68,8 +69,28 @@ values_like n values a b l = record {
   file = l.file;
 }
 
+written_id : (n : ℕ) (values : List ℕ) (o : Object) → (with_written n values o).id ≡ o.id
+written_id n values o = go (n == FILE_SIZE)
+  where
+    go : (b : Bool) → (if b then with_octets (resized (size_of values)) o else with_values n values o).id ≡ o.id
+    go true = refl
+    go false = refl
+
+written_like : (n : ℕ) (values : List ℕ) (a b : Object) → IsLike a b → IsLike (with_written n values a) (with_written n values b)
+written_like n values a b l = go (n == FILE_SIZE)
+  where
+    go : (t : Bool) → IsLike (if t then with_octets (resized (size_of values)) a else with_values n values a)
+        (if t then with_octets (resized (size_of values)) b else with_values n values b)
+    go true = octets_like (resized (size_of values)) a b l
+    go false = values_like n values a b l
+
+size_like : (a b : Object) → IsLike a b → option_map (file_size a) a.file ≡ option_map (file_size b) b.file
+size_like a b l =
+    ap (λ x. option_map (λ f. sized (is_written x && is_some (listed_in a READ_ONLY)) (length f.octets)) x) l.file
+    ∙ ap (λ x. option_map (λ f. sized (is_written b.file && is_some x) (length f.octets)) b.file) (l.listed READ_ONLY)
+
 property_like : (n : ℕ) (a b : Object) → IsLike a b → property_in a n ≡ property_in b n
-property_like n a b l = rw (l.id, l.name, l.file, l.listed n) refl
+property_like n a b l = rw (size_like a b l, l.id, l.name, l.file, l.listed n) refl
 
 changed_like : (id : ObjectId) (change : Object → Object) → ((a b : Object) → IsLike a b → IsLike (change a) (change b)) → (a b : Object) → IsLike a b
     → IsLike (if is_object id a then change a else a) (if is_object id b then change b else b)
@@ -101,7 +122,7 @@ done_like objects s is (WriteFile id (WriteStream start octets)) =
     store_like id (with_octets (written start octets)) (λ o. refl) (octets_like (written start octets)) objects s is
 done_like objects s is (ReadProperty r) = is
 done_like objects s is (WriteProperty r values priority) =
-    store_like r.object (with_values r.property values) (λ o. refl) (values_like r.property values) objects s is
+    store_like r.object (with_written r.property values) (written_id r.property values) (written_like r.property values) objects s is
 
 -- ---- replies
 

@@ -115,7 +115,7 @@ property_few o k n =
     (choose (n == OBJECT_NAME) _ _ (few (computed n (characters 0 o.name)) (omega (arith, value_most (characters 0 o.name), k.named)))
     (choose (n == OBJECT_TYPE) _ _ (few (computed n (enumerated o.id.kind)) (number_few o.id.kind))
     (choose (n == FILE_ACCESS_METHOD) _ _ (few_map o.file access_method (λ f. number_few STREAM_ACCESS))
-    (choose (n == FILE_SIZE) _ _ (few_map o.file file_size (λ f. size_few (length f.octets))) (listed_few o k n)))))
+    (choose (n == FILE_SIZE) _ _ (few_map o.file (file_size o) (λ f. size_few (length f.octets))) (listed_few o k n)))))
 
 -- ---- replies
 

@@ -1,5 +1,5 @@
 -- A write changes one thing only.
-use Rattle.std.proofs.Common.{◌≡◌, ◌≢◌, ◌∙◌, ℕ, ℤ, Bool, true, false, List, [], ◌∷◌, Option, Some, None, refl, sym, ap, subst, arith, if◌then◌else◌}
+use Rattle.std.proofs.Common.{◌≡◌, ◌≢◌, ◌∙◌, ℕ, ℤ, ◌==◌, Bool, true, false, List, [], ◌∷◌, Option, Some, None, refl, sym, ap, subst, arith, if◌then◌else◌}
 use Rattle.std.specs.Option.{option_map}
 use Rattle.std.proofs.lemmas.Bool.Decides.{nat_tests}
 use Rattle.bac_value.specs.Value.{ObjectId}
@@ -7,7 +7,9 @@ use Rattle.bac_service.specs.Choices.{is_read_choice}
 use Rattle.bac_service.specs.Values.{Reference, Request, choice_of}
 use Rattle.bac_service.specs.Values.WriteAccess.{WriteStream}
 use Rattle.bac_service.specs.Values.Request.{ReadFile, WriteFile, ReadProperty, WriteProperty}
-use Rattle.bac_store.specs.Changes.{IsGranted, after, done, is_done, with_contents, with_object, with_octets, with_own_values, with_values}
+use Rattle.bac_store.specs.Changes.{IsGranted, after, done, is_done, resized, size_of, with_contents, with_object, with_octets, with_own_values, with_values}
+use Rattle.bac_store.specs.Changes.{with_written}
+use Rattle.bac_store.specs.Limits.{FILE_SIZE}
 use Rattle.bac_store.specs.Replies.{file_of, reply_to, written}
 use Rattle.bac_store.specs.Stores.{Object, Property, Store, first_that, is_number, is_object, is_same, object_in}
 use Rattle.bac_store.specs.AtNode.{Change, changed, whole}
@@ -114,11 +116,42 @@ where_same : (b : Bool) (x : Store) → (if b then x else x) ≡ x
 where_same true x = refl
 where_same false x = refl
 
-pub write_values : (s : Store) (r : Reference) (values : List ℕ) (priority : Option ℕ) → IsGranted s (WriteProperty r values priority)
-    → IsValueWrite r values s (after s (WriteProperty r values priority))
-write_values s r values priority granted =
-    let to = with_object r.object (with_values r.property values) s in
-    subst (IsValueWrite r values s) (sym (where_done (is_done (reply_to s (WriteProperty r values priority))) to s granted)) (value_written s r values)
+-- what a granted write makes of a listed property, and of a file's size
+pub listed_written : (id : ObjectId) (n : ℕ) (values : List ℕ) (s : Store) → n ≢ FILE_SIZE
+    → with_object id (with_written n values) s ≡ with_object id (with_values n values) s
+listed_written id n values s other = go (n == FILE_SIZE) (grind (arith, nat_tests))
+  where
+    go : (b : Bool) → b ≡ false → with_object id (λ o. if b then with_octets (resized (size_of values)) o else with_values n values o) s
+        ≡ with_object id (with_values n values) s
+    go true e = absurd (cc)
+    go false e = refl
+
+pub size_written : (id : ObjectId) (n : ℕ) (values : List ℕ) (s : Store) → n ≡ FILE_SIZE
+    → with_object id (with_written n values) s ≡ with_object id (with_octets (resized (size_of values))) s
+size_written id n values s is = go (n == FILE_SIZE) (grind (arith, nat_tests))
+  where
+    go : (b : Bool) → b ≡ true → with_object id (λ o. if b then with_octets (resized (size_of values)) o else with_values n values o) s
+        ≡ with_object id (with_octets (resized (size_of values))) s
+    go true e = refl
+    go false e = absurd (cc)
+
+pub after_granted : (s : Store) (r : Reference) (values : List ℕ) (priority : Option ℕ) → IsGranted s (WriteProperty r values priority)
+    → after s (WriteProperty r values priority) ≡ with_object r.object (with_written r.property values) s
+after_granted s r values priority granted =
+    where_done (is_done (reply_to s (WriteProperty r values priority))) (with_object r.object (with_written r.property values) s) s granted
+
+pub write_values : (s : Store) (r : Reference) (values : List ℕ) (priority : Option ℕ) → r.property ≢ FILE_SIZE
+    → IsGranted s (WriteProperty r values priority) → IsValueWrite r values s (after s (WriteProperty r values priority))
+write_values s r values priority other granted =
+    subst (IsValueWrite r values s) (sym (after_granted s r values priority granted ∙ listed_written r.object r.property values s other))
+    (value_written s r values)
+
+pub write_size : (s : Store) (r : Reference) (values : List ℕ) (priority : Option ℕ) → r.property ≡ FILE_SIZE
+    → IsGranted s (WriteProperty r values priority) → IsFileChange r.object (resized (size_of values)) s (after s (WriteProperty r values priority))
+write_size s r values priority is granted =
+    subst (IsFileChange r.object (resized (size_of values)) s)
+    (sym (after_granted s r values priority granted ∙ size_written r.object r.property values s is))
+    (file_changed s r.object (resized (size_of values)))
 
 pub write_octets : (s : Store) (id : ObjectId) (start : ℤ) (octets : List ℕ) → IsGranted s (WriteFile id (WriteStream start octets))
     → IsFileWrite id start octets s (after s (WriteFile id (WriteStream start octets)))

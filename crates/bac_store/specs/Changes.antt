@@ -1,5 +1,5 @@
 -- The store after a request.
-use Rattle.std.specs.Prelude.{◌≡◌, ℕ, ◌+◌, ◌≤◌, Bool, true, false, List, length, map, IfSome, if◌then◌else◌}
+use Rattle.std.specs.Prelude.{◌≡◌, ℕ, ◌+◌, ◌-◌, ◌≤◌, Bool, true, false, ◌==◌, List, ◌++◌, length, map, take, replicate, IfSome, if◌then◌else◌}
 use Rattle.std.specs.Option.{option_map}
 use Rattle.bac_value.specs.Value.{ObjectId}
 use Rattle.bac_service.specs.Values.{Request, for_file}
@@ -7,6 +7,8 @@ use Rattle.bac_service.specs.Replies.{Reply, held_by}
 use Rattle.bac_service.specs.Values.WriteAccess.{WriteStream, WriteRecords}
 use Rattle.bac_service.specs.Values.Request.{ReadFile, WriteFile, ReadProperty, WriteProperty}
 use Rattle.bac_service.specs.Replies.Reply.{Simple, Complex, Error, Reject}
+use Rattle.bac_store.specs.Limits.{FILE_LIMIT, FILE_SIZE}
+use Rattle.bac_store.specs.Ranks.{place_or_zero, rank_of}
 use Rattle.bac_store.specs.Stores.{Store, Object, Property, File, is_object, is_number, object_in}
 use Rattle.bac_store.specs.Replies.{file_of, reply_to, written}
 
@@ -32,6 +34,22 @@ with_contents change f = record f { octets = change f.octets }
 abbrev pub with_octets : (List ℕ → List ℕ) → Object → Object
 with_octets change o = record o { file = option_map (with_contents change) o.file }
 
+-- the number of octets in the values of a file-size
+abbrev pub size_of : List ℕ → ℕ
+size_of values = place_or_zero (rank_of values)
+
+-- the values are the size of a file
+abbrev pub IsSize : List ℕ → Type 0
+IsSize values = (1 ≤ length values) × (size_of values ≤ FILE_LIMIT)
+
+-- so many octets: the first ones, or all and zeros behind them
+abbrev pub resized : ℕ → List ℕ → List ℕ
+resized n octets = take n octets ++ replicate (n - length octets) 0
+
+-- new values for a property: those of a file-size cut the file or make it longer
+abbrev pub with_written : ℕ → List ℕ → Object → Object
+with_written n values o = if n == FILE_SIZE then with_octets (resized (size_of values)) o else with_values n values o
+
 -- an Error changes nothing
 abbrev pub is_done : Reply → Bool
 is_done Simple = true
@@ -56,7 +74,7 @@ done (ReadFile id access) s = s
 done (WriteFile id (WriteRecords start count run)) s = s
 done (WriteFile id (WriteStream start octets)) s = with_object id (with_octets (written start octets)) s
 done (ReadProperty r) s = s
-done (WriteProperty r values priority) s = with_object r.object (with_values r.property values) s
+done (WriteProperty r values priority) s = with_object r.object (with_written r.property values) s
 
 -- the store after a request
 abbrev pub after : Store → Request → Store

@@ -90,6 +90,9 @@ OBJECT_TYPE = code.OBJECT_TYPE
 abbrev pub PRESENT_VALUE : ℕ
 PRESENT_VALUE = code.PRESENT_VALUE
 
+abbrev pub READ_ONLY : ℕ
+READ_ONLY = code.READ_ONLY
+
 -- arrays of application values
 
 abbrev pub ACTION_TEXT : ℕ

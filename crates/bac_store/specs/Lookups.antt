@@ -8,7 +8,8 @@ use Rattle.bac_store.specs.declared.lookups.Computed.TheVariants as own
 use Rattle.bac_store.specs.declared.lookups.Found.{Found}
 use Rattle.bac_store.specs.declared.lookups.Found.TheVariants as found
 use Rattle.bac_store.specs.Limits.{FILE_ACCESS_METHOD, FILE_SIZE, OBJECT_IDENTIFIER, OBJECT_NAME, OBJECT_TYPE, STREAM_ACCESS}
-use Rattle.bac_store.specs.Stores.{Object, Property, computed}
+use Rattle.bac_store.specs.Allowing.{Allowed}
+use Rattle.bac_store.specs.Stores.{Object, Property, computed, is_sizable, sizes}
 
 -- seen through a view, the element at a place passes the test, and no other does
 pub record IsOnly {A B : Type 0} (view : A → B) (test : B → Bool) (xs : List A) (i : ℕ) : Type 0 where
@@ -35,7 +36,25 @@ computed_value o own.Type = enumerated o.id.kind
 computed_value o own.AccessMethod = enumerated STREAM_ACCESS
 computed_value o (own.Size len) = unsigned len
 
+abbrev pub is_computed_writable : Object → Computed → Bool
+is_computed_writable o own.Identifier = false
+is_computed_writable o own.Name = false
+is_computed_writable o own.Type = false
+is_computed_writable o own.AccessMethod = false
+is_computed_writable o (own.Size len) = is_sizable o
+
+abbrev pub computed_limits : Computed → Allowed
+computed_limits own.Identifier = Allowed.Any
+computed_limits own.Name = Allowed.Any
+computed_limits own.Type = Allowed.Any
+computed_limits own.AccessMethod = Allowed.Any
+computed_limits (own.Size len) = sizes
+
+abbrev pub computed_of : Object → Computed → Property
+computed_of o c =
+    record (computed (computed_number c) (computed_value o c)) { writable = is_computed_writable o c; allowed = computed_limits c }
+
 -- the property that the code found in an object
 abbrev pub found_in : Object → Found → Option Property
-found_in o (found.Computed c) = Some (computed (computed_number c) (computed_value o c))
+found_in o (found.Computed c) = Some (computed_of o c)
 found_in o (found.Listed at) = slice_get o.properties at

@@ -79,6 +79,11 @@ rank_read (Err e) = None
 abbrev pub rank_of : List ℕ → Option Rank
 rank_of values = rank_read (element_at values)
 
+-- the place of a number; 0 for other values
+abbrev pub place_or_zero : Option Rank → ℕ
+place_or_zero None = 0
+place_or_zero (Some r) = r.1
+
 abbrev pub is_rank_at_most : Option Rank → Option Rank → Bool
 is_rank_at_most (Some a) (Some b) = (a.0 == b.0) && nat_le a.1 b.1
 is_rank_at_most (Some a) None = false

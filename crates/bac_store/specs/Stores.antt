@@ -1,9 +1,9 @@
 -- A store: objects with their properties and files (clause 12), as plain values.
-use Rattle.std.specs.Prelude.{ℕ, Bool, false, ◌==◌, ◌&&◌, List, [], ◌∷◌, length, Option, Some, None, if◌then◌else◌}
+use Rattle.std.specs.Prelude.{ℕ, Bool, false, ◌==◌, ◌&&◌, List, [], ◌∷◌, length, Option, Some, None, is_some, if◌then◌else◌}
 use Rattle.std.specs.Option.{option_map}
 use Rattle.bac_value.specs.Value.{ObjectId, Datum, kind_number, object, characters, enumerated, unsigned}
 use Rattle.bac_value.specs.Writing.{value_spelling}
-use Rattle.bac_store.specs.Limits.{FILE_ACCESS_METHOD, FILE_SIZE, OBJECT_IDENTIFIER, OBJECT_NAME, OBJECT_TYPE, STREAM_ACCESS}
+use Rattle.bac_store.specs.Limits.{FILE_ACCESS_METHOD, FILE_SIZE, OBJECT_IDENTIFIER, OBJECT_NAME, OBJECT_TYPE, READ_ONLY, STREAM_ACCESS}
 use Rattle.bac_store.specs.Allowing.{Allowed}
 
 -- values are encoded data; the kind is the application tag that they must have, or None if any data are valid; of those, a WriteProperty may set what
@@ -51,7 +51,7 @@ object_in s id = first_that (is_object id) s
 abbrev pub listed_in : Object → ℕ → Option Property
 listed_in o n = first_that (is_number n) o.properties
 
--- ---- computed properties: one application value each, never writable
+-- ---- computed properties: one application value each, not writable but for the size of some files
 
 abbrev pub computed : ℕ → Datum → Property
 computed n d = record { number = n; values = value_spelling d; writable = false; kind = Some (kind_number d); allowed = Allowed.Any }
@@ -60,8 +60,24 @@ computed n d = record { number = n; values = value_spelling d; writable = false;
 abbrev pub access_method : File → Property
 access_method f = computed FILE_ACCESS_METHOD (enumerated STREAM_ACCESS)
 
-abbrev pub file_size : File → Property
-file_size f = computed FILE_SIZE (unsigned (length f.octets))
+-- a file that can be written
+abbrev pub is_written : Option File → Bool
+is_written None = false
+is_written (Some f) = f.writable
+
+-- clause 12.13: who may write a file may also set its size, if the object lists read-only
+abbrev pub is_sizable : Object → Bool
+is_sizable o = is_written o.file && is_some (listed_in o READ_ONLY)
+
+-- from no octets to the most that a file has: an Unsigned of 0, and one of 60,000
+abbrev pub sizes : Allowed
+sizes = Allowed.Between (0x21 ∷ 0 ∷ []) (0x22 ∷ 0xEA ∷ 0x60 ∷ [])
+
+abbrev pub sized : (writable : Bool) → ℕ → Property
+sized writable n = record (computed FILE_SIZE (unsigned n)) { writable = writable; allowed = sizes }
+
+abbrev pub file_size : Object → File → Property
+file_size o f = sized (is_sizable o) (length f.octets)
 
 -- clause 12: identifier, name and type of every object, access method and size of every file; all other properties are listed
 abbrev pub property_in : Object → ℕ → Option Property
@@ -70,4 +86,4 @@ property_in o n =
     (if n == OBJECT_NAME then Some (computed n (characters 0 o.name)) else
     (if n == OBJECT_TYPE then Some (computed n (enumerated o.id.kind)) else
     (if n == FILE_ACCESS_METHOD then option_map access_method o.file else
-    (if n == FILE_SIZE then option_map file_size o.file else listed_in o n))))
+    (if n == FILE_SIZE then option_map (file_size o) o.file else listed_in o n))))

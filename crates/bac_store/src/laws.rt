@@ -1,5 +1,5 @@
 //! Laws of the definitions: empty functions whose contracts are the laws.
-ghost use Rattle.std.specs.Prelude.{◌≡◌, ◌≤◌, ℕ, ℤ, false, true, List, None, Option, Some};
+ghost use Rattle.std.specs.Prelude.{◌≡◌, ◌≢◌, ◌≤◌, ℕ, ℤ, false, true, List, None, Option, Some};
 ghost use Rattle.bac_service.specs.Choices.{is_read_choice};
 ghost use Rattle.bac_service.specs.Values.{choice_of, Reference, Request};
 ghost use Rattle.bac_service.specs.Values.Request.{WriteFile, WriteProperty};
@@ -8,8 +8,9 @@ ghost use Rattle.bac_value.specs.Data.{IsData};
 ghost use Rattle.bac_value.specs.Value.{ObjectId};
 ghost use Rattle.bac_value.specs.Octets.{IsBytes};
 ghost use Rattle.bac_store.specs.AtNode.{change_fault, changed, whole, Change};
-ghost use Rattle.bac_store.specs.Changes.{after, is_done, IsGranted};
+ghost use Rattle.bac_store.specs.Changes.{after, is_done, IsGranted, resized, size_of};
 ghost use Rattle.bac_store.specs.Kinds.{kind_of, IsOneValue};
+ghost use Rattle.bac_store.specs.Limits.{FILE_SIZE};
 ghost use Rattle.bac_store.specs.Objects.{IsStoreOf};
 ghost use Rattle.bac_store.specs.Replies.{reply_to};
 ghost use Rattle.bac_store.specs.ReplyKinds.{FitsChoice};
@@ -32,11 +33,14 @@ pub fn order_says_nothing()
     ensures after { (objects s : Objects) → IsStoreOf objects s → (r : Request) → IsStoreOf (after objects r) (after s r) }
 {}
 
-/// A write whose reply is not an Error changes the values of one listed property, or the octets of one file, and nothing else. A
-/// read, and a request whose reply is an Error, change nothing.
+/// A write whose reply is not an Error changes the values of one listed property, or the octets of one file, and nothing else. A new file-size cuts
+/// the file, or makes it longer by zeros. A read, and a request whose reply is an Error, change nothing.
 pub fn writes_change_one_thing()
-    ensures values { (s : Objects) (r : Reference) (values : List ℕ) (priority : Option ℕ) → IsGranted s (WriteProperty r values priority)
-        → IsValueWrite r values s (after s (WriteProperty r values priority)) }
+    ensures values { (s : Objects) (r : Reference) (values : List ℕ) (priority : Option ℕ) → r.property ≢ FILE_SIZE
+        → IsGranted s (WriteProperty r values priority) → IsValueWrite r values s (after s (WriteProperty r values priority)) }
+    ensures size { (s : Objects) (r : Reference) (values : List ℕ) (priority : Option ℕ) → r.property ≡ FILE_SIZE
+        → IsGranted s (WriteProperty r values priority)
+        → IsFileChange r.object (resized (size_of values)) s (after s (WriteProperty r values priority)) }
     ensures octets { (s : Objects) (id : ObjectId) (start : ℤ) (octets : List ℕ) → IsGranted s (WriteFile id (WriteStream start octets))
         → IsFileWrite id start octets s (after s (WriteFile id (WriteStream start octets))) }
     ensures refused { (s : Objects) (r : Request) → is_done (reply_to s r) ≡ false → after s r ≡ s }
@@ -44,15 +48,15 @@ pub fn writes_change_one_thing()
 {}
 
 /// A local change gives one listed property new values, or one file new octets, and changes nothing else: flags and kinds stay.
-/// Data that may be written over the network can also be set by the node, with the same effect.
+/// Data that may be written over the network to a listed property can also be set by the node, with the same effect.
 pub fn changes_change_one_thing()
     ensures value { (s : Objects) (id : ObjectId) (n : ℕ) (octets : List ℕ)
         → IsValueWrite (whole id n) octets s (changed (Change.Value id n octets) s) }
     ensures file { (s : Objects) (id : ObjectId) (octets : List ℕ) → IsFileChange id (λ _. octets) s (changed (Change.File id octets) s) }
-    ensures granted { (s : Objects) (r : Reference) (values : List ℕ) (priority : Option ℕ) → IsData values
+    ensures granted { (s : Objects) (r : Reference) (values : List ℕ) (priority : Option ℕ) → r.property ≢ FILE_SIZE → IsData values
         → IsGranted s (WriteProperty r values priority) → change_fault s (Change.Value r.object r.property values) ≡ None }
-    ensures same { (s : Objects) (r : Reference) (values : List ℕ) (priority : Option ℕ) → IsGranted s (WriteProperty r values priority)
-        → after s (WriteProperty r values priority) ≡ changed (Change.Value r.object r.property values) s }
+    ensures same { (s : Objects) (r : Reference) (values : List ℕ) (priority : Option ℕ) → r.property ≢ FILE_SIZE
+        → IsGranted s (WriteProperty r values priority) → after s (WriteProperty r values priority) ≡ changed (Change.Value r.object r.property values) s }
 {}
 
 /// A reply of a store is never a Reject, and fits the service choice of its request. It is an Error, or a SimpleACK to WriteProperty, or a ComplexACK

@@ -50,7 +50,7 @@ pub use laws::{
     changes_change_one_thing, kinds_are_values, order_says_nothing, replies_can_be_sent,
     replies_fit_requests, writes_change_one_thing,
 };
-pub use limits::{FILE_LIMIT, OBJECTS_LIMIT, VALUE_LIMIT};
+pub use limits::{FILE_LIMIT, FILE_SIZE, OBJECTS_LIMIT, VALUE_LIMIT};
 pub use object::{File, Object, Property};
 pub use planned::Planned;
 pub use store::Store;

@@ -59,7 +59,9 @@ pub(crate) const DESCRIPTION: u32 = 28;
 
 pub(crate) const FILE_ACCESS_METHOD: u32 = 41;
 
-pub(crate) const FILE_SIZE: u32 = 42;
+/// The property whose value is the number of octets of a file (clause 12.13). A granted WriteProperty of it changes the file, and no listed
+/// property.
+pub const FILE_SIZE: u32 = 42;
 
 pub(crate) const OBJECT_IDENTIFIER: u32 = 75;
 
@@ -71,11 +73,19 @@ pub(crate) const OBJECT_TYPE: u32 = 79;
 
 pub(crate) const PRESENT_VALUE: u32 = 85;
 
+pub(crate) const READ_ONLY: u32 = 99;
+
 pub(crate) const STATE_TEXT: u32 = 110;
 
 pub(crate) const CONFIGURATION_FILES: u32 = 154;
 
 pub(crate) const PROPERTY_LIST: u32 = 371;
+
+/// The least size of a file, 0 octets, as an encoded Unsigned.
+pub(crate) const LEAST_SIZE: &[u8] = &[0x21, 0];
+
+/// The greatest size of a file, [`FILE_LIMIT`] octets, as an encoded Unsigned.
+pub(crate) const GREATEST_SIZE: &[u8] = &[0x22, 0xEA, 0x60];
 
 /// Stream access, the access method of every file (BACnetFileAccessMethod).
 pub(crate) const STREAM_ACCESS: u32 = 1;

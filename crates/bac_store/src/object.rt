@@ -26,14 +26,16 @@ pub struct Property {
 pub struct File {
     /// The octets, at most [`FILE_LIMIT`](crate::FILE_LIMIT) of them.
     pub octets: Vec<u8>,
-    /// Whether AtomicWriteFile may write to it (clause 14.2). AtomicReadFile ignores this flag.
+    /// Whether AtomicWriteFile may write to it (clause 14.2), and WriteProperty set its size, if the object lists read-only (99).
+    /// AtomicReadFile ignores this flag.
     pub writable: bool,
 }
 
 /// An object (clause 12).
 ///
-/// In addition to its listed properties it has computed ones, which can't be written. They are object-identifier (75), object-name (77) and
-/// object-type (79), and for a file file-access-method (41) and file-size (42, in octets).
+/// In addition to its listed properties it has computed ones. They are object-identifier (75), object-name (77) and object-type (79), and for a file
+/// file-access-method (41) and file-size (42, in octets). Only the file-size can be written, where the file can and the object lists read-only (99):
+/// a smaller size cuts the file, and a greater one appends zeros (clause 12.13).
 #[derive(Debug, Drop)]
 pub struct Object {
     /// The object identifier (clause 20.2.14). The type is analog-input (0), analog-value (2), binary-value (5), device (8), file (10)

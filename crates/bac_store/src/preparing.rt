@@ -6,21 +6,24 @@ ghost use Rattle.bac_service.specs.Values.Request.{WriteProperty as PropertyWrit
 ghost use Rattle.bac_service.specs.Views.{lent, priority_view, property_reference_view, read_access_view};
 ghost use Rattle.bac_service.specs.Views.{write_access_view};
 ghost use Rattle.bac_store.specs.Answers.{refused};
-ghost use Rattle.bac_store.specs.Changes.{HoldsOctets, is_done, IsGranted};
+ghost use Rattle.bac_store.specs.Changes.{HoldsOctets, is_done, IsGranted, IsSize, resized, size_of};
 ghost use Rattle.bac_store.specs.Kept.{IsInOrder};
-ghost use Rattle.bac_store.specs.Limits.{FILE_LIMIT as FILE_MOST};
-ghost use Rattle.bac_store.specs.Plans.{StoreEffect as StoreEffectView, IsPlanFor, IsStreamPlan};
+ghost use Rattle.bac_store.specs.Limits.{FILE_LIMIT as FILE_MOST, FILE_SIZE as FILE_SIZE_NUMBER};
+ghost use Rattle.bac_store.specs.Plans.{StoreEffect as StoreEffectView, IsPlanFor, IsStreamPlan, write_effect};
 ghost use Rattle.bac_store.specs.Replies.{file_of as file_in, write_stream_reply};
 ghost use Rattle.bac_store.specs.Stores.{object_in};
-ghost use Rattle.bac_store.specs.Views.{entry_view, file_view};
+ghost use Rattle.bac_store.specs.Views.{effect_view, entry_view, file_view};
 ghost use Rattle.bac_value.specs.Views.{object_identifier_view};
 
+use crate::copying::copied_octets;
 use crate::entry::StoredObject;
 use crate::files::{read_file, write_place};
+use crate::limits::FILE_SIZE;
 use crate::lookups::entry_of;
 use crate::object::File;
 use crate::planned::{Planned, StoreEffect};
 use crate::properties::{read_property, write_refusal};
+use crate::rank::number_in;
 use crate::refusal::Refusal;
 use crate::splice::Splice;
 use crate::targets::target_of;
@@ -62,6 +65,46 @@ pub(crate) fn plan_read_property(
     })
 }
 
+/// The octets of a file cut, or with zeros behind them, so that they are as many as the values of its size say.
+fn resized_octets(alloc: Global, octets: &[u8], values: &[u8]) -> Result<Vec<u8>, NoMemory>
+    requires { size_of values.now ≤ FILE_MOST }
+    ensures { IfOk result (λ v. v.items ≡ resized (size_of values.now) octets.now) }
+{
+    let mut copy = copied_octets(alloc, octets)?;
+    copy.resize(number_in(values) as usize, 0)?;
+    Ok(copy)
+}
+
+/// The effect of writing these values to a property of this object.
+fn write_effect(
+    alloc: Global,
+    entry: &StoredObject,
+    reference: PropertyReference,
+    values: Data<'_>,
+) -> Result<StoreEffect, NoMemory>
+    requires { reference.property ≡ FILE_SIZE_NUMBER → IsSize values.octets.now }
+    ensures held { OnErr result (1 ≤ length values.entry.octets.now) }
+    ensures effect { IfOk result (λ e. effect_view e ≡ write_effect (property_reference_view reference) values.entry.octets.now (entry_view entry.now)) }
+{
+    let object = reference.object;
+    if reference.property != FILE_SIZE {
+        let property = reference.property;
+        let values = values.to_owned(alloc)?;
+        return Ok(StoreEffect::Values {
+            object,
+            property,
+            values,
+        });
+    }
+    match &entry.file {
+        None => Ok(StoreEffect::Nothing),
+        Some(file) => {
+            let octets = resized_octets(alloc, &file.octets, values.octets)?;
+            Ok(StoreEffect::Contents { object, octets })
+        }
+    }
+}
+
 /// A plan for writing a property (clause 15.9).
 pub(crate) fn plan_write_property(
     alloc: Global,
@@ -82,12 +125,7 @@ pub(crate) fn plan_write_property(
     if let Some(refusal) = write_refusal(entry, reference, write.values.octets) {
         return Ok(refused(refusal));
     }
-    let values = write.values.to_owned(alloc)?;
-    let effect = StoreEffect::Values {
-        object: reference.object,
-        property: reference.property,
-        values,
-    };
+    let effect = write_effect(alloc, entry, reference, write.values)?;
     Ok(Planned {
         reply: AnyReply::Simple,
         effect,

@@ -10,18 +10,22 @@ ghost use Rattle.bac_store.specs.Answers.{refused, refused_or};
 ghost use Rattle.bac_store.specs.Changes.{is_done};
 ghost use Rattle.bac_store.specs.Kept.{IsKept};
 ghost use Rattle.bac_store.specs.Replies.{array_reply, at_property, is_out_of_range as out_of_range, read_reply, write_reply};
-ghost use Rattle.bac_store.specs.Stores.{computed, property_in};
+ghost use Rattle.bac_store.specs.Allowing.{is_allowed as allowed_in};
+ghost use Rattle.bac_store.specs.Lookups.{computed_of};
+ghost use Rattle.bac_store.specs.Stores.{computed, is_sizable as sizable_in, property_in, sized, sizes};
 ghost use Rattle.bac_store.specs.Views.{entry_view, slot_view};
 
 use crate::allowing::is_allowed;
 use crate::arrays::{element, is_array, split_values};
 use crate::entry::{StoredObject, StoredProperty};
 use crate::kind::{is_of_kind, is_right_state};
-use crate::limits::VALUE_LIMIT;
-use crate::lookups::{Found, find, values_of};
+use crate::limits::{GREATEST_SIZE, LEAST_SIZE, READ_ONLY, VALUE_LIMIT};
+use crate::lookups::{Computed, Found, find, values_of};
+use crate::rank::is_at_most;
 use crate::refusal::Refusal;
+use crate::store_lookups::slot_of;
 use bac_service::{AnyComplex, AnyReply, OwnedReply, PropertyRead, PropertyReference};
-use bac_value::{DataBuf, NoMemory};
+use bac_value::{DataBuf, NoMemory, kinds};
 use std::alloc::Global;
 
 /// The ComplexACK with these values of a property.
@@ -118,7 +122,7 @@ fn slot_refusal(
     None
 }
 
-/// Why a computed property is not written.
+/// Why a computed property other than a file-size is not written.
 fn computed_refusal(reference: PropertyReference) -> Refusal
     ensures { (values : List ℕ) (n : ℕ) (d : Datum) → refused result ≡ write_reply (property_reference_view reference) values (computed n d) }
 {
@@ -126,6 +130,69 @@ fn computed_refusal(reference: PropertyReference) -> Refusal
         Refusal::PropertyIsNotAnArray
     } else {
         Refusal::WriteAccessDenied
+    }
+}
+
+/// Whether clients may set the size of the file: they may write it, and the object lists read-only.
+fn is_sizable(entry: &StoredObject) -> bool
+    requires { IsKept (entry_view entry.now) }
+    ensures { result ≡ sizable_in (entry_view entry.now) }
+{
+    match &entry.file {
+        Some(file) => file.writable && slot_of(&entry.slots, READ_ONLY).is_some(),
+        None => false,
+    }
+}
+
+/// Whether the values are a size that a file can have.
+fn is_size(values: &[u8]) -> bool
+    ensures { result ≡ allowed_in sizes values.now }
+{
+    is_at_most(LEAST_SIZE, values) && is_at_most(values, GREATEST_SIZE)
+}
+
+/// Why the size of a file is not written; None if it is written.
+fn size_refusal(
+    entry: &StoredObject,
+    reference: PropertyReference,
+    values: &[u8],
+) -> Option<Refusal>
+    requires { IsKept (entry_view entry.now) }
+    ensures { (n : ℕ) → refused_or Simple result ≡ write_reply (property_reference_view reference) values.now (sized (sizable_in (entry_view entry.now)) n) }
+{
+    if reference.index.is_some() {
+        return Some(Refusal::PropertyIsNotAnArray);
+    }
+    if !is_sizable(entry) {
+        return Some(Refusal::WriteAccessDenied);
+    }
+    if !is_of_kind(Some(kinds::UNSIGNED), values) {
+        return Some(Refusal::InvalidDataType);
+    }
+    if !is_right_state(reference, values) || !is_size(values) {
+        return Some(Refusal::ValueOutOfRange);
+    }
+    if values.len() > VALUE_LIMIT {
+        return Some(Refusal::NoSpaceToWrite);
+    }
+    None
+}
+
+/// Why this computed property of an object is not written; None if it is written.
+fn own_refusal(
+    entry: &StoredObject,
+    own: Computed,
+    reference: PropertyReference,
+    values: &[u8],
+) -> Option<Refusal>
+    requires { IsKept (entry_view entry.now) }
+    ensures { refused_or Simple result ≡ write_reply (property_reference_view reference) values.now (computed_of (entry_view entry.now) own) }
+{
+    match own {
+        Computed::Size(_) => size_refusal(entry, reference, values),
+        Computed::Identifier | Computed::Name | Computed::Type | Computed::AccessMethod => {
+            Some(computed_refusal(reference))
+        }
     }
 }
 
@@ -141,7 +208,7 @@ pub(crate) fn write_refusal(
 {
     match find(entry, reference.property) {
         None => Some(Refusal::UnknownProperty),
-        Some(Found::Computed(_)) => Some(computed_refusal(reference)),
+        Some(Found::Computed(own)) => own_refusal(entry, own, reference, values),
         Some(Found::Listed(at)) => slot_refusal(&entry.slots[at], reference, values),
     }
 }

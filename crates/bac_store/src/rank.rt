@@ -1,7 +1,7 @@
 //! The order of values that are numbers.
 ghost use Rattle.std.specs.Prelude.{◌≡◌};
 ghost use Rattle.bac_value.specs.Views.{element_view};
-ghost use Rattle.bac_store.specs.Ranks.{is_at_most as at_most_in, place_in as place_at, place_of_class as place_of, rank_of as rank_in, real_in as real_at, real_place as place_of_bits, signed_place as place_of_signed};
+ghost use Rattle.bac_store.specs.Ranks.{is_at_most as at_most_in, place_in as place_at, place_or_zero, place_of_class as place_of, rank_of as rank_in, real_in as real_at, real_place as place_of_bits, signed_place as place_of_signed};
 
 use bac_value::{Class, kinds, take_element, take_enumerated, take_signed, take_unsigned};
 
@@ -91,6 +91,16 @@ fn rank_of(values: &[u8]) -> Option<(u8, u64)>
             Class::Context => None,
         },
         _ => None,
+    }
+}
+
+/// The number that these octets encode; 0 if they encode none.
+pub(crate) fn number_in(values: &[u8]) -> u64
+    ensures { result ≡ place_or_zero (rank_in values.now) }
+{
+    match rank_of(values) {
+        Some((_, place)) => place,
+        None => 0,
     }
 }
 

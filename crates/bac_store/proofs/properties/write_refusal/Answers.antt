@@ -1,7 +1,7 @@
 use Rattle.std.proofs.Common.{◌∙◌, sym, ap, Some, map, arith}
 use Rattle.std.proofs.lemmas.List.{length-map}
 use Rattle.bac_service.specs.Views.{property_reference_view}
-use Rattle.bac_store.specs.Lookups.{computed_number, computed_value, found_in}
+use Rattle.bac_store.specs.Lookups.{found_in}
 use Rattle.bac_store.specs.Replies.{at_property, write_reply}
 use Rattle.bac_store.specs.Views.{entry_view, slot_view}
 use Rattle.bac_store.proofs.Places.{slice_get-map, slice_get-within}
@@ -11,9 +11,8 @@ pub returns-in-Some-Computed : goal.returns-in-Some-Computed
 returns-in-Some-Computed c =
     let o = entry_view c.args.entry.now in
     let values = c.args.values.now in
-    let own = c.in-Some-Computed.field-0-0 in
     let is = (c.in-Some-Computed.ensures).1 ∙ ap (found_in o) c.in-Some-Computed.field-0-is in
-    c.computed_refusal.ensures values (computed_number own) (computed_value o own)
+    c.own_refusal.ensures
     ∙ sym (ap (λ p. at_property p (write_reply (property_reference_view c.args.reference) values)) is)
 
 pub returns-in-Some-Listed : goal.returns-in-Some-Listed
