@@ -31,16 +31,31 @@ use Rattle.bac_protocol.proofs.StrangerTables.{away_gets, away_ticks, served_apa
 none_there : (k : ℕ) (c : Copy) → slice_get [] k ≡ Some c → ⊥
 none_there k c e = cc
 
-module _ (W : ℕ) (x : Rules) (bound : IsBounded W x) where
-  posted : (n : Net) → Stands W n → (number : ℕ) (p : Post) → slice_get n.posts number ≡ Some p → n.tickets p.key ≡ None → ⊥
-  posted n s number p at is = none_there (later p.key number n.posts) p.copy
-      (subst (λ (cs : List Copy). slice_get cs (later p.key number n.posts) ≡ Some p.copy) (sound_at W n p.key None is s.net).no_copies
-      (copy_at number n.posts p at))
+posted : (W : ℕ) (n : Net) → Stands W n → (number : ℕ) (p : Post) → slice_get n.posts number ≡ Some p → n.tickets p.key ≡ None → ⊥
+posted W n s number p at is = none_there (later p.key number n.posts) p.copy
+    (subst (λ (cs : List Copy). slice_get cs (later p.key number n.posts) ≡ Some p.copy) (sound_at W n p.key None is s.net).no_copies
+    (copy_at number n.posts p at))
 
+-- a net that stands is in order, whatever the rules of the moves that led to it
+pub stands_in_order : (W : ℕ) (n : Net) → Stands W n → IsInOrder n
+stands_in_order W n s = record {
+  orderly = (net_log W n s.net).orderly;
+  counted = (net_log W n s.net).counted;
+  asked = λ key t is. ((sound_at W n key (Some t) is s.net).2).asked;
+  posted = posted W n s;
+  entered = λ key is. (sound_at W n key None is s.net).no_entry;
+  own = λ key. (s.calm key).own;
+  dead = λ key free. none_live_of (server_now n key) (n.entries key) (spent_stands W n s key free).dead;
+  away = λ key t is. was_away n.server_clocks n.serves_from n.far n.log s.away key t is;
+  apart = s.away.apart;
+  served_apart = served_apart n s.away;
+}
+
+module _ (W : ℕ) (x : Rules) (bound : IsBounded W x) where
   arrives_stands : (n : Net) → Stands W n → (number : ℕ) (p : Post) → slice_get n.posts number ≡ Some p → n.now - p.copy.moment ≤ n.pace.life
       → IsClear W (n.pieces p.key) (later p.key number n.posts) → (free : Bool) (service : Service) (o : Option ClientTransaction) → n.tickets p.key ≡ o → (up : Bool)
       → is_from_client p.copy.apdu ≡ up → Stands W (if up then taken_by_server x n p free service else taken_by_client x n p o)
-  arrives_stands n s number p at young few free service None is up way = absurd (posted n s number p at is)
+  arrives_stands n s number p at young few free service None is up way = absurd (posted W n s number p at is)
   arrives_stands n s number p at young few free service (Some t) is true way =
       let place = copy_at number n.posts p at in
       let says = (((sound_at W n p.key (Some t) is s.net).2).arriving (later p.key number n.posts) p.copy place young).1 in
@@ -116,7 +131,7 @@ module _ (W : ℕ) (x : Rules) (bound : IsBounded W x) where
   begun_again_stands n s node exact true quiet = begin_again_stands W n s node exact quiet
   begun_again_stands n s node exact false is = s
 
-  move_stands : (n : Net) → Stands W n → (m : Move) → Stands W (moved x n m)
+  pub move_stands : (n : Net) → Stands W n → (m : Move) → Stands W (moved x n m)
   move_stands n s (Asks key choice whole front rest) = asked_stands n s key choice whole front rest (is_id_held n key) refl
   move_stands n s (Arrives number free service) = arrived_stands n s number free service (slice_get n.posts number) refl
   move_stands n s (TicksTicket key) = ticket_stands n s key (n.tickets key) refl
@@ -147,20 +162,7 @@ module _ (W : ℕ) (x : Rules) (bound : IsBounded W x) where
     reached_calm n h = (reached_stands n h).calm
 
     pub in_order : (n : Net) → IsReached x (net_start pace clocks) n → IsInOrder n
-    in_order n h =
-        let s = reached_stands n h in
-        record {
-          orderly = (net_log W n s.net).orderly;
-          counted = (net_log W n s.net).counted;
-          asked = λ key t is. ((sound_at W n key (Some t) is s.net).2).asked;
-          posted = posted n s;
-          entered = λ key is. (sound_at W n key None is s.net).no_entry;
-          own = λ key. (s.calm key).own;
-          dead = λ key free. none_live_of (server_now n key) (n.entries key) (spent_stands W n s key free).dead;
-          away = λ key t is. was_away n.server_clocks n.serves_from n.far n.log s.away key t is;
-          apart = s.away.apart;
-          served_apart = served_apart n s.away;
-        }
+    in_order n h = stands_in_order W n (reached_stands n h)
 
 -- One place of a table.
 pub sets_one_place : {A : Type 0} → SetsOnePlace A

@@ -97,6 +97,11 @@ pub data IsReached (x : Rules) (from : Net) : Net → Type 0 where
   Still : IsReached x from from
   Moved : (n : Net) (m : Move) → IsReached x from n → IsReached x from (moved x n m)
 
+-- a net to which moves lead, each by rules of its own that are such
+pub data IsReachedIn (Are : Rules → Type 0) (from : Net) : Net → Type 0 where
+  Still : IsReachedIn Are from from
+  Moved : (x : Rules) → Are x → (n : Net) (m : Move) → IsReachedIn Are from n → IsReachedIn Are from (moved x n m)
+
 -- what is known of it
 pub record IsInOrder (n : Net) : Type 0 where
   -- the log is right, where stores are not looked at, and asks are numbered by those before them

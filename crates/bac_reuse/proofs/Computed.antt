@@ -1,6 +1,7 @@
 -- The examples are computed.
 use Rattle.std.proofs.Common.{refl}
 use Rattle.bac_reuse.specs.Examples.{WritesAreOnce, ReadsAreFresh, OneInvokeId, PiecesAreOnce, ReadsEnd, ReadsThatWrite}
+use Rattle.bac_reuse.specs.StretchExamples.{ReadsTurn}
 
 pub writes_are_once : WritesAreOnce
 writes_are_once = refl
@@ -19,3 +20,6 @@ reads_end = record { goes_on = refl; another = refl; ends = refl; aborted = refl
 
 pub reads_that_write : ReadsThatWrite
 reads_that_write = refl
+
+pub reads_turn : ReadsTurn
+reads_turn = refl

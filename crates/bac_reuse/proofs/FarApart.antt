@@ -29,7 +29,7 @@ use Rattle.bac_protocol.proofs.Keys.{decide_key, set_other, set_same}
 use Rattle.bac_protocol.proofs.Nets.{room_opens}
 use Rattle.bac_protocol.proofs.StrangerTables.{Away, AwayIn, away_gets, away_later, away_server_begins, away_server_restarted, away_starts, away_ticks, served_apart}
 use Rattle.bac_reuse.specs.Moves.{AreServedApartSo, AreSpacedSo, arrived_so, moved_so, strayed_to_server_so, taken_by_server_so}
-use Rattle.bac_reuse.specs.Runs.{Reusing}
+use Rattle.bac_reuse.specs.Runs.{AreOf, Reusing, with_reuses}
 use Rattle.bac_reuse.proofs.Beside.{Own, over}
 
 -- the entries for strangers but those of servers that let invoke IDs be used again; without tickets
@@ -107,43 +107,54 @@ either_way : (b : Bool) (o : Option ServerTransaction) → o ≡ (if b then o el
 either_way true o = refl
 either_way false o = refl
 
-module _ (x : Rules) (u : Reusing) (n : Net) (h : AwayLeft u n) where
+-- these servers let invoke IDs be used again now, of those that ever do, which are not looked at
+module _ (x : Rules) (ever : Reusing) (reuses : ℕ → Bool) (among : AreOf reuses ever) (n : Net) (h : AwayLeft ever n) where
+  abbrev u : Reusing
+  u = with_reuses ever reuses
+
   -- the tables with these entries
   abbrev with_entries : (Key → Option ServerTransaction) → Strangers
   with_entries f = record { numbers = λ key. 0; tickets = λ key. None; entries = f }
 
-  with_log : (log : List Fact) → log_left u log ≡ log_left u n.log → AwayIn n.server_clocks n.serves_from (far_left u n.far) (log_left u log)
-  with_log log same = subst (λ (l : List Fact). AwayIn n.server_clocks n.serves_from (far_left u n.far) l) (sym same) h
+  with_log : (log : List Fact) → log_left ever log ≡ log_left ever n.log → AwayIn n.server_clocks n.serves_from (far_left ever n.far) (log_left ever log)
+  with_log log same = subst (λ (l : List Fact). AwayIn n.server_clocks n.serves_from (far_left ever n.far) l) (sym same) h
 
-  client_left : (key : Key) (t : ClientTransaction) (r : client.Reaction) → AwayLeft u (client_acts n key t r)
-  client_left key t r = with_log (ended (n.numbers key) (client.ending_of r) n.log) (ended_left u n.log (n.numbers key) (client.ending_of r))
+  client_left : (key : Key) (t : ClientTransaction) (r : client.Reaction) → AwayLeft ever (client_acts n key t r)
+  client_left key t r = with_log (ended (n.numbers key) (client.ending_of r) n.log) (ended_left ever n.log (n.numbers key) (client.ending_of r))
 
-  server_left : (key : Key) (v : server.Reaction) → AwayLeft u (server_acts n key v)
-  server_left key v = with_log (performed (n.numbers key) v.effect n.log) (performed_left u n.log (n.numbers key) v.effect)
+  server_left : (key : Key) (v : server.Reaction) → AwayLeft ever (server_acts n key v)
+  server_left key v = with_log (performed (n.numbers key) v.effect n.log) (performed_left ever n.log (n.numbers key) v.effect)
 
-  client_away_left : (key : Key) (t : ClientTransaction) (r : client.Reaction) → AwayLeft u (client_acts_away n key t r)
+  client_away_left : (key : Key) (t : ClientTransaction) (r : client.Reaction) → AwayLeft ever (client_acts_away n key t r)
   client_away_left key t r = with_log (ended_away (n.far.numbers key) (client.ending_of r) n.log)
-      (ended_away_left u n.log (n.far.numbers key) (client.ending_of r))
+      (ended_away_left ever n.log (n.far.numbers key) (client.ending_of r))
 
   -- a server that lets invoke IDs be used again
-  server_off : (key : Key) (v : server.Reaction) → u.reuses key.server ≡ true → AwayLeft u (server_acts_away n key v)
+  server_off : (key : Key) (v : server.Reaction) → ever.reuses key.server ≡ true → AwayLeft ever (server_acts_away n key v)
   server_off key v off = subst (λ (f : Key → Option ServerTransaction). AwayIn n.server_clocks n.serves_from (with_entries f)
-      (log_left u (served key (begin_of v.entry) v.effect n.log))) (λ i k. entries_off u n.far.entries key v.entry off k i)
-      (with_log (served key (begin_of v.entry) v.effect n.log) (served_off u n.log key (begin_of v.entry) v.effect off))
+      (log_left ever (served key (begin_of v.entry) v.effect n.log))) (λ i k. entries_off ever n.far.entries key v.entry off k i)
+      (with_log (served key (begin_of v.entry) v.effect n.log) (served_off ever n.log key (begin_of v.entry) v.effect off))
 
   -- one that does not
-  server_on : (key : Key) (v : server.Reaction) → u.reuses key.server ≡ false → Away (server_acts_away (left_of u n) key v)
-      → AwayLeft u (server_acts_away n key v)
-  server_on key v on away = subst (λ (l : List Fact). AwayIn n.server_clocks n.serves_from (far_left u (server_acts_away n key v).far) l)
-      (served_on u n.log key (begin_of v.entry) v.effect on)
+  server_on : (key : Key) (v : server.Reaction) → ever.reuses key.server ≡ false → Away (server_acts_away (left_of ever n) key v)
+      → AwayLeft ever (server_acts_away n key v)
+  server_on key v on away = subst (λ (l : List Fact). AwayIn n.server_clocks n.serves_from (far_left ever (server_acts_away n key v).far) l)
+      (served_on ever n.log key (begin_of v.entry) v.effect on)
       (subst (λ (f : Key → Option ServerTransaction). AwayIn n.server_clocks n.serves_from (with_entries f)
-      (served key (begin_of v.entry) v.effect (log_left u n.log))) (λ i k. entries_on u n.far.entries key v.entry on k i) away)
+      (served key (begin_of v.entry) v.effect (log_left ever n.log))) (λ i k. entries_on ever n.far.entries key v.entry on k i) away)
 
-  entry_on : (key : Key) → u.reuses key.server ≡ false → (left_of u n).far.entries key ≡ n.far.entries key
+  not_now : (node : ℕ) → ever.reuses node ≡ false → reuses node ≡ false
+  not_now node off = go (reuses node) refl
+    where
+      go : (b : Bool) → reuses node ≡ b → reuses node ≡ false
+      go true is = absurd (let no : true ≡ false = sym (among node is) ∙ off in cc)
+      go false is = is
+
+  entry_on : (key : Key) → ever.reuses key.server ≡ false → (left_of ever n).far.entries key ≡ n.far.entries key
   entry_on key on = ap (λ b. if b then None else n.far.entries key) on
 
-  hears_left : (key : Key) (free : Bool) (service : Service) (a : Apdu) → AwayLeft u (strayed_to_server_so x u n key free service a)
-  hears_left key free service a = go (u.reuses key.server) refl
+  hears_left : (key : Key) (free : Bool) (service : Service) (a : Apdu) → AwayLeft ever (strayed_to_server_so x u n key free service a)
+  hears_left key free service a = go (ever.reuses key.server) refl
     where
       c : Context
       c = server_context x key (server_now n key)
@@ -151,71 +162,71 @@ module _ (x : Rules) (u : Reusing) (n : Net) (h : AwayLeft u n) where
       hears : Bool → server.Reaction
       hears b = server_hears b c service u.reads (n.far.entries key) (is_room n key free) a
 
-      go : (b : Bool) → u.reuses key.server ≡ b → AwayLeft u (server_acts_away n key (hears (u.reuses key.server)))
-      go true off = server_off key (hears (u.reuses key.server)) off
-      go false on = subst (λ b. AwayLeft u (server_acts_away n key (hears b))) (sym on)
-          (server_on key (hears false) on (subst (λ (o : Option ServerTransaction). Away (server_acts_away (left_of u n) key
+      go : (b : Bool) → ever.reuses key.server ≡ b → AwayLeft ever (server_acts_away n key (hears (reuses key.server)))
+      go true off = server_off key (hears (reuses key.server)) off
+      go false on = subst (λ b. AwayLeft ever (server_acts_away n key (hears b))) (sym (not_now key.server on))
+          (server_on key (hears false) on (subst (λ (o : Option ServerTransaction). Away (server_acts_away (left_of ever n) key
           (server_on_apdu c service o (is_room n key free) a))) (entry_on key on)
-          (away_gets (left_of u n) h key c refl service (is_room n key free) (room_opens (left_of u n) key free) a)))
+          (away_gets (left_of ever n) h key c refl service (is_room n key free) (room_opens (left_of ever n) key free) a)))
 
-  ticks_left : (key : Key) → AwayLeft u (server_acts_away n key (server.server_ticks (server_context x key (server_now n key)) (n.far.entries key)))
-  ticks_left key = go (u.reuses key.server) refl
+  ticks_left : (key : Key) → AwayLeft ever (server_acts_away n key (server.server_ticks (server_context x key (server_now n key)) (n.far.entries key)))
+  ticks_left key = go (ever.reuses key.server) refl
     where
       c : Context
       c = server_context x key (server_now n key)
 
-      go : (b : Bool) → u.reuses key.server ≡ b → AwayLeft u (server_acts_away n key (server.server_ticks c (n.far.entries key)))
+      go : (b : Bool) → ever.reuses key.server ≡ b → AwayLeft ever (server_acts_away n key (server.server_ticks c (n.far.entries key)))
       go true off = server_off key (server.server_ticks c (n.far.entries key)) off
       go false on = server_on key (server.server_ticks c (n.far.entries key)) on
-          (subst (λ (o : Option ServerTransaction). Away (server_acts_away (left_of u n) key (server.server_ticks c o))) (entry_on key on)
-          (away_ticks (left_of u n) h key c))
+          (subst (λ (o : Option ServerTransaction). Away (server_acts_away (left_of ever n) key (server.server_ticks c o))) (entry_on key on)
+          (away_ticks (left_of ever n) h key c))
 
   -- Each move.
 
-  taken_left : (p : Post) (o : Option ClientTransaction) → AwayLeft u (taken_by_client x n p o)
+  taken_left : (p : Post) (o : Option ClientTransaction) → AwayLeft ever (taken_by_client x n p o)
   taken_left p None = h
   taken_left p (Some t) = client_left p.key t (client.client_on_apdu (client_context x p.key (client_now n p.key)) x.readable t p.copy.apdu)
 
-  arrives_left : (number : ℕ) (free : Bool) (service : Service) (o : Option Post) → AwayLeft u (arrived_so x u n number free service o)
+  arrives_left : (number : ℕ) (free : Bool) (service : Service) (o : Option Post) → AwayLeft ever (arrived_so x u n number free service o)
   arrives_left number free service None = h
   arrives_left number free service (Some p) = go (is_deliverable x n number p) (is_from_client p.copy.apdu)
     where
-      go : (b up : Bool) → AwayLeft u (if b then (if up then taken_by_server_so x u n p free service else taken_by_client x n p (n.tickets p.key)) else n)
+      go : (b up : Bool) → AwayLeft ever (if b then (if up then taken_by_server_so x u n p free service else taken_by_client x n p (n.tickets p.key)) else n)
       go true true = server_left p.key
           (server_hears (u.reuses p.key.server) (server_context x p.key (server_now n p.key)) service u.reads (n.entries p.key) (is_room n p.key free)
           p.copy.apdu)
       go true false = taken_left p (n.tickets p.key)
       go false up = h
 
-  ticket_left : (key : Key) (o : Option ClientTransaction) → AwayLeft u (ticket_ticked x n key o)
+  ticket_left : (key : Key) (o : Option ClientTransaction) → AwayLeft ever (ticket_ticked x n key o)
   ticket_left key None = h
   ticket_left key (Some t) = client_left key t (client.client_ticks (client_context x key (client_now n key)) t)
 
-  ticket_away_left : (key : Key) (o : Option ClientTransaction) → AwayLeft u (ticket_ticked_away x n key o)
+  ticket_away_left : (key : Key) (o : Option ClientTransaction) → AwayLeft ever (ticket_ticked_away x n key o)
   ticket_away_left key None = h
   ticket_away_left key (Some t) = client_away_left key t (client.client_ticks (client_context x key (client_now n key)) t)
 
-  stray_left : (key : Key) (a : Apdu) (o : Option ClientTransaction) → AwayLeft u (strayed_to_client x n key a o)
+  stray_left : (key : Key) (a : Apdu) (o : Option ClientTransaction) → AwayLeft ever (strayed_to_client x n key a o)
   stray_left key a None = h
   stray_left key a (Some t) = client_away_left key t (client.client_on_apdu (client_context x key (client_now n key)) x.readable t a)
 
   strays_left : (key : Key) (free : Bool) (service : Service) (a : Apdu) (up : Bool)
-      → AwayLeft u (if up then strayed_to_server_so x u n key free service a else strayed_to_client x n key a (n.far.tickets key))
+      → AwayLeft ever (if up then strayed_to_server_so x u n key free service a else strayed_to_client x n key a (n.far.tickets key))
   strays_left key free service a true = hears_left key free service a
   strays_left key free service a false = stray_left key a (n.far.tickets key)
 
-  ask_left : (key : Key) (ask : Ask) (b : Bool) → AwayLeft u (if b then n else asked_at x n key ask)
+  ask_left : (key : Key) (ask : Ask) (b : Bool) → AwayLeft ever (if b then n else asked_at x n key ask)
   ask_left key ask true = h
   ask_left key ask false = h
 
-  ask_away_left : (key : Key) (ask : Ask) (b : Bool) → AwayLeft u (if b then n else asked_away_at x n key ask)
+  ask_away_left : (key : Key) (ask : Ask) (b : Bool) → AwayLeft ever (if b then n else asked_away_at x n key ask)
   ask_away_left key ask true = h
   ask_away_left key ask false = h
 
-  restart_left : (node exact : ℕ) (store : Option Octets) → AwayLeft u (server_restarted n node exact store)
+  pub restart_left : (node exact : ℕ) (store : Option Octets) → AwayLeft ever (server_restarted n node exact store)
   restart_left node exact store = subst (λ (f : Key → Option ServerTransaction). AwayIn (server_restarted n node exact store).server_clocks
-      (server_restarted n node exact store).serves_from (with_entries f) (Restarted node store ∷ log_left u n.log))
-      (λ i k. swapped (nat_eq k.server node) (u.reuses k.server) (n.far.entries k) i) (away_server_restarted (left_of u n) node exact store h)
+      (server_restarted n node exact store).serves_from (with_entries f) (Restarted node store ∷ log_left ever n.log))
+      (λ i k. swapped (nat_eq k.server node) (ever.reuses k.server) (n.far.entries k) i) (away_server_restarted (left_of ever n) node exact store h)
 
 -- time passes
 time_left : (n : Net) → Calm n → (far : Strangers) (log : List Fact) → AwayIn n.server_clocks n.serves_from far log → (by : ℕ) (clients servers : ℕ → ℕ)
@@ -250,23 +261,24 @@ again_left u n unserved h node exact true = go (n.served node) refl
     go false off = server_begin_left u n unserved h node exact off
 
 -- a net whose clocks are those of a calm one
-pub move_left : (x : Rules) (u : Reusing) (n : Net) (g : Own) → Calm n → Unserved (over n g) → AwayLeft u (over n g) → (m : Move) → AwayLeft u (moved_so x u (over n g) m)
-move_left x u n g calm unserved h (Asks key choice whole front rest) =
-    ask_left x u (over n g) h key (record { first = client_now n key; choice = choice; whole = whole; pieces = front ∷ rest }) (is_id_held n key)
-move_left x u n g calm unserved h (Arrives number free service) = arrives_left x u (over n g) h number free service (slice_get g.posts number)
-move_left x u n g calm unserved h (TicksTicket key) = ticket_left x u (over n g) h key (n.tickets key)
-move_left x u n g calm unserved h (TicksEntry key) = server_left x u (over n g) h key (server.server_ticks (server_context x key (server_now n key)) (g.entries key))
-move_left x u n g calm unserved h (Passes by clients servers) = time_left n calm (far_left u (over n g).far) (log_left u g.log) h by clients servers
-move_left x u n g calm unserved h (Changes node change) = h
-move_left x u n g calm unserved h (RestartsClient node exact) = h
-move_left x u n g calm unserved h (RestartsServer node exact store) = restart_left x u (over n g) h node exact store
-move_left x u n g calm unserved h (Begins node exact) = begin_left u (over n g) unserved h node exact (is_active n node) refl
-move_left x u n g calm unserved h (BeginsAgain node exact) = again_left u (over n g) unserved h node exact (is_quiet n node)
-move_left x u n g calm unserved h (Strays key free service a) = strays_left x u (over n g) h key free service a (is_from_client a)
-move_left x u n g calm unserved h (AsksAway key choice whole front rest) =
-    ask_away_left x u (over n g) h key (record { first = client_now n key; choice = choice; whole = whole; pieces = front ∷ rest }) (is_id_held_away n key)
-move_left x u n g calm unserved h (TicksTicketAway key) = ticket_away_left x u (over n g) h key (n.far.tickets key)
-move_left x u n g calm unserved h (TicksEntryAway key) = ticks_left x u (over n g) h key
+pub move_left : (x : Rules) (ever : Reusing) (reuses : ℕ → Bool) → AreOf reuses ever → (n : Net) (g : Own) → Calm n → Unserved (over n g)
+    → AwayLeft ever (over n g) → (m : Move) → AwayLeft ever (moved_so x (with_reuses ever reuses) (over n g) m)
+move_left x ever reuses among n g calm unserved h (Asks key choice whole front rest) =
+    ask_left x ever reuses among (over n g) h key (record { first = client_now n key; choice = choice; whole = whole; pieces = front ∷ rest }) (is_id_held n key)
+move_left x ever reuses among n g calm unserved h (Arrives number free service) = arrives_left x ever reuses among (over n g) h number free service (slice_get g.posts number)
+move_left x ever reuses among n g calm unserved h (TicksTicket key) = ticket_left x ever reuses among (over n g) h key (n.tickets key)
+move_left x ever reuses among n g calm unserved h (TicksEntry key) = server_left x ever reuses among (over n g) h key (server.server_ticks (server_context x key (server_now n key)) (g.entries key))
+move_left x ever reuses among n g calm unserved h (Passes by clients servers) = time_left n calm (far_left ever (over n g).far) (log_left ever g.log) h by clients servers
+move_left x ever reuses among n g calm unserved h (Changes node change) = h
+move_left x ever reuses among n g calm unserved h (RestartsClient node exact) = h
+move_left x ever reuses among n g calm unserved h (RestartsServer node exact store) = restart_left x ever reuses among (over n g) h node exact store
+move_left x ever reuses among n g calm unserved h (Begins node exact) = begin_left ever (over n g) unserved h node exact (is_active n node) refl
+move_left x ever reuses among n g calm unserved h (BeginsAgain node exact) = again_left ever (over n g) unserved h node exact (is_quiet n node)
+move_left x ever reuses among n g calm unserved h (Strays key free service a) = strays_left x ever reuses among (over n g) h key free service a (is_from_client a)
+move_left x ever reuses among n g calm unserved h (AsksAway key choice whole front rest) =
+    ask_away_left x ever reuses among (over n g) h key (record { first = client_now n key; choice = choice; whole = whole; pieces = front ∷ rest }) (is_id_held_away n key)
+move_left x ever reuses among n g calm unserved h (TicksTicketAway key) = ticket_away_left x ever reuses among (over n g) h key (n.far.tickets key)
+move_left x ever reuses among n g calm unserved h (TicksEntryAway key) = ticks_left x ever reuses among (over n g) h key
 
 pub start_left : (u : Reusing) (pace : Pace) (clocks : ℕ → ℕ) → AwayLeft u (net_start pace clocks)
 start_left u pace clocks = subst (λ (f : Key → Option ServerTransaction). AwayIn (λ node. clock_at pace (clocks node)) (λ node. 0)

@@ -42,8 +42,8 @@ use Rattle.bac_protocol.proofs.Nets.{net_log, sound_at}
 use Rattle.bac_protocol.proofs.Paces.{shows_on}
 use Rattle.bac_reuse.specs.Moves.{IsOrderlySo, IsReachedSo, arrived_so, moved_so, strayed_to_server_so, taken_by_server_so}
 use Rattle.bac_reuse.specs.Moves.IsReachedSo.{Still, Moved}
-use Rattle.bac_reuse.specs.Runs.{Reusing}
-use Rattle.bac_reuse.proofs.Beside.{AbortsOf, AreGone, Fit, IsForeign, IsLike, IsYoung, Own, fit_later, fit_none, fit_on, foreign_more, gone_both, like_at}
+use Rattle.bac_reuse.specs.Runs.{AreOf, Reusing, with_reuses}
+use Rattle.bac_reuse.proofs.Beside.{AbortsOf, AreGone, Fit, FitOf, IsForeign, IsLike, IsYoung, Own, fit_later, fit_none, fit_on, foreign_more, gone_both, like_at}
 use Rattle.bac_reuse.proofs.Beside.{ended_away_grows, like_key, likes_join, likes_later, likes_map, likes_same, logs_both, logs_ending_away, logs_served, over, served_grows, set_keeps}
 use Rattle.bac_reuse.proofs.Clients.{AbortsIf, EndsAsAborted, IsAnswer, answer_comes, asks_steady, gets_steady, steady_ends, ticks_steady}
 use Rattle.bac_reuse.proofs.Machine.{IsGone, gone_ticks}
@@ -69,15 +69,25 @@ fit_lost : (u : Reusing) (key : Key) (now : ℕ) (o : Option ClientTransaction) 
 fit_lost u key now None ours theirs h = h
 fit_lost u key now (Some t) ours theirs h = fit_on u key now t (record t { phase = Idle }) refl (λ idle. refl) ours theirs h
 
-module _ (W : ℕ) (x : Rules) (bound : IsBounded W x) (u : Reusing) where
+-- the same servers let invoke IDs be used again where the entry is
+fit_as : (ever : Reusing) (reuses next : ℕ → Bool) (key : Key) → next key.server ≡ reuses key.server → (now : ℕ) (o : Option ClientTransaction)
+    (ours theirs : Option ServerTransaction) → Fit (with_reuses ever reuses) key now o ours theirs → Fit (with_reuses ever next) key now o ours theirs
+fit_as ever reuses next key same now None ours theirs h = h
+fit_as ever reuses next key same now (Some t) ours theirs h =
+    subst (λ (b : Bool). FitOf now (b && (ever.reads t.ask.choice && t.ask.whole)) (is_idle t.phase) t.ask ours theirs) (sym same) h
+
+module _ (W : ℕ) (x : Rules) (bound : IsBounded W x) (ever : Reusing) (reuses : ℕ → Bool) (among : AreOf reuses ever) where
+  abbrev u : Reusing
+  u = with_reuses ever reuses
+
   abbrev LikeAt : Net → Own → Type 0
-  LikeAt n g = Like W x bound u n g
+  LikeAt n g = Like ever reuses n g
 
   abbrev Follows : Net → Type 0
-  Follows m = IsFollowed W x bound u m
+  Follows m = IsFollowed W ever reuses m
 
   stands : (n : Net) (g : Own) → Stands W n → LikeAt n g → Follows (over n g)
-  stands n g s l = follows W x bound u n g s l
+  stands n g s l = follows W ever reuses n g s l
 
   -- Copies.
 
@@ -98,18 +108,18 @@ module _ (W : ℕ) (x : Rules) (bound : IsBounded W x) (u : Reusing) where
       same_copy same =
           let f = sound_at W n p.key (Some t) at s.net in
           let r = client.client_on_apdu told x.readable t p.copy.apdu in
-          client_same W x bound u n g s l p.key t at r (ended_is_silent.gets told x.readable t p.copy.apdu)
+          client_same W x bound ever reuses among n g s l p.key t at r (ended_is_silent.gets told x.readable t p.copy.apdu)
           (steady_ends (client_now n p.key) t r (gets_steady told x.readable t p.copy.apdu))
           (ticket_gets W x bound n s p.key t at p.copy.moment (later p.key number n.posts) clear p.copy.apdu
           ((f.2).arriving (later p.key number n.posts) p.copy (place same) young).1)
 
       stays : Goes Stays
-      stays = client_same W x bound u n g s l p.key t at Stays (λ idle. refl) tt (ticket_stays W x bound n s p.key t at)
+      stays = client_same W x bound ever reuses among n g s l p.key t at Stays (λ idle. refl) tt (ticket_stays W x bound n s p.key t at)
 
       abort_copy : Goes (client.client_on_apdu told x.readable t (Abort true p.key.invoke_id OTHER))
       abort_copy =
           let r = client.client_on_apdu told x.readable t (Abort true p.key.invoke_id OTHER) in
-          client_same W x bound u n g s l p.key t at r (ended_is_silent.gets told x.readable t (Abort true p.key.invoke_id OTHER))
+          client_same W x bound ever reuses among n g s l p.key t at r (ended_is_silent.gets told x.readable t (Abort true p.key.invoke_id OTHER))
           (steady_ends (client_now n p.key) t r (gets_steady told x.readable t (Abort true p.key.invoke_id OTHER)))
           (ticket_gets W x bound n s p.key t at 0 (later p.key number n.posts) clear (Abort true p.key.invoke_id OTHER) (omega arith))
 
@@ -128,7 +138,7 @@ module _ (W : ℕ) (x : Rules) (bound : IsBounded W x) (u : Reusing) where
               → Goes (client.client_on_apdu told x.readable t p.copy.apdu)
           go (inl same) = subst Goes (sym same) abort_copy
           go (inr (inl is)) = subst Goes (sym is) stays
-          go (inr (inr e)) = subst Goes (sym e.ends.is) (client_ended W x bound u n g s l p.key t at e.going e.ends.sends e.ends.how
+          go (inr (inr e)) = subst Goes (sym e.ends.is) (client_ended W x bound ever reuses among n g s l p.key t at e.going e.ends.sends e.ends.how
               (Aborted OTHER) (steady_ends (client_now n p.key) t (Ends e.ends.sends e.ends.how) tt)
               (client_ends W x bound n s p.key t at e.going e.early e.aborted e.ends.sends e.ends.few) e.ends.may)
 
@@ -158,7 +168,7 @@ module _ (W : ℕ) (x : Rules) (bound : IsBounded W x) (u : Reusing) where
             → Follows (taken_by_server_so x u (over n g) p free service)
         go same aborts None at = absurd (none_there (later p.key number n.posts) p.copy
             (subst (λ (cs : List Copy). slice_get cs (later p.key number n.posts) ≡ Some p.copy) (sound_at W n p.key None at s.net).no_copies (place same)))
-        go same aborts (Some t) at = copy_comes W x bound u n g s l p.key t at (later p.key number n.posts) clear p.copy (place same) young way
+        go same aborts (Some t) at = copy_comes W x bound ever reuses among n g s l p.key t at (later p.key number n.posts) clear p.copy (place same) young way
             (subst (λ (o : Option ClientTransaction). AbortsOf o p.copy.apdu) at aborts) service free
 
         by : IsLike n g.log p q → Follows (taken_by_server_so x u (over n g) p free service)
@@ -205,12 +215,12 @@ module _ (W : ℕ) (x : Rules) (bound : IsBounded W x) (u : Reusing) where
   ticket_ticks_on n g s l key (Some t) at =
       let c = client_context x key (client_now n key) in
       let r = client.client_ticks c t in
-      client_same W x bound u n g s l key t at r (ended_is_silent.ticks c t)
+      client_same W x bound ever reuses among n g s l key t at r (ended_is_silent.ticks c t)
       (steady_ends (client_now n key) t r (ticks_steady c t)) (ticket_ticks W x bound n s key t at)
 
   entry_ticks_on : (n : Net) (g : Own) → Stands W n → LikeAt n g → (key : Key) (o : Option ClientTransaction) → n.tickets key ≡ o
       → Follows (server_acts (over n g) key (server.server_ticks (server_context x key (server_now n key)) (g.entries key)))
-  entry_ticks_on n g s l key (Some t) at = ticks_on W x bound u n g s l key t at
+  entry_ticks_on n g s l key (Some t) at = ticks_on W x bound ever reuses among n g s l key t at
   entry_ticks_on n g s l key None at = (
     record n { served = with_node key.server n.served },
     g,
@@ -304,7 +314,7 @@ module _ (W : ℕ) (x : Rules) (bound : IsBounded W x) (u : Reusing) where
             (steady_ends (client_now n key) (client.new_ticket (client_now n key) ask) (client.asks asking ask) (asks_steady asking ask))));
         entries = λ k. set_keeps n.tickets key (Some (client.asked_ticket asking ask)) (λ j o. Fit u j (server_now n j) o (g.entries j) (n.entries j)) k (l.entries k)
             (λ h. inl (gone_both u key (server_now n key) (n.tickets key) (g.entries key) (n.entries key) (gone (n.entries key) refl) h));
-        logs = logs_both u g.log n.log l.logs fact;
+        logs = logs_both ever g.log n.log l.logs fact;
         orderly = (right.0 ∙ sym l.logs.counted, l.orderly);
         pieces = set_below key n.pieces g.pieces (length ask.pieces) (length ask.pieces) (omega arith) l.pieces;
         unserved = l.unserved;
@@ -367,7 +377,7 @@ module _ (W : ℕ) (x : Rules) (bound : IsBounded W x) (u : Reusing) where
       record {
         posts = likes_map (IsLike n g.log) (IsLike n (Changed node change ∷ g.log)) g.posts n.posts (λ i p q at h. more_post (Changed node change) p q h) l.posts;
         entries = l.entries;
-        logs = logs_both u g.log n.log l.logs (Changed node change);
+        logs = logs_both ever g.log n.log l.logs (Changed node change);
         orderly = l.orderly;
         pieces = l.pieces;
         unserved = l.unserved;
@@ -375,8 +385,10 @@ module _ (W : ℕ) (x : Rules) (bound : IsBounded W x) (u : Reusing) where
       refl,
     )
 
-    server_restarts : (node exact : ℕ) (store : Option Octets) → Follows (server_restarted (over n g) node exact store)
-    server_restarts node exact store = (
+    -- from then on that server may let them be used again, or no more
+    server_turns : (node exact : ℕ) (store : Option Octets) (next : ℕ → Bool) → ((m : ℕ) → nat_eq m node ≡ false → next m ≡ reuses m)
+        → IsFollowed W ever next (server_restarted (over n g) node exact store)
+    server_turns node exact store next others = (
       server_restarted n node exact store,
       record g {
         entries = λ key. if nat_eq key.server node then None else g.entries key;
@@ -386,8 +398,8 @@ module _ (W : ℕ) (x : Rules) (bound : IsBounded W x) (u : Reusing) where
       server_restart_stands W n s node exact store,
       record {
         posts = likes_map (IsLike n g.log) (IsLike n (Restarted node store ∷ g.log)) g.posts n.posts (λ i p q at h. more_post (Restarted node store) p q h) l.posts;
-        entries = λ k. fits k (nat_eq k.server node);
-        logs = logs_both u g.log n.log l.logs (Restarted node store);
+        entries = λ k. fits k (nat_eq k.server node) refl;
+        logs = logs_both ever g.log n.log l.logs (Restarted node store);
         orderly = l.orderly;
         pieces = l.pieces;
         unserved = unserved_restarts (over n g) l.unserved node ((clock_at n.pace exact).shows + KEEP + 1);
@@ -395,10 +407,14 @@ module _ (W : ℕ) (x : Rules) (bound : IsBounded W x) (u : Reusing) where
       refl,
     )
       where
-        fits : (k : Key) (b : Bool) → Fit u k (if b then clock_at n.pace exact else n.server_clocks k.server).shows (n.tickets k)
+        fits : (k : Key) (b : Bool) → nat_eq k.server node ≡ b
+            → Fit (with_reuses ever next) k (if b then clock_at n.pace exact else n.server_clocks k.server).shows (n.tickets k)
             (if b then None else g.entries k) (if b then None else n.entries k)
-        fits k true = fit_none u k (clock_at n.pace exact).shows (n.tickets k)
-        fits k false = l.entries k
+        fits k true is = fit_none (with_reuses ever next) k (clock_at n.pace exact).shows (n.tickets k)
+        fits k false is = fit_as ever reuses next k (others k.server is) (server_now n k) (n.tickets k) (g.entries k) (n.entries k) (l.entries k)
+
+    server_restarts : (node exact : ℕ) (store : Option Octets) → Follows (server_restarted (over n g) node exact store)
+    server_restarts node exact store = server_turns node exact store reuses (λ m other. refl)
 
     -- the tickets of a node's client are lost
     fits : (node : ℕ) (k : Key) (b : Bool) → Fit u k (server_now n k) (if b then lost (n.tickets k) else n.tickets k) (g.entries k) (n.entries k)
@@ -506,7 +522,7 @@ module _ (W : ℕ) (x : Rules) (bound : IsBounded W x) (u : Reusing) where
       record {
         posts = likes_map (IsLike n g.log) (IsLike n (served key (begin_of v.entry) v.effect g.log)) g.posts n.posts (λ i p q at h. far_post p q h) l.posts;
         entries = l.entries;
-        logs = logs_served u g.log n.log l.logs key (begin_of v.entry) v.effect;
+        logs = logs_served ever g.log n.log l.logs key (begin_of v.entry) v.effect;
         orderly = go v.effect;
         pieces = l.pieces;
         unserved = unserved_acts_away (over n g) l.unserved key v.entry;
@@ -523,7 +539,7 @@ module _ (W : ℕ) (x : Rules) (bound : IsBounded W x) (u : Reusing) where
               (served_grows key (begin_of v.entry) v.effect g.log) p.copy.apdu (h.2 young),
         )
 
-        go : (o : Option Effect) → IsOrderlySo u (served key (begin_of v.entry) o g.log)
+        go : (o : Option Effect) → IsOrderlySo ever (served key (begin_of v.entry) o g.log)
         go None = l.orderly
         go (Some y) = l.orderly
 
@@ -537,7 +553,7 @@ module _ (W : ℕ) (x : Rules) (bound : IsBounded W x) (u : Reusing) where
         posts = likes_map (IsLike n g.log) (IsLike (client_acts_away n key t r) (ended_away (n.far.numbers key) (client.ending_of r) g.log)) g.posts n.posts
             (λ i p q at h. far_post p q h) l.posts;
         entries = l.entries;
-        logs = logs_ending_away u g.log n.log l.logs (n.far.numbers key) (client.ending_of r);
+        logs = logs_ending_away ever g.log n.log l.logs (n.far.numbers key) (client.ending_of r);
         orderly = go (client.ending_of r) (away_right W n s key t at r silent);
         pieces = l.pieces;
         unserved = l.unserved;
@@ -555,7 +571,7 @@ module _ (W : ℕ) (x : Rules) (bound : IsBounded W x) (u : Reusing) where
         )
 
         go : (o : Option Ending) → IsOrderly (ended_away (n.far.numbers key) o n.log)
-            → IsOrderlySo u (ended_away (n.far.numbers key) o g.log)
+            → IsOrderlySo ever (ended_away (n.far.numbers key) o g.log)
         go None right = l.orderly
         go (Some how) right = (
           (right.0.0, right.0.1, right.0.2, l.logs.asked_away (n.far.numbers key) right.0.0 right.0.1 right.0.2 right.0.3),
@@ -585,7 +601,7 @@ module _ (W : ℕ) (x : Rules) (bound : IsBounded W x) (u : Reusing) where
         posts = likes_map (IsLike n g.log) (IsLike (asked_away_at x n key away) (AskedAway n.asks key.client key.server (request_of away) ∷ g.log)) g.posts n.posts
             (λ i p q at h. far_post p q h) l.posts;
         entries = l.entries;
-        logs = logs_both u g.log n.log l.logs (AskedAway n.asks key.client key.server (request_of away));
+        logs = logs_both ever g.log n.log l.logs (AskedAway n.asks key.client key.server (request_of away));
         orderly = ((net_log W n s.net).counted ∙ sym l.logs.counted, l.orderly);
         pieces = l.pieces;
         unserved = l.unserved;
@@ -633,34 +649,42 @@ module _ (W : ℕ) (x : Rules) (bound : IsBounded W x) (u : Reusing) where
   move_follows n g s l (TicksTicketAway key) = far_ticket_ticks n g s l key (n.far.tickets key) refl
   move_follows n g s l (TicksEntryAway key) = far_entry_ticks n g s l key
 
-  follows_on : (n : Net) → Follows n → (m : Move) → Follows (moved_so x u n m)
+  pub follows_on : (n : Net) → Follows n → (m : Move) → Follows (moved_so x u n m)
   follows_on n h m = subst (λ (y : Net). Follows (moved_so x u y m)) (sym h.4) (move_follows h.0 h.1 h.2 h.3 m)
 
-  module _ (pace : Pace) (timely : IsTimely pace) (clocks : ℕ → ℕ) where
-    starts : Follows (net_start pace clocks)
-    starts = (
-      net_start pace clocks,
-      record { entries = λ key. None; posts = []; log = []; pieces = λ key. 0; far_entries = λ key. None },
-      start_stands W pace clocks timely,
-      record {
-        posts = tt;
-        entries = λ key. (tt, tt);
-        logs = record {
-          asked = λ i c s r h. h;
-          performed = λ i r p h. h;
-          unended = λ i h. h;
-          unperformed = λ i h. inl h;
-          counted = refl;
-          asked_away = λ i c q r h. h;
-          unended_away = λ i h. h;
-        };
-        orderly = tt;
-        pieces = λ key. omega arith;
-        unserved = λ node off. record { entries = λ key is. refl; away = λ key is. refl; opens = refl };
-      },
-      refl,
-    )
+  pub turned_on : (n : Net) → Follows n → (node exact : ℕ) (store : Option Octets) (next : ℕ → Bool) → ((m : ℕ) → nat_eq m node ≡ false → next m ≡ reuses m)
+      → IsFollowed W ever next (server_restarted n node exact store)
+  turned_on n h node exact store next others = subst (λ (y : Net). IsFollowed W ever next (server_restarted y node exact store)) (sym h.4)
+      (server_turns h.0 h.1 h.2 h.3 node exact store next others)
 
-    pub reached_follows : (n : Net) → IsReachedSo x u (net_start pace clocks) n → IsFollowed W x bound u n
-    reached_follows _ Still = starts
-    reached_follows _ (Moved n m h) = follows_on n (reached_follows n h) m
+pub starts_followed : (W : ℕ) (ever : Reusing) (reuses : ℕ → Bool) (pace : Pace) → IsTimely pace → (clocks : ℕ → ℕ)
+    → IsFollowed W ever reuses (net_start pace clocks)
+starts_followed W ever reuses pace timely clocks = (
+  net_start pace clocks,
+  record { entries = λ key. None; posts = []; log = []; pieces = λ key. 0; far_entries = λ key. None },
+  start_stands W pace clocks timely,
+  record {
+    posts = tt;
+    entries = λ key. (tt, tt);
+    logs = record {
+      asked = λ i c s r h. h;
+      performed = λ i r p h. h;
+      unended = λ i h. h;
+      unperformed = λ i h. inl h;
+      counted = refl;
+      asked_away = λ i c q r h. h;
+      unended_away = λ i h. h;
+    };
+    orderly = tt;
+    pieces = λ key. omega arith;
+    unserved = λ node off. record { entries = λ key is. refl; away = λ key is. refl; opens = refl };
+  },
+  refl,
+)
+
+-- the same servers let them be used again throughout
+pub reached_follows : (W : ℕ) (x : Rules) → IsBounded W x → (u : Reusing) (pace : Pace) → IsTimely pace → (clocks : ℕ → ℕ) (n : Net)
+    → IsReachedSo x u (net_start pace clocks) n → IsFollowed W u u.reuses n
+reached_follows W x bound u pace timely clocks _ Still = starts_followed W u u.reuses pace timely clocks
+reached_follows W x bound u pace timely clocks _ (Moved n m h) =
+    follows_on W x bound u u.reuses (λ node is. is) n (reached_follows W x bound u pace timely clocks n h) m

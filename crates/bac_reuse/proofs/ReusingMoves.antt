@@ -5,7 +5,7 @@ use Rattle.std.proofs.lemmas.Bool.Decides.{nat_tests}
 use Rattle.bac_apdu.specs.Apdu.{Apdu}
 use Rattle.bac_protocol.specs.declared.times.TheConstants.{KEEP}
 use Rattle.bac_protocol.specs.Pace.{IsTimely, Pace}
-use Rattle.bac_protocol.specs.Service.{Request}
+use Rattle.bac_protocol.specs.Service.{Octets, Request}
 use Rattle.bac_protocol.specs.Wire.{is_from_client}
 use Rattle.bac_protocol.specs.Client.{ClientTransaction, request_of}
 use Rattle.bac_protocol.specs.Server.{ServerTransaction, Service, is_none_live}
@@ -25,11 +25,13 @@ use Rattle.bac_protocol.proofs.Standing.{Stands, spent_stands}
 use Rattle.bac_protocol.proofs.StrangerTables.{was_away}
 use Rattle.bac_reuse.specs.Moves.{AreServedApartSo, AreSpacedSo, IsInOrderSo, IsOrderlySo, IsReachedSo, MayBePerformed, arrived_so, moved_so}
 use Rattle.bac_reuse.specs.Moves.{strayed_to_server_so, taken_by_server_so}
+use Rattle.bac_reuse.specs.Moves.{IsReachedSoIn}
 use Rattle.bac_reuse.specs.Moves.IsReachedSo.{Still, Moved}
-use Rattle.bac_reuse.specs.Runs.{NoneReuses, Reusing}
+use Rattle.bac_reuse.specs.Moves.IsReachedSoIn.{Still as begins, Moved as goes_on, Turned as turns}
+use Rattle.bac_reuse.specs.Runs.{AreOf, AreSameBut, NoneReuses, Reusing, with_reuses}
 use Rattle.bac_reuse.proofs.Beside.{IsLike, Own, gone_both, like_at, like_key, over}
 use Rattle.bac_reuse.proofs.FarApart.{AwayLeft, apart_left, move_left, start_left}
-use Rattle.bac_reuse.proofs.Followed.{reached_follows}
+use Rattle.bac_reuse.proofs.Followed.{follows_on, starts_followed, turned_on}
 use Rattle.bac_reuse.proofs.KeptEntries.{AreKept, ArePosted, move_keeps}
 use Rattle.bac_reuse.proofs.Machine.{IsGone}
 use Rattle.bac_reuse.proofs.Simulated.{IsFollowed, Like}
@@ -43,9 +45,9 @@ none_live now (Some e) gone =
 none_there : (k : ℕ) (c : Copy) → slice_get [] k ≡ Some c → ⊥
 none_there k c is = cc
 
-module _ (W : ℕ) (x : Rules) (u : Reusing) (bound : IsBounded W x) where
+module _ (W : ℕ) (ever : Reusing) (reuses : ℕ → Bool) where
   -- What its follower knows of it.
-  module _ (n : Net) (g : Own) (s : Stands W n) (l : Like W x bound u n g) where
+  module _ (n : Net) (g : Own) (s : Stands W n) (l : Like ever reuses n g) where
     posted : ArePosted (over n g)
     posted number p at none = none_there (later q.key number n.posts) q.copy
         (subst (λ (cs : List Copy). slice_get cs (later q.key number n.posts) ≡ Some q.copy) (sound_at W n q.key None there s.net).no_copies
@@ -61,7 +63,7 @@ module _ (W : ℕ) (x : Rules) (u : Reusing) (bound : IsBounded W x) where
         there = subst (λ (k : Key). n.tickets k ≡ None) (sym (like_key n g.log p q found.2)) none
 
     gone : (key : Key) → is_id_held n key ≡ false → IsGone (server_now n key) (g.entries key)
-    gone key free = (gone_both u key (server_now n key) (n.tickets key) (g.entries key) (n.entries key) (theirs (n.entries key) refl) (l.entries key)).0
+    gone key free = (gone_both (with_reuses ever reuses) key (server_now n key) (n.tickets key) (g.entries key) (n.entries key) (theirs (n.entries key) refl) (l.entries key)).0
       where
         theirs : (o : Option ServerTransaction) → n.entries key ≡ o → IsGone (server_now n key) o
         theirs None is = tt
@@ -72,7 +74,7 @@ module _ (W : ℕ) (x : Rules) (u : Reusing) (bound : IsBounded W x) where
         let was = was_away n.server_clocks n.serves_from n.far n.log s.away key t at in
         (was.0, was.1, was.2, l.logs.asked_away (n.far.numbers key) was.0 was.1 was.2 was.3)
 
-    ordered : AreKept (over n g) → AwayLeft u (over n g) → IsInOrderSo u (over n g)
+    ordered : AreKept (over n g) → AwayLeft ever (over n g) → IsInOrderSo ever (over n g)
     ordered kept apart = record {
       orderly = l.orderly;
       counted = (net_log W n s.net).counted ∙ sym l.logs.counted;
@@ -85,34 +87,83 @@ module _ (W : ℕ) (x : Rules) (u : Reusing) (bound : IsBounded W x) where
       ticking = λ key. record { some = (s.calm key).timely.some; client = (s.calm key).client; server = (s.calm key).server };
       away = away;
       apart = s.away.apart;
-      served_apart = apart_left u (over n g) apart;
+      served_apart = apart_left ever (over n g) apart;
     }
 
-  module _ (pace : Pace) (timely : IsTimely pace) (clocks : ℕ → ℕ) where
-    abbrev IsReachedHere : Net → Type 0
-    IsReachedHere n = IsReachedSo x u (net_start pace clocks) n
+-- a net to which moves lead
+pub record IsKnown (W : ℕ) (ever : Reusing) (reuses : ℕ → Bool) (n : Net) : Type 0 where
+  pub among : AreOf reuses ever
+  pub followed : IsFollowed W ever reuses n
+  pub kept : AreKept n
+  pub left : AwayLeft ever n
 
-    followed : (n : Net) → IsReachedHere n → IsFollowed W x bound u n
-    followed n h = reached_follows W x bound u pace timely clocks n h
+pub known_starts : (W : ℕ) (ever : Reusing) (reuses : ℕ → Bool) → AreOf reuses ever → (pace : Pace) → IsTimely pace → (clocks : ℕ → ℕ)
+    → IsKnown W ever reuses (net_start pace clocks)
+known_starts W ever reuses among pace timely clocks = record {
+  among = among;
+  followed = starts_followed W ever reuses pace timely clocks;
+  kept = record { own = λ key. tt; entered = λ key none. refl };
+  left = start_left ever pace clocks;
+}
 
-    all_posted : (n : Net) → IsReachedHere n → ArePosted n
-    all_posted n h = let f = followed n h in subst (λ (m : Net). ArePosted m) (sym f.4) (posted f.0 f.1 f.2 f.3)
+module _ (W : ℕ) (x : Rules) (bound : IsBounded W x) (ever : Reusing) (reuses : ℕ → Bool) (n : Net) (k : IsKnown W ever reuses n) where
+  abbrev u : Reusing
+  u = with_reuses ever reuses
 
-    kept : (n : Net) → IsReachedHere n → AreKept n
-    kept _ Still = record { own = λ key. tt; entered = λ key none. refl }
-    kept _ (Moved n m h) = move_keeps x u n (kept n h) (all_posted n h) m
+  all_posted : ArePosted n
+  all_posted = let f = k.followed in subst (λ (m : Net). ArePosted m) (sym f.4) (posted W ever reuses f.0 f.1 f.2 f.3)
 
-    left : (n : Net) → IsReachedHere n → AwayLeft u n
-    left _ Still = start_left u pace clocks
-    left _ (Moved n m h) =
-        let f = followed n h in
-        subst (λ (k : Net). AwayLeft u (moved_so x u k m)) (sym f.4) (move_left x u f.0 f.1 (f.2).calm (f.3).unserved (subst (λ (k : Net). AwayLeft u k) f.4 (left n h)) m)
+  left_on : (m : Move) → AwayLeft ever (moved_so x u n m)
+  left_on m =
+      let f = k.followed in
+      subst (λ (y : Net). AwayLeft ever (moved_so x u y m)) (sym f.4)
+      (move_left x ever reuses k.among f.0 f.1 (f.2).calm (f.3).unserved (subst (λ (y : Net). AwayLeft ever y) f.4 k.left) m)
 
-    pub in_order_so : (n : Net) → IsReachedSo x u (net_start pace clocks) n → IsInOrderSo u n
-    in_order_so n h =
-        let f = followed n h in
-        subst (λ (m : Net). IsInOrderSo u m) (sym f.4) (ordered f.0 f.1 f.2 f.3 (subst (λ (m : Net). AreKept m) f.4 (kept n h))
-        (subst (λ (m : Net). AwayLeft u m) f.4 (left n h)))
+  pub known_moves : (m : Move) → IsKnown W ever reuses (moved_so x u n m)
+  known_moves m = record {
+    among = k.among;
+    followed = follows_on W x bound ever reuses k.among n k.followed m;
+    kept = move_keeps x u n k.kept all_posted m;
+    left = left_on m;
+  }
+
+  -- that server lets them be used again from its restart on, or no more
+  pub known_turns : (next : ℕ → Bool) → AreOf next ever → (node exact : ℕ) (store : Option Octets) → AreSameBut node reuses next
+      → IsKnown W ever next (moved_so x u n (RestartsServer node exact store))
+  known_turns next among node exact store others = record {
+    among = among;
+    followed = turned_on W x bound ever reuses k.among n k.followed node exact store next others;
+    kept = move_keeps x u n k.kept all_posted (RestartsServer node exact store);
+    left = left_on (RestartsServer node exact store);
+  }
+
+pub known_order : (W : ℕ) (ever : Reusing) (reuses : ℕ → Bool) (n : Net) → IsKnown W ever reuses n → IsInOrderSo ever n
+known_order W ever reuses n k =
+    let f = k.followed in
+    subst (λ (m : Net). IsInOrderSo ever m) (sym f.4) (ordered W ever reuses f.0 f.1 f.2 f.3 (subst (λ (m : Net). AreKept m) f.4 k.kept)
+    (subst (λ (m : Net). AwayLeft ever m) f.4 k.left))
+
+pub reached_known : (W : ℕ) (x : Rules) (u : Reusing) → IsBounded W x → (pace : Pace) → IsTimely pace → (clocks : ℕ → ℕ) (n : Net)
+    → IsReachedSo x u (net_start pace clocks) n → IsKnown W u u.reuses n
+reached_known W x u bound pace timely clocks _ Still = known_starts W u u.reuses (λ node is. is) pace timely clocks
+reached_known W x u bound pace timely clocks _ (Moved n m h) = known_moves W x bound u u.reuses n (reached_known W x u bound pace timely clocks n h) m
+
+pub in_order_so : (W : ℕ) (x : Rules) (u : Reusing) → IsBounded W x → (pace : Pace) → IsTimely pace → (clocks : ℕ → ℕ) (n : Net)
+    → IsReachedSo x u (net_start pace clocks) n → IsInOrderSo u n
+in_order_so W x u bound pace timely clocks n h = known_order W u u.reuses n (reached_known W x u bound pace timely clocks n h)
+
+-- in stretches
+pub reached_known_in : (W : ℕ) (ever : Reusing) (pace : Pace) → IsTimely pace → (clocks : ℕ → ℕ) (reuses : ℕ → Bool) (n : Net)
+    → IsReachedSoIn (IsBounded W) ever (net_start pace clocks) reuses n → IsKnown W ever reuses n
+reached_known_in W ever pace timely clocks _ _ (begins reuses among) = known_starts W ever reuses among pace timely clocks
+reached_known_in W ever pace timely clocks _ _ (goes_on x bound reuses n m h) =
+    known_moves W x bound ever reuses n (reached_known_in W ever pace timely clocks reuses n h) m
+reached_known_in W ever pace timely clocks _ _ (turns x bound reuses next among n node exact store others h) =
+    known_turns W x bound ever reuses n (reached_known_in W ever pace timely clocks reuses n h) next among node exact store others
+
+pub in_order_so_in : (W : ℕ) (ever : Reusing) (pace : Pace) → IsTimely pace → (clocks : ℕ → ℕ) (reuses : ℕ → Bool) (n : Net)
+    → IsReachedSoIn (IsBounded W) ever (net_start pace clocks) reuses n → IsInOrderSo ever n
+in_order_so_in W ever pace timely clocks reuses n h = known_order W ever reuses n (reached_known_in W ever pace timely clocks reuses n h)
 
 -- Moves without reuse.
 module _ (x : Rules) (u : Reusing) (none : NoneReuses u) where

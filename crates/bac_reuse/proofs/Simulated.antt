@@ -35,7 +35,7 @@ use Rattle.bac_protocol.proofs.Served.{ticks_quiet}
 use Rattle.bac_protocol.proofs.Sound.{ClientFits, IsClear, Down, DownFits, IsBegunFor, IsPastFor, Says, SendsDown, ServerFits, Sound, StateFits, Up}
 use Rattle.bac_protocol.proofs.Sound.Down.{Sent, Unsent}
 use Rattle.bac_reuse.specs.Moves.{IsOrderlySo, MayBePerformed}
-use Rattle.bac_reuse.specs.Runs.{Reusing}
+use Rattle.bac_reuse.specs.Runs.{AreOf, Reusing, with_reuses}
 use Rattle.bac_reuse.proofs.Beside.{AbortsOf, AreGone, AreLike, AreLogs, Fit, FitOf, Holds, IsForeign, IsFresh, IsLeftOf, IsLike, Own, WasRead, aborts_on}
 use Rattle.bac_reuse.proofs.Beside.{after_ask, after_idle, ended_grows, fit_on, foreign_more, foreign_on, fresh_is, given_answers, is_fresh, likes_aborts, likes_join}
 use Rattle.bac_reuse.proofs.Beside.{likes_map, likes_same, logs_effect, logs_ended, logs_ending, logs_read_effect, may_end, over, performed_grows, set_keeps}
@@ -117,24 +117,27 @@ reply_more : (o : Option Effect) (e : Option ServerTransaction) (a b : ℕ) → 
 reply_more None e a b le = le
 reply_more (Some y) e a b le = omega arith
 
-module _ (W : ℕ) (x : Rules) (bound : IsBounded W x) (u : Reusing) where
-  -- what the net has of its own fits the other
-  pub record Like (n : Net) (g : Own) : Type 0 where
-    pub posts : AreLike (IsLike n g.log) g.posts n.posts
-    pub entries : (key : Key) → Fit u key (server_now n key) (n.tickets key) (g.entries key) (n.entries key)
-    pub logs : AreLogs u g.log n.log
-    pub orderly : IsOrderlySo u g.log
-    pub pieces : (key : Key) → n.pieces key ≤ g.pieces key
-    pub unserved : Unserved (over n g)
+-- what the net has of its own fits the other; these servers let invoke IDs be used again now, of those that ever do
+pub record Like (ever : Reusing) (reuses : ℕ → Bool) (n : Net) (g : Own) : Type 0 where
+  pub posts : AreLike (IsLike n g.log) g.posts n.posts
+  pub entries : (key : Key) → Fit (with_reuses ever reuses) key (server_now n key) (n.tickets key) (g.entries key) (n.entries key)
+  pub logs : AreLogs ever g.log n.log
+  pub orderly : IsOrderlySo ever g.log
+  pub pieces : (key : Key) → n.pieces key ≤ g.pieces key
+  pub unserved : Unserved (over n g)
 
-  -- a net has another one beside it
-  abbrev pub IsFollowed : Net → Type 0
-  IsFollowed m = (n : Net) × (g : Own) × Stands W n × Like n g × (m ≡ over n g)
+-- a net has another one beside it
+abbrev pub IsFollowed : (W : ℕ) → Reusing → (reuses : ℕ → Bool) → Net → Type 0
+IsFollowed W ever reuses m = (n : Net) × (g : Own) × Stands W n × Like ever reuses n g × (m ≡ over n g)
 
-  pub follows : (n : Net) (g : Own) → Stands W n → Like n g → IsFollowed (over n g)
-  follows n g s l = (n, g, s, l, refl)
+pub follows : (W : ℕ) (ever : Reusing) (reuses : ℕ → Bool) (n : Net) (g : Own) → Stands W n → Like ever reuses n g → IsFollowed W ever reuses (over n g)
+follows W ever reuses n g s l = (n, g, s, l, refl)
 
-  module _ (n : Net) (g : Own) (s : Stands W n) (l : Like n g) (key : Key) (t : ClientTransaction) (at : n.tickets key ≡ Some t) where
+module _ (W : ℕ) (x : Rules) (bound : IsBounded W x) (ever : Reusing) (reuses : ℕ → Bool) (among : AreOf reuses ever) where
+  abbrev u : Reusing
+  u = with_reuses ever reuses
+
+  module _ (n : Net) (g : Own) (s : Stands W n) (l : Like ever reuses n g) (key : Key) (t : ClientTransaction) (at : n.tickets key ≡ Some t) where
     was_asked : Has (Asked (n.numbers key) key.client key.server (request_of t.ask)) n.log
     was_asked = (sound_at W n key (Some t) at s.net).2.asked
 
@@ -177,8 +180,8 @@ module _ (W : ℕ) (x : Rules) (bound : IsBounded W x) (u : Reusing) where
             (sym (set_same n.tickets key (Some (after (client_now n key) t r)))) h,
       )
 
-      client_like : AreLogs u (ended (n.numbers key) o g.log) (client_acts n key t r).log → IsOrderlySo u (ended (n.numbers key) o g.log)
-          → Like (client_acts n key t r) acted
+      client_like : AreLogs ever (ended (n.numbers key) o g.log) (client_acts n key t r).log → IsOrderlySo ever (ended (n.numbers key) o g.log)
+          → Like ever reuses (client_acts n key t r) acted
       client_like logs orderly = record {
         posts = likes_join (IsLike (client_acts n key t r) (ended (n.numbers key) o g.log)) g.posts n.posts
             (map (post_of key n.now) (client.sends_of r)) (map (post_of key n.now) (client.sends_of r))
@@ -201,29 +204,29 @@ module _ (W : ℕ) (x : Rules) (bound : IsBounded W x) (u : Reusing) where
     -- both do the same
     pub client_same : (r : client.Reaction) → (is_idle t.phase ≡ true → r ≡ Stays)
         → Each (AbortsIf (is_idle (after (client_now n key) t r).phase)) (client.sends_of r) → Stands W (client_acts n key t r)
-        → IsFollowed (client_acts (over n g) key t r)
+        → IsFollowed W ever reuses (client_acts (over n g) key t r)
     client_same r silent steady kept = (
       client_acts n key t r,
       acted r silent steady (client.ending_of r),
       kept,
-      client_like r silent steady (client.ending_of r) (logs_ending u g.log n.log l.logs (n.numbers key) (client.ending_of r))
+      client_like r silent steady (client.ending_of r) (logs_ending ever g.log n.log l.logs (n.numbers key) (client.ending_of r))
           (go (client.ending_of r) (net_log W (client_acts n key t r) kept.net).orderly),
       refl,
     )
       where
-        go : (o : Option Ending) → IsOrderly (ended (n.numbers key) o n.log) → IsOrderlySo u (ended (n.numbers key) o g.log)
+        go : (o : Option Ending) → IsOrderly (ended (n.numbers key) o n.log) → IsOrderlySo ever (ended (n.numbers key) o g.log)
         go None right = l.orderly
-        go (Some how) right = (may_end u g.log n.log l.logs (n.numbers key) how right.0, l.logs.unended (n.numbers key) right.1, l.orderly)
+        go (Some how) right = (may_end ever g.log n.log l.logs (n.numbers key) how right.0, l.logs.unended (n.numbers key) right.1, l.orderly)
 
     -- both end, each in its own way
     pub client_ended : is_idle t.phase ≡ false → (sends : List Apdu) (how other : Ending) → Each (AbortsIf true) sends
         → Stands W (client_acts n key t (Ends sends other))
-        → MayEnd (n.numbers key) how g.log → IsFollowed (client_acts (over n g) key t (Ends sends how))
+        → MayEnd (n.numbers key) how g.log → IsFollowed W ever reuses (client_acts (over n g) key t (Ends sends how))
     client_ended going sends how other steady kept may = (
       client_acts n key t (Ends sends other),
       acted (Ends sends other) silent steady (Some how),
       kept,
-      client_like (Ends sends other) silent steady (Some how) (logs_ended u g.log n.log l.logs (n.numbers key) how other)
+      client_like (Ends sends other) silent steady (Some how) (logs_ended ever g.log n.log l.logs (n.numbers key) how other)
           (may, l.logs.unended (n.numbers key) right.1, l.orderly),
       refl,
     )
@@ -237,14 +240,14 @@ module _ (W : ℕ) (x : Rules) (bound : IsBounded W x) (u : Reusing) where
     -- The server acts.
 
     -- what a server performs for the ask, in both
-    orderly_effect : (o : Option Effect) → IsOrderly (performed (n.numbers key) o n.log) → IsOrderlySo u (performed (n.numbers key) o g.log)
+    orderly_effect : (o : Option Effect) → IsOrderly (performed (n.numbers key) o n.log) → IsOrderlySo ever (performed (n.numbers key) o g.log)
     orderly_effect None right = l.orderly
     orderly_effect (Some e) right = (before (l.logs.unperformed (n.numbers key) right.1), l.orderly)
       where
-        same : (read : WasRead u (n.numbers key) n.log) → read.2 ≡ e.request
+        same : (read : WasRead ever (n.numbers key) n.log) → read.2 ≡ e.request
         same read = asked_once (n.numbers key) read.0 read.1 right.0.0 right.0.1 read.2 e.request n.log right.2 read.3 right.0.2
 
-        before : IsUnperformed (n.numbers key) g.log ⊎ WasRead u (n.numbers key) n.log → MayBePerformed u (n.numbers key) e.request g.log
+        before : IsUnperformed (n.numbers key) g.log ⊎ WasRead ever (n.numbers key) n.log → MayBePerformed ever (n.numbers key) e.request g.log
         before (inl un) = (right.0.0, right.0.1, l.logs.asked (n.numbers key) right.0.0 right.0.1 e.request right.0.2, inl un)
         before (inr read) = (
           read.0,
@@ -256,10 +259,10 @@ module _ (W : ℕ) (x : Rules) (bound : IsBounded W x) (u : Reusing) where
 
     -- what it performs for a read, where the other performs nothing
     module _ (service : Service) (fresh : IsFresh u key t.ask) where
-      was_read : WasRead u (n.numbers key) n.log
-      was_read = (key.client, key.server, request_of t.ask, was_asked, fresh.reuses, fresh.read)
+      was_read : WasRead ever (n.numbers key) n.log
+      was_read = (key.client, key.server, request_of t.ask, was_asked, among key.server fresh.reuses, fresh.read)
 
-      orderly_read : (o : Option Effect) → IsOfRead service t.ask o → IsOrderlySo u (performed (n.numbers key) o g.log)
+      orderly_read : (o : Option Effect) → IsOfRead service t.ask o → IsOrderlySo ever (performed (n.numbers key) o g.log)
       orderly_read None of = l.orderly
       orderly_read (Some y) of = (
         (
@@ -267,7 +270,7 @@ module _ (W : ℕ) (x : Rules) (bound : IsBounded W x) (u : Reusing) where
           key.server,
           l.logs.asked (n.numbers key) key.client key.server y.request
               (subst (λ (q : Request). Has (Asked (n.numbers key) key.client key.server q) n.log) (sym of.0) was_asked),
-          inr (fresh.reuses, subst (λ (q : Request). u.reads q.choice ≡ true) (sym of.0) fresh.read),
+          inr (among key.server fresh.reuses, subst (λ (q : Request). u.reads q.choice ≡ true) (sym of.0) fresh.read),
         ),
         l.orderly,
       )
@@ -311,9 +314,9 @@ module _ (W : ℕ) (x : Rules) (bound : IsBounded W x) (u : Reusing) where
 
       server_goes : Stands W (server_acts n key v') → AreLike IsLikeNow (map (post_of key n.now) v.sends) (map (post_of key n.now) v'.sends)
           → Fit u key (server_now n key) (Some t) v.entry v'.entry
-          → AreLogs u (performed (n.numbers key) v.effect g.log) (performed (n.numbers key) v'.effect n.log)
-          → IsOrderlySo u (performed (n.numbers key) v.effect g.log)
-          → with_reply (n.pieces key) v'.effect v'.entry ≤ with_reply (g.pieces key) v.effect v.entry → IsFollowed (server_acts (over n g) key v)
+          → AreLogs ever (performed (n.numbers key) v.effect g.log) (performed (n.numbers key) v'.effect n.log)
+          → IsOrderlySo ever (performed (n.numbers key) v.effect g.log)
+          → with_reply (n.pieces key) v'.effect v'.entry ≤ with_reply (g.pieces key) v.effect v.entry → IsFollowed W ever reuses (server_acts (over n g) key v)
       server_goes kept sends fit logs orderly more = (
         server_acts n key v',
         acts,
@@ -339,15 +342,15 @@ module _ (W : ℕ) (x : Rules) (bound : IsBounded W x) (u : Reusing) where
 
     -- both do the same
     pub server_same : (v : server.Reaction) → Stands W (server_acts n key v) → Each IsFromServer v.sends
-        → Fit u key (server_now n key) (Some t) v.entry v.entry → IsFollowed (server_acts (over n g) key v)
+        → Fit u key (server_now n key) (Some t) v.entry v.entry → IsFollowed W ever reuses (server_acts (over n g) key v)
     server_same v kept from fit = server_goes v v kept (new_sends v v v.sends from) fit
-        (logs_effect u g.log n.log l.logs (n.numbers key) v.effect)
+        (logs_effect ever g.log n.log l.logs (n.numbers key) v.effect)
         (orderly_effect v.effect (net_log W (server_acts n key v) kept.net).orderly)
         (reply_below v.effect v.entry (n.pieces key) (g.pieces key) (l.pieces key))
 
     -- both keep what they have
     pub server_rests : (o p : Option ServerTransaction) (sends : List Apdu) → Stands W (server_acts n key (server.rests p sends)) → Each IsFromServer sends
-        → AreGone (server_now n key) o p → IsFollowed (server_acts (over n g) key (server.rests o sends))
+        → AreGone (server_now n key) o p → IsFollowed W ever reuses (server_acts (over n g) key (server.rests o sends))
     server_rests o p sends kept from gone = server_goes (server.rests o sends) (server.rests p sends) kept
         (new_sends (server.rests o sends) (server.rests p sends) sends from) (inl gone) l.logs l.orderly (l.pieces key)
 
@@ -364,10 +367,10 @@ module _ (W : ℕ) (x : Rules) (bound : IsBounded W x) (u : Reusing) where
         → Stands W (server_acts n key (server.rests o (aborts key.invoke_id v.sends)))
         → Each (λ a. IsFromServer a × IsForeign (n.numbers key) (Some t) (performed (n.numbers key) v.effect g.log) a) v.sends
         → IsOfRead service t.ask v.effect → Fit u key (server_now n key) (Some t) v.entry o
-        → IsFollowed (server_acts (over n g) key v)
+        → IsFollowed W ever reuses (server_acts (over n g) key v)
     server_alone service fresh v o kept each of fit = server_goes v (server.rests o (aborts key.invoke_id v.sends)) kept
         (foreign_sends v (server.rests o (aborts key.invoke_id v.sends)) each) fit
-        (logs_read_effect u g.log n.log l.logs (n.numbers key) v.effect (was_read service fresh)) (orderly_read service fresh v.effect of)
+        (logs_read_effect ever g.log n.log l.logs (n.numbers key) v.effect (was_read service fresh)) (orderly_read service fresh v.effect of)
         (reply_more v.effect v.entry (n.pieces key) (g.pieces key) (l.pieces key))
 
     -- An entry that both have.
@@ -455,7 +458,7 @@ module _ (W : ℕ) (x : Rules) (bound : IsBounded W x) (u : Reusing) where
           (server_sends_own.gets told service (n.entries key) (is_room n key free) p.apdu (s.calm key).own).0
 
       abbrev Goes : server.Reaction → Type 0
-      Goes v = IsFollowed (server_acts (over n g) key v)
+      Goes v = IsFollowed W ever reuses (server_acts (over n g) key v)
 
       apart_goes : (v : server.Reaction) → GoesApart told service (is_fresh u key t.ask) (is_idle t.phase) t.ask (is_room n key free) (n.entries key) v
           → Goes v
@@ -525,7 +528,7 @@ module _ (W : ℕ) (x : Rules) (bound : IsBounded W x) (u : Reusing) where
         goes = record { sends = tt; of = tt; entry = inl refl };
       }))
 
-      pub copy_comes : IsFollowed (server_acts (over n g) key ours)
+      pub copy_comes : IsFollowed W ever reuses (server_acts (over n g) key ours)
       copy_comes = go (outcome told service u key t.ask (is_idle t.phase) (is_room n key free) (is_fresh u key t.ask) refl p.apdu of_ask
           (g.entries key) (n.entries key) (entry_first W x bound n s key t at) fit_at)
         where
@@ -550,7 +553,7 @@ module _ (W : ℕ) (x : Rules) (bound : IsBounded W x) (u : Reusing) where
     ticking = server_context x key (server_now n key)
 
     abbrev Ticks : server.Reaction → Type 0
-    Ticks v = IsFollowed (server_acts (over n g) key v)
+    Ticks v = IsFollowed W ever reuses (server_acts (over n g) key v)
 
     kept_ticks : Stands W (server_acts n key (server.server_ticks ticking (n.entries key)))
     kept_ticks = entry_ticks W x bound n s key t at

@@ -1,5 +1,5 @@
 -- Each event of a run in which servers let invoke IDs be used again is moves of its net; so its log is right, with the stores.
-use Rattle.std.proofs.Common.{◌≡◌, ℕ, ◌⊎◌, Bool, true, false, List, [], ◌∷◌, Option, Some, None, slice_get, if◌then◌else◌, refl, ap, sym, subst, ◌∙◌}
+use Rattle.std.proofs.Common.{◌≡◌, ℕ, ◌⊎◌, Bool, true, false, List, [], ◌∷◌, Option, Some, None, slice_get, if◌then◌else◌, refl, ap, sym, subst, inl, inr, ◌∙◌}
 use Rattle.bac_apdu.specs.Apdu.{Apdu}
 use Rattle.bac_protocol.specs.Context.{Context}
 use Rattle.bac_protocol.specs.Pace.{IsTimely, Pace}
@@ -27,39 +27,39 @@ use Rattle.bac_protocol.specs.Moves.Move.{Strays, AsksAway, TicksTicketAway, Tic
 use Rattle.bac_protocol.proofs.Served.{IsServed, ticks_quiet}
 use Rattle.bac_reuse.specs.Once.{IsOnceSo}
 use Rattle.bac_reuse.specs.Moves.{IsInOrderSo, IsOrderlySo, IsReachedSo, arrived_so, moved_so, strayed_to_server_so, taken_by_server_so}
+use Rattle.bac_reuse.specs.Moves.{IsReachedSoIn}
 use Rattle.bac_reuse.specs.Moves.IsReachedSo.{Still, Moved}
-use Rattle.bac_reuse.specs.Runs.{Reusing, delivered_so, happens_so, run_so, strays_so, takes_at_server_so}
+use Rattle.bac_reuse.specs.Moves.IsReachedSoIn.{Still as begins, Moved as goes_on, Turned as turns}
+use Rattle.bac_reuse.specs.Stretches.{ArePermitted, BeginWithTurn, Stretch, Turns, run_so_in}
+use Rattle.bac_protocol.specs.World.{happens}
+use Rattle.bac_reuse.specs.Runs.{AreOf, Reusing, with_reuses, delivered_so, happens_so, run_so, strays_so, takes_at_server_so}
 use Rattle.bac_reuse.proofs.FreshReads.{hears_served}
 use Rattle.bac_reuse.proofs.Orderly.{one_ask}
-use Rattle.bac_reuse.proofs.ReusingMoves.{in_order_so}
+use Rattle.bac_reuse.proofs.ReusingMoves.{in_order_so, in_order_so_in}
 
-module _ (S : Type 0) (model : StoreModel S) (opening : ℕ → S) (W : ℕ) (x : Rules) (bound : IsBounded W x) (u : Reusing) (pace : Pace) (timely : IsTimely pace)
-    (clocks : ℕ → ℕ) where
-  abbrev IsReachedHere : Net → Type 0
-  IsReachedHere n = IsReachedSo x u (net_start pace clocks) n
+-- what is reached, where these servers let invoke IDs be used again now, of those that ever do
+module _ (S : Type 0) (model : StoreModel S) (opening : ℕ → S) (x : Rules) (ever : Reusing) (reuses : ℕ → Bool) (IsReachedHere : Net → Type 0)
+    (known : (n : Net) → IsReachedHere n → IsInOrderSo ever n)
+    (moves_on : (n : Net) → IsReachedHere n → (m : Move) → IsReachedHere (moved_so x (with_reuses ever reuses) n m)) where
+  abbrev u : Reusing
+  u = with_reuses ever reuses
 
   abbrev IsRight : List Fact → (ℕ → S) → Type 0
-  IsRight log stores = IsOnceSo S model u opening log stores
+  IsRight log stores = IsOnceSo S model ever opening log stores
 
   -- moves lead to its net, and its log is right
-  record Stored (w : World S) : Type 0 where
-    reached : IsReachedHere w.net
-    right : IsRight w.net.log w.stores
-
-  known : (n : Net) → IsReachedHere n → IsInOrderSo u n
-  known n h = in_order_so W x u bound pace timely clocks n h
-
-  moves_on : (n : Net) → IsReachedHere n → (m : Move) → IsReachedHere (moved_so x u n m)
-  moves_on n h m = Moved n m h
+  pub record Stored (w : World S) : Type 0 where
+    pub reached : IsReachedHere w.net
+    pub right : IsRight w.net.log w.stores
 
   -- A client acts.
 
-  right_ended : (log : List Fact) (stores : ℕ → S) → IsRight log stores → (i : ℕ) (o : Option Ending) → IsOrderlySo u (ended i o log)
+  right_ended : (log : List Fact) (stores : ℕ → S) → IsRight log stores → (i : ℕ) (o : Option Ending) → IsOrderlySo ever (ended i o log)
       → IsRight (ended i o log) stores
   right_ended log stores h i None right = h
   right_ended log stores h i (Some how) right = (stores, (right.0, right.1, λ node. refl), h)
 
-  right_ended_away : (log : List Fact) (stores : ℕ → S) → IsRight log stores → (i : ℕ) (o : Option Ending) → IsOrderlySo u (ended_away i o log)
+  right_ended_away : (log : List Fact) (stores : ℕ → S) → IsRight log stores → (i : ℕ) (o : Option Ending) → IsOrderlySo ever (ended_away i o log)
       → IsRight (ended_away i o log) stores
   right_ended_away log stores h i None right = h
   right_ended_away log stores h i (Some how) right = (stores, (right.0, right.1, λ node. refl), h)
@@ -81,7 +81,7 @@ module _ (S : Type 0) (model : StoreModel S) (opening : ℕ → S) (W : ℕ) (x 
     -- A server acts.
 
     right_performed : (key : Key) (t : ClientTransaction) → w.net.tickets key ≡ Some t → (o : Option Effect) → IsServed (service_of S model w key) o
-        → IsOrderlySo u (performed (w.net.numbers key) o w.net.log) → IsRight (performed (w.net.numbers key) o w.net.log) (stored S model key.server o w.stores)
+        → IsOrderlySo ever (performed (w.net.numbers key) o w.net.log) → IsRight (performed (w.net.numbers key) o w.net.log) (stored S model key.server o w.stores)
     right_performed key t at None is right = h.right
     right_performed key t at (Some e) is right =
         (w.stores, (key.client, key.server, asked, before, is, λ node. refl), h.right)
@@ -91,13 +91,13 @@ module _ (S : Type 0) (model : StoreModel S) (opening : ℕ → S) (W : ℕ) (x 
 
         -- it is the one that was asked
         one : (right.0.1 ≡ key.server) × (e.request ≡ request_of t.ask)
-        one = one_ask u w.net.log right.1 (w.net.numbers key) right.0.0 right.0.1 key.client key.server e.request (request_of t.ask) right.0.2 was_asked
+        one = one_ask ever w.net.log right.1 (w.net.numbers key) right.0.0 right.0.1 key.client key.server e.request (request_of t.ask) right.0.2 was_asked
 
         asked : Has (Asked (w.net.numbers key) key.client key.server e.request) w.net.log
         asked = subst (λ (q : Request). Has (Asked (w.net.numbers key) key.client key.server q) w.net.log) (sym one.1) was_asked
 
-        before : IsUnperformed (w.net.numbers key) w.net.log ⊎ ((u.reuses key.server ≡ true) × (u.reads e.request.choice ≡ true))
-        before = subst (λ (s : ℕ). IsUnperformed (w.net.numbers key) w.net.log ⊎ ((u.reuses s ≡ true) × (u.reads e.request.choice ≡ true))) one.0 right.0.3
+        before : IsUnperformed (w.net.numbers key) w.net.log ⊎ ((ever.reuses key.server ≡ true) × (ever.reads e.request.choice ≡ true))
+        before = subst (λ (s : ℕ). IsUnperformed (w.net.numbers key) w.net.log ⊎ ((ever.reuses s ≡ true) × (ever.reads e.request.choice ≡ true))) one.0 right.0.3
 
     server_stored : (key : Key) (t : ClientTransaction) → w.net.tickets key ≡ Some t → (v : server.Reaction) → IsServed (service_of S model w key) v.effect
         → IsReachedHere (server_acts w.net key v) → Stored (serves S model w key v)
@@ -277,13 +277,13 @@ module _ (S : Type 0) (model : StoreModel S) (opening : ℕ → S) (W : ℕ) (x 
       record { reached = moves_on w.net h.reached (RestartsServer node exact store); right = (w.stores, (λ n. refl), h.right) }
   event_stored w h (Begin node exact) = go (is_active w.net node) (moves_on w.net h.reached (Begins node exact))
     where
-      go : (b : Bool) → IsReachedSo x u (net_start pace clocks) (if b then w.net else begun w.net node exact)
+      go : (b : Bool) → IsReachedHere (if b then w.net else begun w.net node exact)
           → Stored (if b then w else record { net = begun w.net node exact; stores = w.stores })
       go true reached = h
       go false reached = record { reached = reached; right = h.right }
   event_stored w h (BeginAgain node exact) = go (is_quiet w.net node) (moves_on w.net h.reached (BeginsAgain node exact))
     where
-      go : (b : Bool) → IsReachedSo x u (net_start pace clocks) (if b then begun_again w.net node exact else w.net)
+      go : (b : Bool) → IsReachedHere (if b then begun_again w.net node exact else w.net)
           → Stored (if b then record { net = begun_again w.net node exact; stores = w.stores } else w)
       go true reached = record { reached = reached; right = h.right }
       go false reached = h
@@ -291,17 +291,72 @@ module _ (S : Type 0) (model : StoreModel S) (opening : ℕ → S) (W : ℕ) (x 
   event_stored w h (AskAway key choice whole front rest) = ask_away_stored w h key choice whole front rest (is_id_held_away w.net key) refl
   event_stored w h (TickAway as_client as_server) = servers_tick_away as_server (ticks_as_client_away S x as_client w) (clients_tick_away as_client w h)
 
-  run_stored : (events : List Event) (w : World S) → Stored w → Stored (run_so S model x u events w)
+  pub run_stored : (events : List Event) (w : World S) → Stored w → Stored (run_so S model x u events w)
   run_stored [] w h = h
   run_stored (e ∷ es) w h = run_stored es (happens_so S model x u w e) (event_stored w h e)
 
-  module _ (events : List Event) where
-    after_stored : Stored (run_so S model x u events (start S pace clocks opening))
-    after_stored = run_stored events (start S pace clocks opening) (record { reached = Still; right = λ node. refl })
+-- the same rules, and the same servers that let invoke IDs be used again, throughout
+module _ (S : Type 0) (model : StoreModel S) (opening : ℕ → S) (W : ℕ) (x : Rules) (bound : IsBounded W x) (u : Reusing) (pace : Pace) (timely : IsTimely pace)
+    (clocks : ℕ → ℕ) (events : List Event) where
+  abbrev IsReachedSoHere : Net → Type 0
+  IsReachedSoHere n = IsReachedSo x u (net_start pace clocks) n
 
-    pub run_reached : IsReachedSo x u (net_start pace clocks) (run_so S model x u events (start S pace clocks opening)).net
-    run_reached = after_stored.reached
+  known_here : (n : Net) → IsReachedSoHere n → IsInOrderSo u n
+  known_here n h = in_order_so W x u bound pace timely clocks n h
 
-    pub once_so : IsOnceSo S model u opening (run_so S model x u events (start S pace clocks opening)).net.log
-        (run_so S model x u events (start S pace clocks opening)).stores
-    once_so = after_stored.right
+  moves_here : (n : Net) → IsReachedSoHere n → (m : Move) → IsReachedSoHere (moved_so x u n m)
+  moves_here n h m = Moved n m h
+
+  after_stored : Stored S model opening x u u.reuses IsReachedSoHere known_here moves_here (run_so S model x u events (start S pace clocks opening))
+  after_stored = run_stored S model opening x u u.reuses IsReachedSoHere known_here moves_here events (start S pace clocks opening)
+      (record { reached = Still; right = λ node. refl })
+
+  pub run_reached : IsReachedSo x u (net_start pace clocks) (run_so S model x u events (start S pace clocks opening)).net
+  run_reached = after_stored.reached
+
+  pub once_so : IsOnceSo S model u opening (run_so S model x u events (start S pace clocks opening)).net.log
+      (run_so S model x u events (start S pace clocks opening)).stores
+  once_so = after_stored.right
+
+-- In stretches.
+
+module _ (S : Type 0) (model : StoreModel S) (opening : ℕ → S) (W : ℕ) (ever : Reusing) (pace : Pace) (timely : IsTimely pace) (clocks : ℕ → ℕ) where
+  abbrev IsReachedIn : (reuses : ℕ → Bool) → Net → Type 0
+  IsReachedIn reuses n = IsReachedSoIn (IsBounded W) ever (net_start pace clocks) reuses n
+
+  record IsRightIn (reuses : ℕ → Bool) (w : World S) : Type 0 where
+    reached : IsReachedIn reuses w.net
+    right : IsOnceSo S model ever opening w.net.log w.stores
+
+  events_right : (x : Rules) → IsBounded W x → (reuses : ℕ → Bool) (events : List Event) (w : World S) → IsRightIn reuses w
+      → IsRightIn reuses (run_so S model x (with_reuses ever reuses) events w)
+  events_right x bound reuses events w h =
+      let r = run_stored S model opening x ever reuses (IsReachedIn reuses) (λ n g. in_order_so_in W ever pace timely clocks reuses n g)
+      (λ n g m. goes_on x bound reuses n m g) events w (record { reached = h.reached; right = h.right }) in
+      record { reached = r.reached; right = r.right }
+
+  -- where the first event is a server's restart, that may turn
+  begins_right : (x : Rules) → IsBounded W x → (old new : ℕ → Bool) → AreOf new ever → (events : List Event) → BeginWithTurn old new events → (w : World S)
+      → IsRightIn old w → IsRightIn new (run_so S model x (with_reuses ever new) events w)
+  begins_right x bound old new among (RestartServer node exact store ∷ es) others w h =
+      events_right x bound new es (happens S model x w (RestartServer node exact store))
+      (record { reached = turns x bound old new among w.net node exact store others h.reached; right = (w.stores, (λ n. refl), h.right) })
+  begins_right x bound old new among _ others w h = absurd others
+
+  turned_right : (x : Rules) → IsBounded W x → (old new : ℕ → Bool) → AreOf new ever → (events : List Event) → Turns old new events → (w : World S) → IsRightIn old w
+      → IsRightIn new (run_so S model x (with_reuses ever new) events w)
+  turned_right x bound old new among events (inl same) w h = events_right x bound new events w (subst (λ (r : ℕ → Bool). IsRightIn r w) (λ i m. sym (same m) i) h)
+  turned_right x bound old new among events (inr others) w h = begins_right x bound old new among events others w h
+
+  stretches_right : (ss : List Stretch) (before : ℕ → Bool) (w : World S) → ArePermitted W ever before ss → IsRightIn before w
+      → (reuses : ℕ → Bool) × IsRightIn reuses (run_so_in S model ever ss w)
+  stretches_right [] before w permitted h = (before, h)
+  stretches_right (s ∷ ss) before w permitted h =
+      stretches_right ss s.reuses (run_so S model s.rules (with_reuses ever s.reuses) s.events w) permitted.3
+      (turned_right s.rules permitted.0 before s.reuses permitted.1 s.events permitted.2 w h)
+
+  pub once_so_in : (before : ℕ → Bool) → AreOf before ever → (ss : List Stretch) → ArePermitted W ever before ss
+      → IsOnceSo S model ever opening (run_so_in S model ever ss (start S pace clocks opening)).net.log
+      (run_so_in S model ever ss (start S pace clocks opening)).stores
+  once_so_in before among ss permitted =
+      (stretches_right ss before (start S pace clocks opening) permitted (record { reached = begins before among; right = λ node. refl })).1.right

@@ -4,7 +4,7 @@ use Rattle.std.specs.Prelude.{◌≡◌, ◌<◌, ◌≤◌, ◌+◌, ◌⊎◌,
 use Rattle.bac_apdu.specs.Apdu.{Apdu}
 use Rattle.bac_protocol.specs.declared.times.TheConstants.{KEEP}
 use Rattle.bac_protocol.specs.Pace.{IsShown}
-use Rattle.bac_protocol.specs.Service.{Reply, Request}
+use Rattle.bac_protocol.specs.Service.{Octets, Reply, Request}
 use Rattle.bac_protocol.specs.Wire.{is_from_client}
 use Rattle.bac_protocol.specs.Client.{ClientTransaction, request_of}
 use Rattle.bac_protocol.specs.Server.{Service, is_none_live}
@@ -14,10 +14,10 @@ use Rattle.bac_protocol.specs.Transaction.{Key, Rules, server_context}
 use Rattle.bac_protocol.specs.World.{Net, Post, is_deliverable, is_id_held, is_room, server_acts, server_acts_away, server_now}
 use Rattle.bac_protocol.specs.Claims.{HasSinceRestart}
 use Rattle.bac_protocol.specs.Moves.{Move, moved, strayed_to_client, taken_by_client}
-use Rattle.bac_protocol.specs.Moves.Move.{Arrives, Strays}
+use Rattle.bac_protocol.specs.Moves.Move.{Arrives, RestartsServer, Strays}
 use Rattle.bac_protocol.specs.Own.{IsOwnEntry}
 use Rattle.bac_protocol.specs.Reuse.{server_hears}
-use Rattle.bac_reuse.specs.Runs.{Reusing}
+use Rattle.bac_reuse.specs.Runs.{AreOf, AreSameBut, Reusing, with_reuses}
 
 -- a copy reaches its server, whose service says so
 abbrev pub taken_by_server_so : Rules → Reusing → Net → Post → (free : Bool) → Service → Net
@@ -50,6 +50,15 @@ moved_so x u n m = moved x n m
 pub data IsReachedSo (x : Rules) (u : Reusing) (from : Net) : Net → Type 0 where
   Still : IsReachedSo x u from from
   Moved : (n : Net) (m : Move) → IsReachedSo x u from n → IsReachedSo x u from (moved_so x u n m)
+
+-- a net to which moves lead, each by rules of its own that are such, where those servers let invoke IDs be used again now, of those that ever do. A server that
+-- restarts may do so from then on, or no more.
+pub data IsReachedSoIn (Are : Rules → Type 0) (ever : Reusing) (from : Net) : (reuses : ℕ → Bool) → Net → Type 0 where
+  Still : (reuses : ℕ → Bool) → AreOf reuses ever → IsReachedSoIn Are ever from reuses from
+  Moved : (x : Rules) → Are x → (reuses : ℕ → Bool) (n : Net) (m : Move) → IsReachedSoIn Are ever from reuses n
+      → IsReachedSoIn Are ever from reuses (moved_so x (with_reuses ever reuses) n m)
+  Turned : (x : Rules) → Are x → (reuses next : ℕ → Bool) → AreOf next ever → (n : Net) (node exact : ℕ) (store : Option Octets) → AreSameBut node reuses next
+      → IsReachedSoIn Are ever from reuses n → IsReachedSoIn Are ever from next (moved_so x (with_reuses ever reuses) n (RestartsServer node exact store))
 
 -- ask n may be performed: it was made, and was not performed before, or is a read at a server that lets invoke IDs be used again
 abbrev pub MayBePerformed : Reusing → ℕ → Request → List Fact → Type 0

@@ -1,5 +1,5 @@
 -- Runs in which some servers let clients use an invoke ID again as soon as its transaction is over. All that is not said here is as in World of bac_protocol.
-use Rattle.std.specs.Prelude.{◌≡◌, ℕ, Bool, true, false, List, [], ◌∷◌, Option, Some, None, slice_get, if◌then◌else◌}
+use Rattle.std.specs.Prelude.{◌≡◌, ℕ, Bool, true, false, List, [], ◌∷◌, Option, Some, None, slice_get, if◌then◌else◌, nat_eq}
 use Rattle.bac_apdu.specs.Apdu.{Apdu}
 use Rattle.bac_protocol.specs.Service.{Request}
 use Rattle.bac_protocol.specs.Log.{StoreModel}
@@ -13,6 +13,17 @@ use Rattle.bac_protocol.specs.World.Event.{MakeAsk, Deliver, Stray}
 pub record Reusing : Type 0 where
   pub reuses : (node : ℕ) → Bool
   pub reads : Reads
+
+-- at one time these nodes do, of those that ever do
+abbrev pub with_reuses : Reusing → (reuses : ℕ → Bool) → Reusing
+with_reuses ever reuses = record ever { reuses = reuses }
+
+abbrev pub AreOf : (reuses : ℕ → Bool) → Reusing → Type 0
+AreOf reuses ever = (node : ℕ) → reuses node ≡ true → ever.reuses node ≡ true
+
+-- all but that one are as before
+abbrev pub AreSameBut : (node : ℕ) → (old new : ℕ → Bool) → Type 0
+AreSameBut node old new = (m : ℕ) → nat_eq m node ≡ false → new m ≡ old m
 
 -- an APDU reaches the server
 abbrev pub takes_at_server_so : (S : Type 0) → StoreModel S → Rules → Reusing → World S → Key → (free : Bool) → Apdu → World S

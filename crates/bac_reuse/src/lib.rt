@@ -6,6 +6,7 @@
 
 pub mod examples;
 pub mod moves;
+pub mod stretches;
 
 ghost use Rattle.std.specs.Prelude.{◌≡◌, ℕ, true, List, Ok};
 ghost use Rattle.bac_value.specs.Octets.{IsBytes};
