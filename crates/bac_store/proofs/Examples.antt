@@ -196,31 +196,31 @@ abbrev set_size : List ℕ → Request
 set_size values = WriteProperty (to 10 1 42) values None
 
 size_is_set : reply_to (sized_file true) (set_size (0x21 ∷ 1 ∷ [])) ≡ Simple
-unfolding element_at tag_at tag_number_at form_at length_at contents_at class_at kind_at number_at raw_at
+unfolding element_at tag_at tag_number_at form_at length_at contents_at class_at kind_at number_at raw_at is_right_state
 size_is_set = refl
 
 is_cut : octets_of (after (sized_file true) (set_size (0x21 ∷ 1 ∷ []))) ≡ Some (0x4F ∷ [])
-unfolding element_at tag_at tag_number_at form_at length_at contents_at class_at kind_at number_at raw_at
+unfolding element_at tag_at tag_number_at form_at length_at contents_at class_at kind_at number_at raw_at is_right_state
 is_cut = refl
 
 is_emptied : octets_of (after (sized_file true) (set_size (0x21 ∷ 0 ∷ []))) ≡ Some []
-unfolding element_at tag_at tag_number_at form_at length_at contents_at class_at kind_at number_at raw_at
+unfolding element_at tag_at tag_number_at form_at length_at contents_at class_at kind_at number_at raw_at is_right_state
 is_emptied = refl
 
 is_extended : octets_of (after (sized_file true) (set_size (0x21 ∷ 5 ∷ []))) ≡ Some (0x4F ∷ 0x4B ∷ 0x21 ∷ 0 ∷ 0 ∷ [])
-unfolding element_at tag_at tag_number_at form_at length_at contents_at class_at kind_at number_at raw_at
+unfolding element_at tag_at tag_number_at form_at length_at contents_at class_at kind_at number_at raw_at is_right_state
 is_extended = refl
 
 greatest_size : reply_to (sized_file true) (set_size (0x22 ∷ 0xEA ∷ 0x60 ∷ [])) ≡ Simple
-unfolding element_at tag_at tag_number_at form_at length_at contents_at class_at kind_at number_at raw_at
+unfolding element_at tag_at tag_number_at form_at length_at contents_at class_at kind_at number_at raw_at is_right_state
 greatest_size = refl
 
 size_above : reply_to (sized_file true) (set_size (0x22 ∷ 0xEA ∷ 0x61 ∷ [])) ≡ Error 2 37
-unfolding element_at tag_at tag_number_at form_at length_at contents_at class_at kind_at number_at raw_at
+unfolding element_at tag_at tag_number_at form_at length_at contents_at class_at kind_at number_at raw_at is_right_state
 size_above = refl
 
 size_of_other_kind : reply_to (sized_file true) (set_size (0x91 ∷ 1 ∷ [])) ≡ Error 2 9
-unfolding element_at tag_at tag_number_at form_at length_at contents_at class_at kind_at number_at raw_at
+unfolding element_at tag_at tag_number_at form_at length_at contents_at class_at kind_at number_at raw_at is_right_state
 size_of_other_kind = refl
 
 size_of_read_only : reply_to (sized_file false) (set_size (0x21 ∷ 1 ∷ [])) ≡ Error 2 40

@@ -4,7 +4,7 @@ use Rattle.std.proofs.Common.{◌∙◌, if◌then◌else◌}
 use Rattle.std.specs.Option.{option_map}
 use Rattle.std.proofs.lemmas.Bool.Decides.{nat_tests}
 use Rattle.bac_value.specs.Data.{IsData}
-use Rattle.bac_value.specs.Value.{Datum, characters, enumerated, object, unsigned}
+use Rattle.bac_value.specs.Value.{Datum, characters, enumerated, object}
 use Rattle.bac_value.proofs.Forests.{data_text}
 use Rattle.bac_service.specs.Values.{Reference}
 use Rattle.bac_service.specs.Values.Request.{WriteProperty}
@@ -15,7 +15,7 @@ use Rattle.bac_store.specs.declared.change_fault.ChangeFault.TheVariants as faul
 use Rattle.bac_store.specs.AtNode.{Change, change_fault, changed, is_data, or_fault, reads_all, value_fault}
 use Rattle.bac_store.specs.Changes.{IsGranted, after, is_done}
 use Rattle.bac_store.specs.Limits.{FILE_ACCESS_METHOD, FILE_SIZE, OBJECT_IDENTIFIER, OBJECT_NAME, OBJECT_TYPE, STREAM_ACCESS, VALUE_LIMIT}
-use Rattle.bac_store.specs.Replies.{at_object, at_property, is_of_kind, is_right_state, reply_to, write_reply}
+use Rattle.bac_store.specs.Replies.{at_object, at_property, is_of_kind, is_right_state, write_reply}
 use Rattle.bac_store.specs.Allowing.{is_allowed}
 use Rattle.bac_store.specs.Stores.{File, Object, Property, Store, computed, file_size, listed_in, object_in, property_in}
 use Rattle.bac_store.proofs.WriteLaws.{after_granted, listed_written}

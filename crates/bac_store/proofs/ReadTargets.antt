@@ -1,16 +1,16 @@
 -- The target of a read, by look-ups.
-use Rattle.std.proofs.Common.{◌≡◌, ◌∙◌, ◌⊎◌, inl, inr, ℕ, zero, suc, ◌+◌, ◌*◌, ◌^◌, ◌<◌, ◌≤◌, Bool, true, false, ◌==◌, ◌&&◌, List, length, map, get_or}
+use Rattle.std.proofs.Common.{◌≡◌, ◌∙◌, ◌⊎◌, inl, inr, ℕ, zero, suc, ◌+◌, ◌^◌, ◌<◌, ◌≤◌, Bool, true, false, List, length, map, get_or}
 use Rattle.std.proofs.Common.{Option, Some, None, is_some, refl, sym, ap, subst, arith, if◌then◌else◌}
-use Rattle.std.specs.List.{All, AllPairs}
+use Rattle.std.specs.List.{All}
 use Rattle.std.proofs.lemmas.Bool.Decides.{nat_tests}
 use Rattle.std.proofs.lemmas.Bool.{cases_lt}
 use Rattle.std.proofs.lemmas.List.{get_or-map, length-map}
 use Rattle.std.proofs.lemmas.List.Elements.{All-contains, All-map}
 use Rattle.bac_value.specs.Value.{ObjectId}
 use Rattle.bac_store.specs.declared.entry.StoredObject.{StoredObject}
-use Rattle.bac_store.specs.Kept.{object_number, IsInOrder, IsKept}
+use Rattle.bac_store.specs.Kept.{object_number, IsInOrder}
 use Rattle.bac_store.specs.Limits.{ANY_INSTANCE, DEVICE, OBJECT_LIST}
-use Rattle.bac_store.specs.Objects.{AreLike, IsLike, IsStoreOf}
+use Rattle.bac_store.specs.Objects.{AreLike, IsStoreOf}
 use Rattle.bac_store.specs.Stores.{Object, Store, is_object, is_same, listed_in, object_in}
 use Rattle.bac_store.specs.Targets.{described_device, device, device_among, is_lister, lists_objects, or_object, read_in, IsFirst}
 use Rattle.bac_store.specs.Views.{entry_view}

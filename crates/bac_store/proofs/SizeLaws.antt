@@ -1,5 +1,5 @@
 -- What a granted write of a file's size says of its values, and its effect.
-use Rattle.std.proofs.Common.{◌≡◌, ◌≢◌, ◌∙◌, ℕ, suc, ◌≤◌, Bool, true, false, not, ◌==◌, ◌&&◌, nat_lt, nat_le, List, [], ◌∷◌, length, Option, Some, None}
+use Rattle.std.proofs.Common.{◌≡◌, ◌≢◌, ◌∙◌, ℕ, ◌≤◌, Bool, true, false, not, ◌==◌, ◌&&◌, nat_lt, nat_le, List, [], ◌∷◌, length, Option, Some, None}
 use Rattle.std.proofs.Common.{is_some, ◌||◌, refl, sym, ap, subst, arith, if◌then◌else◌}
 use Rattle.std.specs.Option.{option_map}
 use Rattle.std.proofs.lemmas.Bool.Decides.{nat_tests}
@@ -18,7 +18,7 @@ use Rattle.bac_store.specs.Ranks.{Rank, is_at_most, is_rank_at_most, place_or_ze
 use Rattle.bac_store.proofs.PlanLaws.{same_octets}
 use Rattle.bac_store.proofs.WriteLaws.{after_granted, listed_written, size_written}
 use Rattle.bac_store.specs.Replies.{at_property, file_of, is_of_kind, is_out_of_range, is_right_state, reply_to, write_reply}
-use Rattle.bac_store.specs.Stores.{File, Object, Property, Store, file_size, is_sizable, object_in, property_in, sized, sizes}
+use Rattle.bac_store.specs.Stores.{File, Object, Property, Store, file_size, is_sizable, object_in, property_in, sizes}
 
 -- ---- values that are a size
 

@@ -1,9 +1,5 @@
-use Rattle.std.proofs.Common.{sym, map, ap}
-use Rattle.bac_service.specs.Values.Request.{WriteProperty}
-use Rattle.bac_service.specs.Replies.Reply.{Simple}
+use Rattle.std.proofs.Common.{sym, map}
 use Rattle.bac_service.specs.Views.{priority_view, property_reference_view}
-use Rattle.bac_store.specs.Kept.{Fits}
-use Rattle.bac_store.specs.Plans.{IsPlanFor}
 use Rattle.bac_store.specs.Views.{entry_view}
 use Rattle.bac_store.proofs.SizeLaws.{granted_fits, granted_size, write_plan}
 use Rattle.bac_store.proofs.preparing.plan_write_property.Goals as goal
