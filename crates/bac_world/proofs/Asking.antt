@@ -48,7 +48,7 @@ use Rattle.bac_world.proofs.Pairs.{pairwise_join, append_none}
 use Rattle.bac_world.proofs.Logs.{FactMeans, asks_counted}
 use Rattle.bac_world.proofs.Bridge.{HasNothing, LifeFits, NodeFits, ClientsFit, IsKnown, IsCopyOf, IsGone, TicketFits, key_of, slot_key, copies_of, IsStranger, AwayNoted, out_key, away_more}
 use Rattle.bac_world.proofs.Steps.{Over, Fits, Goes, idle_with, linked_with, set_elsewhere, stores_same, decide_number}
-use Rattle.bac_world.proofs.Settings.{Setting, reuses_in}
+use Rattle.bac_world.proofs.Settings.{Setting, ever_in}
 
 -- What an accepted ask is.
 
@@ -367,7 +367,7 @@ module _ (links : ℕ → Option Octets) (apart : (i j : ℕ) (l : Octets) → l
         (free_ticket (is_lost n key) (here_at n i) w.notes i (n.numbers key) (value_at same_key (slot_key step.link parts.id) a.clients.slots) (n.tickets key)
         (fits.clients.found s step.link parts.id server_at) parts.free)
 
-    sound : Sound x set after
+    sound : Sound W x set after
     sound = asked W x set bound n h.sound key free (choice_of r) parts.whole parts.front parts.rest
 
     abbrev note' : Note
@@ -465,8 +465,8 @@ module _ (links : ℕ → Option Octets) (apart : (i j : ℕ) (l : Octets) → l
       sound = sound;
     }
 
-    once : (opening : Stores) → IsOnceSo (reuses_in set) opening w.log (stores_of w.nodes) → IsOnceSo (reuses_in set) opening w'.log (stores_of w'.nodes)
-    once opening before = subst (λ (lg : List Fact). IsOnceSo (reuses_in set) opening lg (stores_of w'.nodes)) (sym step.log) (
+    once : (opening : Stores) → IsOnceSo (ever_in set) opening w.log (stores_of w.nodes) → IsOnceSo (ever_in set) opening w'.log (stores_of w'.nodes)
+    once opening before = subst (λ (lg : List Fact). IsOnceSo (ever_in set) opening lg (stores_of w'.nodes)) (sym step.log) (
       stores_of w.nodes,
       (
         sym h.asks ∙ counted W x set bound n h.sound ∙ sym (asks_counted set n.log w.log h.log),

@@ -5,7 +5,7 @@ use Rattle.bac_protocol.specs.Pace.{Clock, clock_at}
 use Rattle.bac_protocol.specs.Service.{Octets}
 use Rattle.bac_protocol.specs.Client.{ClientTransaction}
 use Rattle.bac_protocol.specs.Server.{live_entry}
-use Rattle.bac_protocol.specs.Transaction.{Key, Rules}
+use Rattle.bac_protocol.specs.Transaction.{Rules}
 use Rattle.bac_protocol.specs.World.{Net, begun, is_lost}
 use Rattle.bac_protocol.specs.World as machine
 use Rattle.bac_protocol.specs.Claims.{IsBounded}
@@ -14,9 +14,9 @@ use Rattle.bac_transaction.specs.Keys.{PeerKey, same_key}
 use Rattle.bac_transaction.specs.Ends.{Client}
 use Rattle.bac_world.specs.Node.{Node}
 use Rattle.bac_world.specs.World.{World, Note, with_clock, IsBegun}
-use Rattle.bac_world.proofs.Bridge.{HasNothing, LifeFits, NodeFits, TicketFits, EntryFits, here_at, there_at, key_of, lives_as, out_key, slot_key, stranger_key}
+use Rattle.bac_world.proofs.Bridge.{HasNothing, NodeFits, TicketFits, here_at, there_at, key_of, lives_as, out_key, slot_key, stranger_key}
 use Rattle.bac_world.proofs.Machines.{begins}
-use Rattle.bac_world.proofs.Steps.{Over, Next}
+use Rattle.bac_world.proofs.Steps.{Over}
 use Rattle.bac_world.proofs.Settings.{Setting}
 
 -- where there is no ticket, nothing depends on the clock

@@ -226,7 +226,7 @@ module _ (links : ℕ → Option Octets) (apart : (i j : ℕ) (l : Octets) → l
     pub away : AwayNoted w.notes n
     pub posts : Pairwise IsCopyOf n.posts w.copies
     pub log : Pairwise (FactMeans set) n.log w.log
-    pub sound : Sound x set n
+    pub sound : Sound W x set n
 
   -- Later copies are counted alike.
 

@@ -104,7 +104,7 @@ module _ (links : ℕ → Option Octets) (apart : (i j : ℕ) (l : Octets) → l
         let g = ended_split w.notes i f.front f.rest log log' (subst (λ (z : List EndedView). AreEnded w.notes i z log log') f.is logged) in
         let next = reacts links apart W x set bound w n key l li from at (look Client tick all (slot Client p begin v ∷ os)) (look Client tick all os)
         copies log m r h.linked k t (look_first Client tick all p begin v os) did
-        (λ is. subst (λ (z : ℕ). Sound x set (client_acts m key t (client_ticks (client_context x key z) t))
+        (λ is. subst (λ (z : ℕ). Sound W x set (client_acts m key t (client_ticks (client_context x key z) t))
         × Leads x n (client_acts m key t (client_ticks (client_context x key z) t))) (ap (λ (f : ℕ → Clock). (f i).shows) r.alike.here)
         (ticks_at_client W x set bound m r.sound key t is, TicksTicket m key t r.leads is))
         (client_sends_own.ticks (client_context x key (here_at n i)) t)
@@ -146,7 +146,7 @@ module _ (links : ℕ → Option Octets) (apart : (i j : ℕ) (l : Octets) → l
         let y = ended_split w.notes i f.front f.rest log log' (subst (λ (z : List EndedView). AreEnded w.notes i z log log') f.is logged) in
         let next = reacts_stranger links apart W x set bound w n i p g (look Client tick all (slot Client p begin v ∷ os)) (look Client tick all os)
         copies log m r k t (look_first Client tick all p begin v os) did
-        (λ is. subst (λ (z : ℕ). Sound x set (client_acts_away m key t (client_ticks (client_context x key z) t))
+        (λ is. subst (λ (z : ℕ). Sound W x set (client_acts_away m key t (client_ticks (client_context x key z) t))
         × Leads x n (client_acts_away m key t (client_ticks (client_context x key z) t))) (ap (λ (f : ℕ → Clock). (f i).shows) r.alike.here)
         (ticks_at_client_away W x set bound m r.sound key t is, TicksTicketAway m key t r.leads is))
         (look_here Client tick all p begin v os distinct.0 change)

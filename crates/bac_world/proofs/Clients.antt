@@ -42,7 +42,7 @@ use Rattle.bac_world.proofs.Logs.{FactMeans}
 use Rattle.bac_world.proofs.Bridge.{IsKnown, IsStranger, IsCopyOf, TicketFits, key_of, slot_key, stranger_key, copied_to}
 use Rattle.bac_world.proofs.Steps.{Over, Fits, Goes, acts_as, acts_over, once_same, stores_same}
 use Rattle.bac_world.proofs.Hearing.{Reached, reached_none, reacts, ticket_at, closed_idle}
-use Rattle.bac_world.proofs.Settings.{Setting, reuses_in}
+use Rattle.bac_world.proofs.Settings.{Setting, ever_in}
 
 -- a ticket that has ended hears nothing
 hears_nothing : (x : Rules) (n : Net) (p : Post) (o : Option ClientTransaction) → n.tickets p.key ≡ o → ((u : ClientTransaction) → o ≡ Some u → is_idle u.phase ≡ true)
@@ -65,8 +65,8 @@ module _ (links : ℕ → Option Octets) (apart : (i j : ℕ) (l : Octets) → l
     bridge = acts_over links apart W x set false w w' n m h i a b o at (acts_as w w' i b o acts) r.alike r.asks r.noted r.away (ap (λ (d : Node). d.link) b_is)
         (subst (λ (d : Node). Fits links apart W x set w n m i d) (sym b_is) made)
         r.others r.posts (subst (λ (lg : List Fact). Pairwise (FactMeans set) m.log lg) (sym log_is) r.log) r.sound;
-    once = λ opening once. subst (λ (lg : List Fact). IsOnceSo (reuses_in set) opening lg (stores_of w'.nodes)) (sym log_is)
-        (once_same (reuses_in set) opening acts.between (stores_of w.nodes) (stores_of w'.nodes)
+    once = λ opening once. subst (λ (lg : List Fact). IsOnceSo (ever_in set) opening lg (stores_of w'.nodes)) (sym log_is)
+        (once_same (ever_in set) opening acts.between (stores_of w.nodes) (stores_of w'.nodes)
         (stores_same w.nodes w'.nodes i a b acts.nodes at (ap (λ (d : Node). d.store) b_is)) (r.once opening (stores_of w.nodes) once));
   }
     where

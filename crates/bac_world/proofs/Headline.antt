@@ -46,7 +46,7 @@ use Rattle.bac_world.proofs.Bridge.{AreIdle, LifeFits, changed_fresh, lives_as, 
 use Rattle.bac_world.proofs.Steps.{Over, Goes, acts_quiet, each_with, linked_with}
 use Rattle.bac_world.proofs.AsEver.{once_as, once_ever, run_as}
 use Rattle.bac_world.proofs.Heard.{IsHeardIn, IsHeardInBy, heard_in}
-use Rattle.bac_world.proofs.Settings.{Setting, reuses_in, end_heard}
+use Rattle.bac_world.proofs.Settings.{Setting, always, end_heard, ever_in, reuses_in}
 use Rattle.bac_world.proofs.Serving.{serves_post, served_so}
 use Rattle.bac_world.proofs.StrangersHeard.{hears_stranger}
 use Rattle.bac_world.proofs.Clients.{hears_post, quiet}
@@ -331,7 +331,7 @@ module _ (links : ℕ → Option Octets) (apart : (i j : ℕ) (l : Octets) → l
       notes_change n i [],
       record {
         bridge = changed_over;
-        once = λ opening once. subst (λ (l : List Fact). IsOnceSo (reuses_in set) opening l (stores_of w'.nodes)) (sym s.log) (stores_of w.nodes, may_change, once);
+        once = λ opening once. subst (λ (l : List Fact). IsOnceSo (ever_in set) opening l (stores_of w'.nodes)) (sym s.log) (stores_of w.nodes, may_change, once);
       },
       λ long asks fits short. same_short n (notes_change n i []) refl refl refl short,
     )
@@ -339,7 +339,7 @@ module _ (links : ℕ → Option Octets) (apart : (i j : ℕ) (l : Octets) → l
   -- Runs.
 
   -- copies that few enough others overtook arrive, or all, where transfers are short
-  step_over : (V : ℕ) (w w' : World) (n : Net) → Over links apart W x set w n → (V ≤ x.overtake) ⊎ IsShortNet n → (e : Event)
+  pub step_over : (V : ℕ) (w w' : World) (n : Net) → Over links apart W x set w n → (V ≤ x.overtake) ⊎ IsShortNet n → (e : Event)
       → WorldStepSo V (reuses_in set) w e w' → Follows e w w' n
   step_over V w w' n h near (Ask client server limits r) (inl s) =
       let next = asks_over links apart W x set bound w w' n h client server limits r s in
@@ -379,20 +379,20 @@ module _ (links : ℕ → Option Octets) (apart : (i j : ℕ) (l : Octets) → l
   )
 
   pub run_over_so : (opening : Stores) (events : List Event) (w w' : World) (n : Net) → Over links apart W x set w n
-      → IsOnceSo (reuses_in set) opening w.log (stores_of w.nodes) → WorldRunSo x.overtake (reuses_in set) w events w'
-      → (m : Net) × Over links apart W x set w' m × IsOnceSo (reuses_in set) opening w'.log (stores_of w'.nodes)
+      → IsOnceSo (ever_in set) opening w.log (stores_of w.nodes) → WorldRunSo x.overtake (reuses_in set) w events w'
+      → (m : Net) × Over links apart W x set w' m × IsOnceSo (ever_in set) opening w'.log (stores_of w'.nodes)
   run_over_so opening [] w w' n h once run =
-      subst (λ (u : World). (m : Net) × Over links apart W x set u m × IsOnceSo (reuses_in set) opening u.log (stores_of u.nodes)) (sym run) (n, h, once)
+      subst (λ (u : World). (m : Net) × Over links apart W x set u m × IsOnceSo (ever_in set) opening u.log (stores_of u.nodes)) (sym run) (n, h, once)
   run_over_so opening (e ∷ es) w w' n h once run =
       let next = step_over x.overtake w run.0 n h (inl (omega arith)) e run.1 in
       run_over_so opening es run.0 w' next.0 next.1.bridge (next.1.once opening once) run.2
 
   -- where all ends take long APDUs
   pub run_over_long : AllTakeLong x → (V : ℕ) (opening : Stores) (events : List Event) (w w' : World) (n : Net) → Over links apart W x set w n → IsShortNet n
-      → AllAskLong events → RepliesFit w'.log → IsOnceSo (reuses_in set) opening w.log (stores_of w.nodes) → WorldRunSo V (reuses_in set) w events w'
-      → (m : Net) × Over links apart W x set w' m × IsOnceSo (reuses_in set) opening w'.log (stores_of w'.nodes) × IsShortNet m
+      → AllAskLong events → RepliesFit w'.log → IsOnceSo (ever_in set) opening w.log (stores_of w.nodes) → WorldRunSo V (reuses_in set) w events w'
+      → (m : Net) × Over links apart W x set w' m × IsOnceSo (ever_in set) opening w'.log (stores_of w'.nodes) × IsShortNet m
   run_over_long long V opening [] w w' n h short asks fits once run =
-      subst (λ (u : World). (m : Net) × Over links apart W x set u m × IsOnceSo (reuses_in set) opening u.log (stores_of u.nodes) × IsShortNet m) (sym run)
+      subst (λ (u : World). (m : Net) × Over links apart W x set u m × IsOnceSo (ever_in set) opening u.log (stores_of u.nodes) × IsShortNet m) (sym run)
       (n, h, once, short)
   run_over_long long V opening (e ∷ es) w w' n h short asks fits once run =
       let next = step_over V w run.0 n h (inr short) e run.1 in
@@ -416,7 +416,7 @@ run_over links apart W x bound readable opening events w w' n h once run =
 
 -- A fresh world.
 
-abbrev settings_or : Option Node → Settings
+abbrev pub settings_or : Option Node → Settings
 settings_or None = record { limits = record { takes_segments = false; max_segments = 0; max_apdu = 5 }; window = 0 }
 settings_or (Some a) = a.settings
 
@@ -469,32 +469,33 @@ fresh_over set W overtake w h timely b = record {
   away = λ key t at. absurd cc;
   posts = subst (λ (l : List Copy). Pairwise (IsCopyOf (link_at w.nodes) h.apart) [] l) (sym h.copies) tt;
   log = subst (λ (l : List Fact). Pairwise (FactMeans set) [] l) (sym h.log) tt;
-  sound = starts (rules_of overtake w) set w.time.pace timely (λ i. (w.time.clocks i).exact);
+  sound = starts W (rules_of overtake w) set w.time.pace timely (λ i. (w.time.clocks i).exact);
 }
 
 pub headline_so : (u : Reuses) (W overtake : ℕ) (w w' : World) → IsFresh w → IsTimely w.time.pace → IsBounded W overtake w → (events : List Event)
     → WorldRunSo overtake u w events w' → IsOnceSo u (stores_of w.nodes) w'.log (stores_of w'.nodes)
 headline_so u W overtake w w' h timely b events run =
-    (run_over_so (link_at w.nodes) h.apart W (rules_of overtake w) (Some u) (rules_bounded W overtake w b) refl (stores_of w.nodes) events w w'
-    (net_start w.time.pace (λ i. (w.time.clocks i).exact)) (fresh_over (Some u) W overtake w h timely b)
+    (run_over_so (link_at w.nodes) h.apart W (rules_of overtake w) (Some (always u)) (rules_bounded W overtake w b) refl (stores_of w.nodes) events w w'
+    (net_start w.time.pace (λ i. (w.time.clocks i).exact)) (fresh_over (Some (always u)) W overtake w h timely b)
     (subst (λ (l : List Fact). IsOnceSo u (stores_of w.nodes) l (stores_of w.nodes)) (sym h.log) (λ node. refl))
     run).2
 
 -- Where no invoke ID is used again.
 
 -- what strangers had performed is apart, since it is in the net
-apart_of : (W : ℕ) (x : Rules) → claims.IsBounded W x → (links : ℕ → Option Octets)
-    → (apart : (i j : ℕ) (l : Octets) → links i ≡ Some l → links j ≡ Some l → i ≡ j) (w' : World) (m : Net) → Over links apart W x None w' m → AreServedApart w'
-apart_of W x bound links apart w' m over = record {
-  spaced = spaced m.log w'.log over.log known.spaced;
+pub apart_as : (links : ℕ → Option Octets) (apart : (i j : ℕ) (l : Octets) → links i ≡ Some l → links j ≡ Some l → i ≡ j) (W : ℕ) (x : Rules) (set : Setting)
+    (w' : World) (m : Net) → Over links apart W x set w' m → Pairwise (FactMeans None) m.log w'.log → claims.AreServedApart m → AreServedApart w'
+apart_as links apart W x set w' m over log known = record {
+  spaced = spaced m.log w'.log log known.spaced;
   waited = λ i node at q d begin request reply has.
-      let served = served_as i q i d begin request reply m.log w'.log over.log has in
+      let served = served_as i q i d begin request reply m.log w'.log log has in
       let le = known.waited (number q) i d begin served.request served.reply served.has in
       subst (λ (from : ℕ). from ≤ begin) (sym (over.nodes i node at).serves) le;
 }
-  where
-    known : claims.AreServedApart m
-    known = served_apart_of W x bound m over.sound
+
+apart_of : (W : ℕ) (x : Rules) → claims.IsBounded W x → (links : ℕ → Option Octets)
+    → (apart : (i j : ℕ) (l : Octets) → links i ≡ Some l → links j ≡ Some l → i ≡ j) (w' : World) (m : Net) → Over links apart W x None w' m → AreServedApart w'
+apart_of W x bound links apart w' m over = apart_as links apart W x None w' m over over.log (served_apart_of W x bound m over.sound)
 
 module _ (W overtake : ℕ) (w w' : World) (h : IsFresh w) (timely : IsTimely w.time.pace) (b : IsBounded W overtake w) (events : List Event)
     (run : WorldRun overtake w events w') where
@@ -519,7 +520,7 @@ module _ (W : ℕ) (w : World) (t : TakeLongApdus W w) where
   pub long_bounded : IsBounded W (room W) w
   long_bounded = let twice = t.room in record { some = t.some; windows = t.windows; room = omega arith }
 
-  all_take_long : AllTakeLong (rules_of (room W) w)
+  pub all_take_long : AllTakeLong (rules_of (room W) w)
   all_take_long node = go (slice_get w.nodes node) (t.long node)
     where
       go : (o : Option Node) → ((a : Node) → o ≡ Some a → TakesLong a.settings.limits) → TakesLong (settings_or o).limits
@@ -529,11 +530,11 @@ module _ (W : ℕ) (w : World) (t : TakeLongApdus W w) where
 module _ (set : Setting) (W overtake : ℕ) (w w' : World) (h : IsFresh w) (timely : IsTimely w.time.pace) (t : TakeLongApdus W w) (events : List Event)
     (asks : AllAskLong events) (run : WorldRunSo overtake (reuses_in set) w events w') (fits : RepliesFit w'.log) where
   reached_long : (m : Net) × Over (link_at w.nodes) h.apart W (rules_of (room W) w) set w' m
-      × IsOnceSo (reuses_in set) (stores_of w.nodes) w'.log (stores_of w'.nodes) × IsShortNet m
+      × IsOnceSo (ever_in set) (stores_of w.nodes) w'.log (stores_of w'.nodes) × IsShortNet m
   reached_long = run_over_long (link_at w.nodes) h.apart W (rules_of (room W) w) set (rules_bounded W (room W) w (long_bounded W w t)) refl
       (all_take_long W w t) overtake (stores_of w.nodes) events w w' (net_start w.time.pace (λ i. (w.time.clocks i).exact))
       (fresh_over set W (room W) w h timely (long_bounded W w t)) (start_short w.time.pace (λ i. (w.time.clocks i).exact)) asks fits
-      (subst (λ (l : List Fact). IsOnceSo (reuses_in set) (stores_of w.nodes) l (stores_of w.nodes)) (sym h.log) (λ node. refl)) run
+      (subst (λ (l : List Fact). IsOnceSo (ever_in set) (stores_of w.nodes) l (stores_of w.nodes)) (sym h.log) (λ node. refl)) run
 
   -- with one event more at most, whatever it performs
   pub reached_once_more : (more : List Event) (v : World) → length more ≤ 1 → WorldRunSo overtake (reuses_in set) w' more v
@@ -548,7 +549,7 @@ module _ (set : Setting) (W overtake : ℕ) (w w' : World) (h : IsFresh w) (time
 
 pub headline_long_so : (u : Reuses) (W overtake : ℕ) (w w' : World) → IsFresh w → IsTimely w.time.pace → TakeLongApdus W w → (events : List Event)
     → AllAskLong events → WorldRunSo overtake u w events w' → RepliesFit w'.log → IsOnceSo u (stores_of w.nodes) w'.log (stores_of w'.nodes)
-headline_long_so u W overtake w w' h timely t events asks run fits = (reached_long (Some u) W overtake w w' h timely t events asks run fits).2
+headline_long_so u W overtake w w' h timely t events asks run fits = (reached_long (Some (always u)) W overtake w w' h timely t events asks run fits).2
 
 module _ (W overtake : ℕ) (w w' : World) (h : IsFresh w) (timely : IsTimely w.time.pace) (t : TakeLongApdus W w) (events : List Event) (asks : AllAskLong events)
     (run : WorldRun overtake w events w') (fits : RepliesFit w'.log) where

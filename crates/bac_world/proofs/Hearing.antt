@@ -38,7 +38,7 @@ use Rattle.bac_protocol.specs.World.{client_acts_away}
 use Rattle.bac_protocol.specs.Transaction.{ended_away}
 use Rattle.bac_world.specs.World.{is_away, ending_fact}
 use Rattle.bac_world.proofs.Steps.{Over}
-use Rattle.bac_world.proofs.Settings.{Setting, reuses_in, reusing_in}
+use Rattle.bac_world.proofs.Settings.{Setting, reusing_in, ever_in}
 
 -- two keys of asks of strangers are one where the slots' keys are
 pub out_one : (i : ℕ) (p q : PeerKey) → out_key i p ≡ out_key i q → p ≡ q
@@ -100,8 +100,8 @@ module _ (links : ℕ → Option Octets) (apart : (i j : ℕ) (l : Octets) → l
     pub others : (j : ℕ) (a : Node) → (j ≡ i → ⊥) → NodeFits links apart x (here_at n j) (there_at n j) w.notes n j a → NodeFits links apart x (here_at n j) (there_at n j) w.notes m j a
     pub posts : Pairwise (IsCopyOf links apart) m.posts all
     pub log : Pairwise (FactMeans set) m.log facts
-    pub once : (opening stores : Stores) → IsOnceSo (reuses_in set) opening w.log stores → IsOnceSo (reuses_in set) opening facts stores
-    pub sound : Sound x set m
+    pub once : (opening stores : Stores) → IsOnceSo (ever_in set) opening w.log stores → IsOnceSo (ever_in set) opening facts stores
+    pub sound : Sound W x set m
     pub leads : Leads x n m
 
   pub reached_none : (w : World) (n : Net) → Over links apart W x set w n → (i : ℕ) (a : Node) → NodeFits links apart x (here_at n i) (there_at n i) w.notes n i a
@@ -155,7 +155,7 @@ module _ (links : ℕ → Option Octets) (apart : (i j : ℕ) (l : Octets) → l
       (look look' : PeerKey → Option Client) (copies : List Copy) (log : List Fact) (m : Net) (h : Reached w key.client n look copies log m)
       (linked : (k : ℕ) → link_at w.nodes k ≡ links k) (number : ℕ) (t : ClientTransaction)
       (there : look (slot_key l key.invoke_id) ≡ Some (record { number = number; held = Open t })) (r : client.Reaction)
-      (goes : m.tickets key ≡ Some t → Sound x set (client_acts m key t r) × Leads x n (client_acts m key t r))
+      (goes : m.tickets key ≡ Some t → Sound W x set (client_acts m key t r) × Leads x n (client_acts m key t r))
       (own : Each (IsOfClient key.invoke_id) (client.sends_of r))
       (here : look' (slot_key l key.invoke_id) ≡ Some (client_after (here_at n key.client) number t r))
       (away : (q : PeerKey) → (slot_key l key.invoke_id ≡ q → ⊥) → look' q ≡ look q) where
@@ -170,7 +170,7 @@ module _ (links : ℕ → Option Octets) (apart : (i j : ℕ) (l : Octets) → l
         (subst (λ (o : Option Client). TicketFits (is_lost m key) (here_at n key.client) w.notes key.client (m.numbers key) o (m.tickets key)) there
         (h.found key.server l key.invoke_id to_at))
 
-    sound : Sound x set (client_acts m key t r)
+    sound : Sound W x set (client_acts m key t r)
     sound = (goes is.0).0
 
     noted : (k : Key) (u : ClientTransaction) → set_at m.tickets key made k ≡ Some u → ((key ≡ k) ⊎ (key ≡ k → ⊥)) → newest k w.notes ≡ Some (m.numbers k)
@@ -227,13 +227,13 @@ module _ (links : ℕ → Option Octets) (apart : (i j : ℕ) (l : Octets) → l
     -- its ending, if any, enters the log
     record Ends (facts : List octets.Fact) (log' : List Fact) : Type 0 where
       means : Pairwise (FactMeans set) facts log'
-      once : (opening stores : Stores) → IsOnceSo (reuses_in set) opening w.log stores → IsOnceSo (reuses_in set) opening log' stores
+      once : (opening stores : Stores) → IsOnceSo (ever_in set) opening w.log stores → IsOnceSo (ever_in set) opening log' stores
 
     ends : (o : Option machine.Ending) (fs : List EndedView) (log' : List Fact) → Pairwise IsEndedView (ended_with number t.ask.choice o) fs
         → AreEnded w.notes key.client fs log log' → IsOrderlySo (reusing_in set) (ended (m.numbers key) o m.log) → Ends (ended (m.numbers key) o m.log) log'
     ends None [] log' finished logged right = record {
       means = subst (λ (lg : List Fact). Pairwise (FactMeans set) m.log lg) (sym logged) h.log;
-      once = λ opening stores once. subst (λ (lg : List Fact). IsOnceSo (reuses_in set) opening lg stores) (sym logged) (h.once opening stores once);
+      once = λ opening stores once. subst (λ (lg : List Fact). IsOnceSo (ever_in set) opening lg stores) (sym logged) (h.once opening stores once);
     }
     ends None (f ∷ fs) log' finished logged right = absurd finished
     ends (Some how) [] log' finished logged right = absurd finished
@@ -250,7 +250,7 @@ module _ (links : ℕ → Option Octets) (apart : (i j : ℕ) (l : Octets) → l
         record {
           means = subst (λ (lg : List Fact). Pairwise (FactMeans set) (octets.Fact.Ended (m.numbers key) how ∷ m.log) lg) (sym log_is)
               ((refl, (t.ask.choice, finished.0.how)), h.log);
-          once = λ opening stores once. subst (λ (lg : List Fact). IsOnceSo (reuses_in set) opening lg stores) (sym log_is)
+          once = λ opening stores once. subst (λ (lg : List Fact). IsOnceSo (ever_in set) opening lg stores) (sym log_is)
               (stores, (may, unended set (m.numbers key) m.log log h.log right.1, λ node. refl), h.once opening stores once);
         }
 
@@ -300,7 +300,7 @@ module _ (links : ℕ → Option Octets) (apart : (i j : ℕ) (l : Octets) → l
   module _ (bound : IsBounded W x) (w : World) (n : Net) (i : ℕ) (p : PeerKey) (g : IsStranger links apart p)
       (look look' : PeerKey → Option Client) (copies : List Copy) (log : List Fact) (m : Net) (h : Reached w i n look copies log m)
       (number : ℕ) (t : ClientTransaction) (there : look p ≡ Some (record { number = number; held = Open t })) (r : client.Reaction)
-      (goes : m.far.tickets (out_key i p) ≡ Some t → Sound x set (client_acts_away m (out_key i p) t r) × Leads x n (client_acts_away m (out_key i p) t r))
+      (goes : m.far.tickets (out_key i p) ≡ Some t → Sound W x set (client_acts_away m (out_key i p) t r) × Leads x n (client_acts_away m (out_key i p) t r))
       (here : look' p ≡ Some (client_after (here_at n i) number t r))
       (others_look : (q : PeerKey) → (p ≡ q → ⊥) → look' q ≡ look q) where
     abbrev fkey : Key
@@ -314,7 +314,7 @@ module _ (links : ℕ → Option Octets) (apart : (i j : ℕ) (l : Octets) → l
         (subst (λ (o : Option Client). TicketFits false (here_at n i) w.notes i (m.far.numbers (out_key i p)) o (m.far.tickets (out_key i p))) there
         (h.strangers p g))
 
-    far_sound : Sound x set (client_acts_away m (out_key i p) t r)
+    far_sound : Sound W x set (client_acts_away m (out_key i p) t r)
     far_sound = (goes far_is.0).0
 
     far_fit : TicketFits false (here_at n i) w.notes i (m.far.numbers (out_key i p)) (look' p) (set_at m.far.tickets (out_key i p) (Some (client.after (client_now m (out_key i p)) t r)) (out_key i p))
@@ -363,13 +363,13 @@ module _ (links : ℕ → Option Octets) (apart : (i j : ℕ) (l : Octets) → l
 
     record FarEnds (facts : List octets.Fact) (log' : List Fact) : Type 0 where
       means : Pairwise (FactMeans set) facts log'
-      once : (opening stores : Stores) → IsOnceSo (reuses_in set) opening w.log stores → IsOnceSo (reuses_in set) opening log' stores
+      once : (opening stores : Stores) → IsOnceSo (ever_in set) opening w.log stores → IsOnceSo (ever_in set) opening log' stores
 
     far_ends : (o : Option machine.Ending) (fs : List EndedView) (log' : List Fact) → Pairwise IsEndedView (ended_with number t.ask.choice o) fs
         → AreEnded w.notes i fs log log' → IsOrderlySo (reusing_in set) (ended_away (m.far.numbers (out_key i p)) o m.log) → FarEnds (ended_away (m.far.numbers (out_key i p)) o m.log) log'
     far_ends None [] log' finished logged right = record {
       means = subst (λ (lg : List Fact). Pairwise (FactMeans set) m.log lg) (sym logged) h.log;
-      once = λ opening stores once. subst (λ (lg : List Fact). IsOnceSo (reuses_in set) opening lg stores) (sym logged) (h.once opening stores once);
+      once = λ opening stores once. subst (λ (lg : List Fact). IsOnceSo (ever_in set) opening lg stores) (sym logged) (h.once opening stores once);
     }
     far_ends None (f ∷ fs) log' finished logged right = absurd finished
     far_ends (Some how) [] log' finished logged right = absurd finished
@@ -382,7 +382,7 @@ module _ (links : ℕ → Option Octets) (apart : (i j : ℕ) (l : Octets) → l
         ∙ ap (λ (z : Bool). ending_fact z (m.far.numbers fkey) f.how ∷ log) (h.away fkey t far_is.0) in
         record {
           means = subst (λ (lg : List Fact). Pairwise (FactMeans set) (octets.Fact.EndedAway (m.far.numbers fkey) how ∷ m.log) lg) (sym log_is) (refl, h.log);
-          once = λ opening stores once. subst (λ (lg : List Fact). IsOnceSo (reuses_in set) opening lg stores) (sym log_is) (
+          once = λ opening stores once. subst (λ (lg : List Fact). IsOnceSo (ever_in set) opening lg stores) (sym log_is) (
             stores,
             (
               asked_away_as set (m.far.numbers fkey) right.0.0 right.0.1 right.0.2 m.log log h.log right.0.3,

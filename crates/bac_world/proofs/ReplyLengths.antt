@@ -1,5 +1,5 @@
 -- Replies that can be sent: what is performed, where those in the log can; and logs grow.
-use Rattle.std.proofs.Common.{◌≡◌, ℕ, ◌≤◌, ◌⊎◌, Bool, true, false, List, [], ◌∷◌, length, Option, Some, None, sym, ap, subst, inl, inr, ◌∙◌, arith}
+use Rattle.std.proofs.Common.{◌≡◌, ℕ, ◌≤◌, Bool, true, false, List, [], ◌∷◌, Option, Some, None, sym, ap, subst, inl, inr, ◌∙◌, arith}
 use Rattle.bac_service.specs.Replies as plain
 use Rattle.bac_service.specs.Spellings.{complex_spelling}
 use Rattle.bac_service.proofs.LengthLaws.{length_complex}
@@ -20,7 +20,7 @@ use Rattle.bac_transaction.specs.Services.{outcome_by, outcome_of, service_of}
 use Rattle.bac_world.specs.LongApdus.{RepliesFit}
 use Rattle.bac_world.specs.Node.{Node, Outcome as outcome}
 use Rattle.bac_world.specs.Once.{Fact}
-use Rattle.bac_world.specs.Once.Fact.{Asked, AskedAway, Changed, Ended, EndedAway, Performed, Restarted, Served}
+use Rattle.bac_world.specs.Once.Fact.{Performed, Served}
 use Rattle.bac_world.specs.ReusingLogs.{Reuses}
 use Rattle.bac_world.specs.ReusingWorlds.{ActsSo, AreLoggedSo, DeliversIfSo, WorldRunSo, WorldStepSo}
 use Rattle.bac_world.specs.Services as service

@@ -30,8 +30,8 @@ use Rattle.bac_world.proofs.Machines.{Sound, restarts, begins_again, asked_befor
 use Rattle.bac_world.proofs.Logs.{FactMeans}
 use Rattle.bac_world.proofs.Bridge.{HasNothing, LifeFits, NodeFits, IsCopyOf, IsGone, TicketFits, EntryFits, AwayNoted, key_of, slot_key, stranger_key, out_key}
 use Rattle.bac_world.specs.World.{is_away}
-use Rattle.bac_world.proofs.Steps.{Over, Goes, Next, decide_number, idle_with, linked_with}
-use Rattle.bac_world.proofs.Settings.{Setting, reuses_in}
+use Rattle.bac_world.proofs.Steps.{Over, Goes, decide_number, idle_with, linked_with}
+use Rattle.bac_world.proofs.Settings.{Setting, ever_in}
 
 self : (i : ℕ) → nat_eq i i ≡ true
 self i = grind (arith, nat_tests)
@@ -96,7 +96,7 @@ record IsRenewed (w : World) (n : Net) (i lost_before from asks_from until : ℕ
 module _ (links : ℕ → Option Octets) (apart : (i j : ℕ) (l : Octets) → links i ≡ Some l → links j ≡ Some l → i ≡ j) (W : ℕ) (x : Rules)
     (set : Setting) (w w' : World) (n : Net) (h : Over links apart W x set w n) (i exact lost_before from asks_from first_id until : ℕ) (o : Option Store)
     (sends : ℕ → ℕ) (s : Renews w i exact asks_from first_id until o w') (k : IsRenewed w n i lost_before from asks_from until sends)
-    (sound : Sound x set (renewed_net n i exact lost_before from sends)) where
+    (sound : Sound W x set (renewed_net n i exact lost_before from sends)) where
   abbrev m : Net
   m = renewed_net n i exact lost_before from sends
 
@@ -232,7 +232,7 @@ module _ (links : ℕ → Option Octets) (apart : (i j : ℕ) (l : Octets) → l
   renewed_goes : Goes links apart W x set w w' m
   renewed_goes = record {
     bridge = renewed_over;
-    once = λ opening once. subst (λ (l : List Fact). IsOnceSo (reuses_in set) opening l (stores_of w'.nodes)) (sym s.log) (stores_of w.nodes, stores_renewed, once);
+    once = λ opening once. subst (λ (l : List Fact). IsOnceSo (ever_in set) opening l (stores_of w'.nodes)) (sym s.log) (stores_of w.nodes, stores_renewed, once);
   }
 
 -- both ends of the node restart
@@ -244,7 +244,7 @@ abbrev pub replaced_net : Net → (i exact : ℕ) → Net
 replaced_net n i exact = server_restarted (next_client n i exact) i exact None
 
 -- the server's clock begins anew, whichever it was
-replaced_is : (n : Net) (i exact : ℕ) → replaced_net n i exact ≡ server_restarted (machine.begun_again n i exact) i exact None
+pub replaced_is : (n : Net) (i exact : ℕ) → replaced_net n i exact ≡ server_restarted (machine.begun_again n i exact) i exact None
 replaced_is n i exact = ap (λ (f : ℕ → Clock). record (replaced_net n i exact) { server_clocks = f }) (λ k. λ j. anew (n.served i) j k)
   where
     twice : (c d : Clock) (b : Bool) → (if b then c else d) ≡ (if b then c else (if b then c else d))
@@ -298,7 +298,7 @@ module _ (links : ℕ → Option Octets) (apart : (i j : ℕ) (l : Octets) → l
         asks = refl;
         made = asked_earlier s.quiet;
         sends_is = sends;
-      }) (subst (λ (y : Net). Sound x set y) (sym (replaced_is n i exact)) (begins_again W x set bound n i exact (quiet_net s.quiet) h.sound))
+      }) (subst (λ (y : Net). Sound W x set y) (sym (replaced_is n i exact)) (begins_again W x set bound n i exact (quiet_net s.quiet) h.sound))
     where
       sends : (j : ℕ) (b : Bool) → nat_eq j i ≡ b → n.sends_until j ≡ (if b then (w.lives i).sends_until else n.sends_until j)
       sends j true e = sends_here j e

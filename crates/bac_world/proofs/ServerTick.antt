@@ -65,7 +65,7 @@ module _ (links : ℕ → Option Octets) (apart : (i j : ℕ) (l : Octets) → l
     pub strangers : (p : PeerKey) → IsStranger links apart p → EntryFits (there_at n i) (found p) (m.far.entries (stranger_key i p))
     pub others : (j : ℕ) (a : Node) → (j ≡ i → ⊥) → NodeFits links apart x (here_at n j) (there_at n j) w.notes k j a → NodeFits links apart x (here_at n j) (there_at n j) w.notes m j a
     pub posts : Pairwise (IsCopyOf links apart) m.posts every
-    pub sound : Sound x set m
+    pub sound : Sound W x set m
     pub leads : Leads x n m
 
   module _ (all : List ServerSlot) where

@@ -42,7 +42,7 @@ use Rattle.bac_world.proofs.Bridge.{here_at, there_at}
 use Rattle.bac_protocol.specs.Pace.{Clock}
 use Rattle.bac_world.proofs.Machines.{Sound, orderly, asked_of, own_of, gets_at_server, may_arrive, ticket_of}
 use Rattle.bac_reuse.proofs.Orderly.{one_ask}
-use Rattle.bac_world.proofs.Settings.{Setting, reuses_in, reusing_in, end_heard, hears_at}
+use Rattle.bac_world.proofs.Settings.{Setting, reuses_in, reusing_in, end_heard, hears_at, ever_in}
 use Rattle.bac_world.proofs.Pairs.{pairwise_join}
 use Rattle.bac_world.proofs.Logs.{FactMeans, WasAskedAs, asked_as, unperformed}
 use Rattle.bac_world.proofs.Bridge.{NodeFits, ServersFit, IsKnown, IsStranger, IsCopyOf, IsWay, EntryFits, key_of, slot_key, stranger_key, copies_of, copied_to}
@@ -146,7 +146,7 @@ module _ (links : ℕ → Option Octets) (apart : (i j : ℕ) (l : Octets) → l
 
   pub record Logged (w w' : World) (log : List octets.Fact) : Type 0 where
     pub log_means : Pairwise (FactMeans set) log w'.log
-    pub once : (opening : Stores) → IsOnceSo (reuses_in set) opening w.log (stores_of w.nodes) → IsOnceSo (reuses_in set) opening w'.log (stores_of w'.nodes)
+    pub once : (opening : Stores) → IsOnceSo (ever_in set) opening w.log (stores_of w.nodes) → IsOnceSo (ever_in set) opening w'.log (stores_of w'.nodes)
 
   module _ (bound : IsBounded W x) (w w' : World) (n : Net) (h : Over links apart W x set w n) (key : Key) (l : Octets) (at : links key.client ≡ Some l)
       (t : ClientTransaction) (is : n.tickets key ≡ Some t) (a b : Node) (node : slice_get w.nodes key.server ≡ Some a)
@@ -192,15 +192,15 @@ module _ (links : ℕ → Option Octets) (apart : (i j : ℕ) (l : Octets) → l
               ap (λ (o : Option Node). option_map (λ (m : Node). m.store) o) (nodes.others j ne)
 
       -- it was not performed before, or is a read
-      first : (IsUnperformed (n.numbers key) w.log) ⊎ ((reuses_in set key.server ≡ true) × (is_read (choice_of d.request) ≡ true))
+      first : (IsUnperformed (n.numbers key) w.log) ⊎ ((ever_in set key.server ≡ true) × (is_read (choice_of d.request) ≡ true))
       first = go right.0.3
         where
-          go : (octets.IsUnperformed (n.numbers key) n.log ⊎ ((reuses_in set right.0.1 ≡ true) × (is_read e.request.choice ≡ true)))
-              → (IsUnperformed (n.numbers key) w.log) ⊎ ((reuses_in set key.server ≡ true) × (is_read (choice_of d.request) ≡ true))
+          go : (octets.IsUnperformed (n.numbers key) n.log ⊎ ((ever_in set right.0.1 ≡ true) × (is_read e.request.choice ≡ true)))
+              → (IsUnperformed (n.numbers key) w.log) ⊎ ((ever_in set key.server ≡ true) × (is_read (choice_of d.request) ≡ true))
           go (inl un) = inl (unperformed set (n.numbers key) n.log w.log h.log un)
-          go (inr read) = inr (ap (reuses_in set) one.0 ∙ read.0, ap is_read (sym done.what.request.choice_is) ∙ read.1)
+          go (inr read) = inr (ap (ever_in set) one.0 ∙ read.0, ap is_read (sym done.what.request.choice_is) ∙ read.1)
 
-      performs : MayPerformSo (reuses_in set) (n.numbers key) d.request d.reply w.log (stores_of w.nodes) (stores_of w'.nodes)
+      performs : MayPerformSo (ever_in set) (n.numbers key) d.request d.reply w.log (stores_of w.nodes) (stores_of w'.nodes)
       performs = record {
         client = key.client;
         server = key.server;
@@ -216,7 +216,7 @@ module _ (links : ℕ → Option Octets) (apart : (i j : ℕ) (l : Octets) → l
       performs_one = record {
         log_means = subst (λ (lg : List Fact). Pairwise (FactMeans set) (octets.Fact.Performed (n.numbers key) e.request e.reply ∷ n.log) lg) (sym log_is)
             ((refl, done.what.request, done.what.means), h.log);
-        once = λ opening once. subst (λ (lg : List Fact). IsOnceSo (reuses_in set) opening lg (stores_of w'.nodes)) (sym log_is) (stores_of w.nodes, performs, once);
+        once = λ opening once. subst (λ (lg : List Fact). IsOnceSo (ever_in set) opening lg (stores_of w'.nodes)) (sym log_is) (stores_of w.nodes, performs, once);
       }
 
     logs : (reuse : Bool) (e : Option Effect) (d : Option Performed) → ArePerformed a.store (act_at (slot_key l key.invoke_id) e) d
@@ -231,8 +231,8 @@ module _ (links : ℕ → Option Octets) (apart : (i j : ℕ) (l : Octets) → l
         same_log : w'.log ≡ w.log → Logged w w' n.log
         same_log is = record {
           log_means = subst (λ (lg : List Fact). Pairwise (FactMeans set) n.log lg) (sym is) h.log;
-          once = λ opening once. subst (λ (lg : List Fact). IsOnceSo (reuses_in set) opening lg (stores_of w'.nodes)) (sym is)
-              (once_same (reuses_in set) opening w.log (stores_of w.nodes) (stores_of w'.nodes) (stores_same w.nodes w'.nodes key.server a b nodes node store) once);
+          once = λ opening once. subst (λ (lg : List Fact). IsOnceSo (ever_in set) opening lg (stores_of w'.nodes)) (sym is)
+              (once_same (ever_in set) opening w.log (stores_of w.nodes) (stores_of w'.nodes) (stores_same w.nodes w'.nodes key.server a b nodes node store) once);
         }
     logs reuse None (Some d) done store logged right = absurd done
     logs reuse (Some e) None done store logged right = absurd done
@@ -334,7 +334,7 @@ module _ (links : ℕ → Option Octets) (apart : (i j : ℕ) (l : Octets) → l
         m : Net
         m = server_acts n key u
 
-        sound : Sound x set m
+        sound : Sound W x set m
         sound = gets_at_server W x set bound n h.sound number p at may up service free (room_is n key end fits.serves)
 
         made : Node

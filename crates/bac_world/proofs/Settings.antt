@@ -1,5 +1,5 @@
 -- Whether nodes let invoke IDs be used again: what both laws of worlds are proved by.
-use Rattle.std.specs.Prelude.{ℕ, Bool, true, false, List, Option, Some, None}
+use Rattle.std.proofs.Common.{◌≡◌, ℕ, Bool, true, false, List, Option, Some, None, refl, sym, ◌∙◌}
 use Rattle.bac_apdu.specs.Apdu.{Apdu}
 use Rattle.bac_protocol.specs.Context.{Settings}
 use Rattle.bac_protocol.specs.Reuse.{ends_entry, server_hears}
@@ -11,16 +11,39 @@ use Rattle.bac_transaction.specs.Reuse.{is_read, slots_left}
 use Rattle.bac_reuse.specs.Runs.{Reusing}
 use Rattle.bac_world.specs.ReusingLogs.{Reuses}
 
+-- those do now, of those that ever do
+pub record Mode : Type 0 where
+  pub ever : Reuses
+  pub now : Reuses
+  pub among : (node : ℕ) → now node ≡ true → ever node ≡ true
+
+-- those do, and it stays so
+abbrev pub always : Reuses → Mode
+always u = record { ever = u; now = u; among = λ node is. is }
+
 -- no node does, or those do
 abbrev pub Setting : Type 0
-Setting = Option Reuses
+Setting = Option Mode
 
 abbrev pub reuses_in : Setting → Reuses
 reuses_in None = λ node. false
-reuses_in (Some u) = u
+reuses_in (Some m) = m.now
+
+abbrev pub ever_in : Setting → Reuses
+ever_in None = λ node. false
+ever_in (Some m) = m.ever
+
+-- who never does does not now
+pub not_now : (set : Setting) (node : ℕ) → ever_in set node ≡ false → reuses_in set node ≡ false
+not_now None node off = refl
+not_now (Some m) node off = go (m.now node) refl
+  where
+    go : (b : Bool) → m.now node ≡ b → m.now node ≡ false
+    go true is = absurd (let no : true ≡ false = sym (m.among node is) ∙ off in cc)
+    go false is = is
 
 abbrev pub reusing_in : Setting → Reusing
-reusing_in set = record { reuses = reuses_in set; reads = is_read }
+reusing_in set = record { reuses = ever_in set; reads = is_read }
 
 -- the reply table, and the server's end, before an APDU of that key is heard: without the entry that it ends, if any
 abbrev pub slots_heard : (reuse : Bool) → (now : ℕ) → PeerKey → Apdu → List ServerSlot → List ServerSlot

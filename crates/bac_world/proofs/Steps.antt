@@ -17,7 +17,7 @@ use Rattle.bac_world.specs.ReusingWorlds.{ActsSo, AreLoggedSo}
 use Rattle.bac_world.specs.Services.{Performed as performed}
 use Rattle.bac_world.specs.World.{World, IsFreshNode, Life, Time, Note, Copy, link_at, stores_of, AreLogged, IsWithNode, Acts, newest, with_act, with_life}
 use Rattle.bac_world.proofs.Machines.{Sound}
-use Rattle.bac_world.proofs.Settings.{Setting, reuses_in}
+use Rattle.bac_world.proofs.Settings.{Setting, ever_in}
 use Rattle.bac_world.proofs.Logs.{FactMeans}
 use Rattle.bac_world.proofs.Bridge.{AreIdle, Bridge, HasNothing, LifeFits, NodeFits, IsCopyOf, AwayNoted, here_at, there_at}
 use Rattle.bac_protocol.specs.Pace.{Clock}
@@ -170,7 +170,7 @@ module _ (links : ℕ → Option Octets) (apart : (i j : ℕ) (l : Octets) → l
   -- the world goes on, and the bridge with it to that net, and the log stays right
   pub record Goes (w w' : World) (m : Net) : Type 0 where
     pub bridge : Over w' m
-    pub once : (opening : Stores) → IsOnceSo (reuses_in set) opening w.log (stores_of w.nodes) → IsOnceSo (reuses_in set) opening w'.log (stores_of w'.nodes)
+    pub once : (opening : Stores) → IsOnceSo (ever_in set) opening w.log (stores_of w.nodes) → IsOnceSo (ever_in set) opening w'.log (stores_of w'.nodes)
 
   -- something happened at a node, and nothing is known of it that is not known of the others
   pub lives_on : (n m : Net) (i : ℕ) (old new : ℕ → Life) → IsAlike i m n → new ≡ with_act old i → ((j : ℕ) → LifeFits n j (old j))
@@ -212,7 +212,7 @@ module _ (links : ℕ → Option Octets) (apart : (i j : ℕ) (l : Octets) → l
       → ((j : ℕ) (c : Node) → (j ≡ i → ⊥) → Fits w n n j c → Fits w n m j c)
       → Pairwise (IsCopyOf links apart) m.posts (w.copies ++ acts.sent)
       → Pairwise (FactMeans set) m.log w'.log
-      → Sound x set m
+      → Sound W x set m
       → Over w' m
   acts_over reuse w w' n m h i a b o at acts alike asks noted away link here others posts log sound = record {
     now = alike.now ∙ h.now ∙ sym (ap (λ (t : Time). t.now) acts.time);

@@ -34,7 +34,7 @@ use Rattle.bac_world.proofs.Steps.{Over, Fits, Goes, idle_with, linked_with, set
 use Rattle.bac_protocol.proofs.Aside.{IsAside, asked_aside}
 use Rattle.bac_world.proofs.Hearing.{out_one}
 use Rattle.bac_world.proofs.Asking.{IsAccepted, accepted_is, holds, free_ticket, free_kept, fits_kept, fits_noted, differ, and_false, equal_self}
-use Rattle.bac_world.proofs.Settings.{Setting, reuses_in}
+use Rattle.bac_world.proofs.Settings.{Setting, ever_in}
 
 -- its client can ask under that key, where it does not wait
 key_free_away : (n : Net) (key : Key) (e : ClientEnd) → e.asks_from ≡ n.asks_from key.client → waits_to_ask (client_now n key) e ≡ false
@@ -184,7 +184,7 @@ module _ (links : ℕ → Option Octets) (apart : (i j : ℕ) (l : Octets) → l
         (free_ticket false (here_at n i) w.notes i (n.far.numbers key) (value_at same_key p a.clients.slots) (n.far.tickets key)
         (fits.clients.strangers p g) parts.free)
 
-    sound : Sound x set after
+    sound : Sound W x set after
     sound = asked_away W x set bound n h.sound key free (choice_of r) parts.whole parts.front parts.rest
 
     abbrev note' : Note
@@ -274,8 +274,8 @@ module _ (links : ℕ → Option Octets) (apart : (i j : ℕ) (l : Octets) → l
       sound = sound;
     }
 
-    once : (opening : Stores) → IsOnceSo (reuses_in set) opening w.log (stores_of w.nodes) → IsOnceSo (reuses_in set) opening w'.log (stores_of w'.nodes)
-    once opening before = subst (λ (lg : List Fact). IsOnceSo (reuses_in set) opening lg (stores_of w'.nodes)) (sym step.log) (
+    once : (opening : Stores) → IsOnceSo (ever_in set) opening w.log (stores_of w.nodes) → IsOnceSo (ever_in set) opening w'.log (stores_of w'.nodes)
+    once opening before = subst (λ (lg : List Fact). IsOnceSo (ever_in set) opening lg (stores_of w'.nodes)) (sym step.log) (
       stores_of w.nodes,
       (
         sym h.asks ∙ counted W x set bound n h.sound ∙ sym (asks_counted set n.log w.log h.log),

@@ -52,7 +52,7 @@ use Rattle.bac_world.proofs.Pairs.{pairwise_none, append_none}
 use Rattle.bac_world.proofs.Logs.{FactMeans, begun_if}
 use Rattle.bac_world.proofs.Bridge.{here_at, there_at, NodeFits, ServersFit, IsKnown, IsStranger, IsCopyOf, EntryFits, key_of, slot_key, stranger_key, out_key, copied_none}
 use Rattle.bac_world.proofs.Steps.{Over, Fits, Goes, served_elsewhere, set_elsewhere, acts_over, acts_quiet, once_same, stores_same}
-use Rattle.bac_world.proofs.Settings.{Setting, reuses_in, end_heard, hears_at}
+use Rattle.bac_world.proofs.Settings.{Setting, reuses_in, end_heard, hears_at, ever_in, not_now}
 use Rattle.bac_world.proofs.Serving.{Logged, room_is}
 use Rattle.bac_world.proofs.Heard.{IsHeardIn, IsHeardInBy}
 use Rattle.bac_world.proofs.Clients.{quiet, arrived}
@@ -150,7 +150,7 @@ module _ (links : ℕ → Option Octets) (apart : (i j : ℕ) (l : Octets) → l
 
     -- it does, in an entry that began then, where its server lets no invoke ID be used again
     module _ (e : Effect) (d : Performed) (done : ArePerformed a.store (act_at p (Some e)) (Some d)) (store : b.store ≡ change.after a.store d.request) where
-      served_one : (told : ℕ) → (reuses_in set i ≡ false → told ≡ begin)
+      served_one : (told : ℕ) → (ever_in set i ≡ false → told ≡ begin)
           → w'.log ≡ Fact.Served d.key.peer i d.key.invoke_id told d.request d.reply ∷ w.log
           → Logged links apart W x set w w' (served (stranger_key i p) begin (Some e) n.log)
       served_one told begun log = record {
@@ -159,13 +159,13 @@ module _ (links : ℕ → Option Octets) (apart : (i j : ℕ) (l : Octets) → l
             ap (λ (y : PeerKey). number y.peer) done.key,
             refl,
             ap (λ (y : PeerKey). y.invoke_id) done.key,
-            begun_if (reuses_in set i) begin told begun,
+            begun_if (ever_in set i) begin told begun,
             done.what.request,
             done.what.means,
           ),
           h.log,
         );
-        once = λ opening once. subst (λ (lg : List Fact). IsOnceSo (reuses_in set) opening lg (stores_of w'.nodes)) (sym log) (
+        once = λ opening once. subst (λ (lg : List Fact). IsOnceSo (ever_in set) opening lg (stores_of w'.nodes)) (sym log) (
           stores_of w.nodes,
           record {
             store = a.store;
@@ -187,7 +187,7 @@ module _ (links : ℕ → Option Octets) (apart : (i j : ℕ) (l : Octets) → l
       served_logs false is begun (inr away) = served_one away.entry.begin
           (λ off. begun refl away.entry (ap (λ (y : PeerKey). value_at same_key y b.servers.slots) (sym done.key) ∙ away.kept)) away.log
       served_logs true is begun (inl known) = absurd (none_known known)
-      served_logs true is begun (inr away) = served_one away.begin (λ off. absurd (let never : true ≡ false = sym is ∙ off in cc)) away.log
+      served_logs true is begun (inr away) = served_one away.begin (λ off. absurd (let never : true ≡ false = sym is ∙ not_now set i off in cc)) away.log
 
     pub logs_stranger : (e : Option Effect) (d : Option Performed)
         → (reuses_in set i ≡ false → (x : Effect) → e ≡ Some x → (y : ServerTransaction) → value_at same_key p b.servers.slots ≡ Some y → y.begin ≡ begin)
@@ -202,8 +202,8 @@ module _ (links : ℕ → Option Octets) (apart : (i j : ℕ) (l : Octets) → l
         same_log : w'.log ≡ w.log → Logged links apart W x set w w' n.log
         same_log is = record {
           log_means = subst (λ (lg : List Fact). Pairwise (FactMeans set) n.log lg) (sym is) h.log;
-          once = λ opening once. subst (λ (lg : List Fact). IsOnceSo (reuses_in set) opening lg (stores_of w'.nodes)) (sym is)
-              (once_same (reuses_in set) opening w.log (stores_of w.nodes) (stores_of w'.nodes) (stores_same w.nodes w'.nodes i a b nodes node store) once);
+          once = λ opening once. subst (λ (lg : List Fact). IsOnceSo (ever_in set) opening lg (stores_of w'.nodes)) (sym is)
+              (once_same (ever_in set) opening w.log (stores_of w.nodes) (stores_of w'.nodes) (stores_same w.nodes w'.nodes i a b nodes node store) once);
         }
     logs_stranger None (Some d) begun done store logged = absurd done
     logs_stranger (Some e) None begun done store logged = absurd done
@@ -265,7 +265,7 @@ module _ (links : ℕ → Option Octets) (apart : (i j : ℕ) (l : Octets) → l
         m : Net
         m = server_acts_away n key (u reuse)
 
-        sound : Sound x set m
+        sound : Sound W x set m
         sound = strays_at_server W x set bound n h.sound key (is_free (there_at n i) (end reuse)) (room_is n key (end reuse) fits.serves) service apdu up
 
         made : Node

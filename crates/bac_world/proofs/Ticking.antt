@@ -35,7 +35,7 @@ use Rattle.bac_world.proofs.Leads.{Leads}
 use Rattle.bac_world.proofs.Hearing.{Reached, reached_none, reached_alike}
 use Rattle.bac_world.proofs.ClientTick.{client_tick, folds}
 use Rattle.bac_world.proofs.ServerTick.{Served, entry_tick, serves}
-use Rattle.bac_world.proofs.Settings.{Setting, reuses_in}
+use Rattle.bac_world.proofs.Settings.{Setting, ever_in}
 
 number_kept : (c : Context) (k : ℕ) (y : TransactionSlot) → (held_ticked c k y).number ≡ k
 number_kept c k (Open t) = refl
@@ -231,8 +231,8 @@ module _ (links : ℕ → Option Octets) (apart : (i j : ℕ) (l : Octets) → l
           (subst (λ (lg : List Fact). Pairwise (FactMeans set) s.0.log lg) (sym log_is)
           (subst (λ lg. Pairwise (FactMeans set) lg step.acts.between) (sym s.1.log) r.1.log))
           s.1.sound;
-      once = λ opening once. subst (λ (lg : List Fact). IsOnceSo (reuses_in set) opening lg (stores_of w'.nodes)) (sym log_is)
-          (once_same (reuses_in set) opening step.acts.between (stores_of w.nodes) (stores_of w'.nodes)
+      once = λ opening once. subst (λ (lg : List Fact). IsOnceSo (ever_in set) opening lg (stores_of w'.nodes)) (sym log_is)
+          (once_same (ever_in set) opening step.acts.between (stores_of w.nodes) (stores_of w'.nodes)
           (stores_same w.nodes w'.nodes i a b step.acts.nodes step.at (ap (λ (d : Node). d.store) node_is)) (r.1.once opening (stores_of w.nodes) once));
     },
   )

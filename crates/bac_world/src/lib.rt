@@ -5,6 +5,7 @@
 
 pub mod examples;
 pub mod node;
+pub mod stretches;
 
 ghost use Rattle.std.specs.Prelude.{ℕ, List, [], ◌∷◌};
 ghost use Rattle.bac_protocol.specs.Pace.{IsTimely};
