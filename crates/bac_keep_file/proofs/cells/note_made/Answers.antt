@@ -9,7 +9,7 @@ use Rattle.bac_keep.specs.Made.{made_view}
 use Rattle.bac_keep.specs.Made.Made.{Changed, Performed}
 use Rattle.bac_keep.specs.Overlay.{overlay}
 use Rattle.bac_keep_file.specs.Rows.{cells_of}
-use Rattle.bac_keep.proofs.Notes.{changed_octets, changed_value, performed_octets, performed_value}
+use Rattle.bac_keep.proofs.Notes.{changed_octets, changed_value, performed_octets, performed_size, performed_value}
 use Rattle.bac_keep_file.proofs.cells.note_made.Goals as goal
 
 pub returns-in_ok-note_values-in-Performed-WriteProperty-clause-noted : goal.returns-in_ok-note_values-in-Performed-WriteProperty-clause-noted
@@ -22,7 +22,19 @@ returns-in_ok-note_values-in-Performed-WriteProperty-clause-noted g c = λ clean
     ap (λ (x : Cells). overlay x c.args.document.now) (noted.noted clean).has
     ∙ performed_value (cells_of (g.S.Store.view c.args.database.now).trees) c.args.document.now c.stores_are_in_order.ensures c.args.store.now _
     (c.requires.made first)
-    (c.requires.keepable first) _ _ _ e (record { kind = w.reference.object.kind_fits; instance = w.reference.object.instance_fits }) noted.fits
+    (c.requires.keepable first) _ _ _ (omega (arith, c.if-reference-eq-FILE_SIZE.false)) e (record { kind = w.reference.object.kind_fits; instance = w.reference.object.instance_fits }) noted.fits
+
+pub returns-in_ok-note_octets-in-Performed-WriteProperty-clause-noted : goal.returns-in_ok-note_octets-in-Performed-WriteProperty-clause-noted
+returns-in_ok-note_octets-in-Performed-WriteProperty-clause-noted g c = λ clean.
+    let noted = c.in_ok-note_octets-in-Performed-WriteProperty.ensures in
+    let first : IsClean (g.S.Store.view c.args.database.now) = omega (arith, clean, noted.clean) in
+    let w = c.in-Performed-WriteProperty.write in
+    let e : made_view c.args.made.now ≡ Performed
+    (WriteProperty (property_reference_view w.reference) w.values.octets.now (priority_view w.priority)) = search rules in
+    ap (λ (x : Cells). overlay x c.args.document.now) (noted.noted clean).has
+    ∙ performed_size (cells_of (g.S.Store.view c.args.database.now).trees) c.args.document.now c.stores_are_in_order.ensures c.args.store.now _
+    (c.requires.made first)
+    (c.requires.keepable first) c.stores_are_in_order-2.ensures _ _ _ (omega (arith, c.if-reference-eq-FILE_SIZE.true)) e (record { kind = w.reference.object.kind_fits; instance = w.reference.object.instance_fits })
 
 pub returns-in_ok-note_octets-in-Performed-WriteFile-clause-noted : goal.returns-in_ok-note_octets-in-Performed-WriteFile-clause-noted
 returns-in_ok-note_octets-in-Performed-WriteFile-clause-noted g c = λ clean.
