@@ -9,7 +9,7 @@ loop-count-preserved g c =
           (state c.loop-count.server) (state c.take_stretch.new.server) c.in_ok-stretch.field-0 c.in-Some.stretch c.in-Some.is
           c.in_ok-stretch.ensures.taken c.loop-count.invariant.0 c.saturating_add-effects.ensures,
       c.in_ok-stretch.ensures.sound,
-      λ h. c.loop-count.invariant.1.1 (c.in_ok-stretch.ensures.honest h),
+      λ h. c.loop-count.invariant.2 (c.in_ok-stretch.ensures.honest h),
     )
 
 pub returns-then-stretch-clause-taken : goal.returns-then-stretch-clause-taken
