@@ -6,7 +6,6 @@ mod objects;
 mod performing;
 mod questions;
 mod reading;
-mod silence;
 mod table;
 mod task;
 mod timeout;

@@ -1,7 +1,8 @@
 //! What is told of a node that does not answer.
 
+use crate::client_sockets::ClientSockets;
+use crate::unsent::tell_unsent;
 use bac_ask_report::Outcome;
-use bac_asking::{ClientSockets, tell_unsent};
 use bac_npdu::Peer;
 use bac_text::{Status, peer_text};
 use std::alloc::{AllocError, Global};
@@ -50,10 +51,9 @@ fn write_no_answer<E: Write>(
     err.write_all(ADVICE)
 }
 
-/// Tells that a node did not answer, how long it was waited for, what to look at, and why the system sends nothing to it, if the system tells that.
-pub(crate) fn tell_silence<M: ClientSockets, E: Write>(
+/// Tells that a node did not answer, how long it was waited for, and what to look at.
+pub(crate) fn tell_no_answer<E: Write>(
     alloc: Global,
-    machine: &M,
     peer: Peer,
     timeout: Option<u64>,
     outcome: Outcome<'_>,
@@ -61,5 +61,18 @@ pub(crate) fn tell_silence<M: ClientSockets, E: Write>(
 ) {
     // if that fails too, only the status is left
     let _ = write_no_answer(alloc, peer, timeout, outcome, err);
+}
+
+/// Tells on `err` that a node did not answer, how long it was waited for and what to look at. If the system tells why it sends nothing to that node, tells that
+/// too. Call it once for an ask whose outcome is that nothing came back; `timeout` is in milliseconds, and None if the ask ended by itself.
+pub fn tell_silence<M: ClientSockets, E: Write>(
+    alloc: Global,
+    machine: &M,
+    peer: Peer,
+    timeout: Option<u64>,
+    outcome: Outcome<'_>,
+    err: &mut E,
+) {
+    tell_no_answer(alloc, peer, timeout, outcome, err);
     tell_unsent(Status::Faulty, machine, peer.link, err);
 }
