@@ -1,5 +1,5 @@
 -- What the words of `ask` give, as they were read.
-use Rattle.std.specs.Prelude.{◌≡◌, ℕ, ◌<◌, ◌≤◌, ◌*◌, min, Bool, true, false, List, codes, decimal, Option, Some, None}
+use Rattle.std.specs.Prelude.{◌≡◌, ℕ, ◌*◌, min, Bool, true, false, List, codes, MatchOption, Option, Some, None}
 use Rattle.std.specs.Option.{option_map}
 use Rattle.clap.specs.declared.parser.matches.ArgMatches.{ArgMatches}
 use Rattle.bac_ask_report.specs.declared.cell_text.CellText.{CellText}
@@ -12,6 +12,7 @@ use Rattle.bac_driver.specs.Waits.{MOST}
 use Rattle.bac_lists.specs.Addresses.{IsLink, IsRoute, link_of}
 use Rattle.bac_npdu.specs.Peers.{PeerView, RouteView}
 use Rattle.bac_environment.specs.Given.{IsFlag, IsNumber, words_text}
+use Rattle.bac_asking.specs.Seconds.{AreNoSeconds, AreSeconds}
 use Rattle.bac_asking.specs.declared.asking.Asking.{Asking}
 use Rattle.bac_asking.specs.declared.asking.Rounds.{Rounds}
 use Rattle.bac_asking.specs.declared.recording.RecordForm.{RecordForm}
@@ -52,10 +53,14 @@ pub record AreRecordsOf (given : ArgMatches) (records : Option RecordForm) : Typ
   pub raw_is : IsFlag given (codes "raw-text") raw
   pub are : records ≡ records_by json csv raw
 
--- of whole seconds the milliseconds between rounds
-pub record IsPace (given : ArgMatches) (is : Option ℕ) : Type 0 where
-  pub whole : (n : ℕ) → 0 < n → n ≤ 1_000_000_000 → words_text given (codes "every") ≡ Some (decimal n) → is ≡ Some (n * 1000)
-  pub none : words_text given (codes "every") ≡ None → is ≡ None
+-- a text is that time, or none
+abbrev pub IsPaceBy : (text : Option (List ℕ)) → (is : Option ℕ) → Type 0
+IsPaceBy None is = is ≡ None
+IsPaceBy (Some text) is = MatchOption is (AreNoSeconds text) (AreSeconds text)
+
+-- the milliseconds between rounds
+abbrev pub IsPace : ArgMatches → (is : Option ℕ) → Type 0
+IsPace given is = IsPaceBy (words_text given (codes "every")) is
 
 -- of whole seconds the milliseconds that it waits
 pub record IsPatience (given : ArgMatches) (is : Option ℕ) : Type 0 where
