@@ -6,6 +6,7 @@ mod objects;
 mod performing;
 mod questions;
 mod reading;
+mod silence;
 mod table;
 mod task;
 mod timeout;

@@ -8,9 +8,10 @@ ghost use Rattle.bac_points.specs.Points.{ArePoints};
 
 use crate::listing::list;
 use crate::reading::read;
+use crate::silence::tell_silence;
 use crate::task::{PointTask, PointWork};
 use crate::writing::write;
-use bac_asking::{Asking, Client, ClientSockets, outcome_of, tell_silence};
+use bac_asking::{Asking, Client, ClientSockets, outcome_of};
 use bac_driver::AskEnd;
 use bac_environment::{Environment, OpenFiles};
 use bac_npdu::Peer;

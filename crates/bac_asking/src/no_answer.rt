@@ -1,10 +1,8 @@
 //! What is told of a node that does not answer.
 
-use crate::client_sockets::ClientSockets;
-use crate::unsent::tell_unsent;
 use bac_ask_report::Outcome;
 use bac_npdu::Peer;
-use bac_text::{Status, peer_text};
+use bac_text::peer_text;
 use std::alloc::{AllocError, Global};
 use std::io;
 use std::io::Write;
@@ -51,8 +49,9 @@ fn write_no_answer<E: Write>(
     err.write_all(ADVICE)
 }
 
-/// Tells that a node did not answer, how long it was waited for, and what to look at.
-pub(crate) fn tell_no_answer<E: Write>(
+/// Tells on `err` that a node did not answer, how long it was waited for, and what to look at. Call it for an ask whose outcome is that nothing came back.
+/// `timeout` is the milliseconds that an ask was given, and None if it ended by itself.
+pub fn tell_no_answer<E: Write>(
     alloc: Global,
     peer: Peer,
     timeout: Option<u64>,
@@ -61,18 +60,4 @@ pub(crate) fn tell_no_answer<E: Write>(
 ) {
     // if that fails too, only the status is left
     let _ = write_no_answer(alloc, peer, timeout, outcome, err);
-}
-
-/// Tells on `err` that a node did not answer, how long it was waited for and what to look at. If the system tells why it sends nothing to that node, tells that
-/// too. Call it once for an ask whose outcome is that nothing came back; `timeout` is in milliseconds, and None if the ask ended by itself.
-pub fn tell_silence<M: ClientSockets, E: Write>(
-    alloc: Global,
-    machine: &M,
-    peer: Peer,
-    timeout: Option<u64>,
-    outcome: Outcome<'_>,
-    err: &mut E,
-) {
-    tell_no_answer(alloc, peer, timeout, outcome, err);
-    tell_unsent(Status::Faulty, machine, peer.link, err);
 }
