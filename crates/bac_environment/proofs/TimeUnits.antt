@@ -1,8 +1,8 @@
 -- Where the number of a time ends.
-use Rattle.std.proofs.Common.{◌≡◌, ◌∙◌, ℕ, zero, suc, ◌<◌, ◌^◌, ◌*◌, ◌==◌, Bool, true, false, cond, List, [], ◌∷◌, ◌++◌, length, drop, codes, decimal, get_or, refl, sym, ap, subst, arith, Option, Some, None}
+use Rattle.std.proofs.Common.{◌≡◌, ◌∙◌, ℕ, ◌<◌, ◌^◌, ◌*◌, ◌==◌, Bool, true, false, cond, List, [], ◌∷◌, ◌++◌, drop, codes, decimal, refl, sym, ap, subst, arith, Option, Some, None}
 use Rattle.std.specs.Prelude.{MatchOption, SomeIff}
 use Rattle.std.specs.Char.{digit_value}
-use Rattle.std.specs.Str.Parse.{AllDigits, IsNumeral, digits_value, without_leading_plus}
+use Rattle.std.specs.Str.Parse.{AllDigits, IsNumeral, without_leading_plus}
 use Rattle.bac_lists.proofs.Numerals.{decimal_is_number, one_number}
 use Rattle.bac_lists.specs.Addresses.{IsNoNumber, IsNumber}
 use Rattle.std.proofs.lemmas.List.{append-nil}
@@ -109,11 +109,6 @@ not_cut own text no_ms no_seconds no_minutes =
     record { unit = Own; text_is = sym (append-nil text); each_is = refl; only = only_alone own text no_ms no_seconds no_minutes }
 
 -- ---- what a text is
-
-pub no_count : (own : ℕ) (text front : List ℕ) (each : ℕ) → IsCutAtUnit own text front each → IsNoNumber 64 front → IsNoTime own text
-no_count own text front each cut none = λ milliseconds time.
-    let one = cut.only time.front time.unit time.count time.text_is time.number in
-    none time.count (subst (λ (t : List ℕ). IsNumber 64 t time.count) one.0 time.number)
 
 counted : (own : ℕ) (text front : List ℕ) (each count milliseconds : ℕ) → IsCutAtUnit own text front each → IsNumber 64 front count
     → IsTime own text milliseconds → milliseconds ≡ count * each
