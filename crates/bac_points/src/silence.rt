@@ -1,8 +1,10 @@
-//! What is told of a node that does not answer.
+//! What is told of a node that does not answer, or refuses requests for now.
 
 use bac_ask_report::Outcome;
-use bac_asking::{ClientSockets, tell_unsent};
+use bac_asking::{ClientSockets, outcome_of, tell_unsent};
+use bac_driver::AskEnd;
 use bac_npdu::Peer;
+use bac_point_report::is_refused;
 use bac_text::{Status, peer_text};
 use std::alloc::{AllocError, Global};
 use std::io;
@@ -11,6 +13,10 @@ use std::io::Write;
 /// What to look at where a node does not answer.
 const ADVICE: &[u8] =
     b"check the address, the port and whether the device is on; a device behind a router needs --route NET:MAC\n";
+
+/// What is told of a node that aborts a request for a reason of its own.
+const REFUSED: &str =
+    "the device refuses the request for now: a bac serve that was just restarted does so for up to 65 seconds";
 
 /// So many milliseconds as seconds, as `0.5` or `12`.
 fn seconds_text(alloc: Global, milliseconds: u64) -> Result<String, AllocError> {
@@ -62,4 +68,12 @@ pub(crate) fn tell_silence<M: ClientSockets, E: Write>(
     // if that fails too, only the status is left
     let _ = write_no_answer(alloc, peer, timeout, outcome, err);
     tell_unsent(Status::Faulty, machine, peer.link, err);
+}
+
+/// Tells why a node may refuse requests for now, where it refused one.
+pub(crate) fn tell_refused<E: Write>(ends: &[AskEnd], err: &mut E) {
+    if ends.iter().any(|end| is_refused(outcome_of(end))) {
+        // if that fails too, only the status is left
+        let _ = err.writeln(REFUSED);
+    }
 }
