@@ -1,11 +1,17 @@
-//! What is told of a node that does not answer.
+//! What is told of a node that does not answer, or refuses requests for now.
 
 use bac_ask_report::Outcome;
-use bac_asking::{ClientSockets, tell_no_answer, tell_unsent};
+use bac_asking::{ClientSockets, outcome_of, tell_no_answer, tell_unsent};
+use bac_driver::AskEnd;
 use bac_npdu::Peer;
+use bac_point_report::is_refused;
 use bac_text::Status;
 use std::alloc::Global;
 use std::io::Write;
+
+/// What is told of a node that aborts a request for a reason of its own.
+const REFUSED: &str =
+    "the device refuses the request for now: a bac serve that was just restarted does so for up to 65 seconds";
 
 /// Tells that a node did not answer, how long it was waited for, what to look at, and why the system sends nothing to it, if the system tells that.
 pub(crate) fn tell_silence<M: ClientSockets, E: Write>(
@@ -18,4 +24,12 @@ pub(crate) fn tell_silence<M: ClientSockets, E: Write>(
 ) {
     tell_no_answer(alloc, peer, timeout, outcome, err);
     tell_unsent(Status::Faulty, machine, peer.link, err);
+}
+
+/// Tells why a node may refuse requests for now, where it refused one.
+pub(crate) fn tell_refused<E: Write>(ends: &[AskEnd], err: &mut E) {
+    if ends.iter().any(|end| is_refused(outcome_of(end))) {
+        // if that fails too, only the status is left
+        let _ = err.writeln(REFUSED);
+    }
 }
