@@ -38,12 +38,11 @@ use Rattle.bac_protocol.specs.Moves.Move.{Asks, Arrives, TicksTicket, TicksEntry
 use Rattle.bac_protocol.proofs.Keys.{set_same, set_other, decide_key}
 use Rattle.bac_protocol.proofs.Facts.{pieces_length}
 use Rattle.bac_protocol.specs.Reuse.{Reads, ends_entry, has_transfer, idle_on_read, idle_reusing, left_on_apdu, reads_so, server_hears}
-use Rattle.bac_reuse.specs.Moves.{IsReachedSo, arrived_so, moved_so, strayed_to_server_so, taken_by_server_so}
-use Rattle.bac_reuse.specs.Moves.IsReachedSo.{Still, Moved}
-use Rattle.bac_reuse.specs.Runs.{Reusing}
-use Rattle.bac_world.specs.ReusingLogs.{Reuses}
+use Rattle.bac_reuse.specs.Moves.{IsReachedSoIn, arrived_so, moved_so, strayed_to_server_so, taken_by_server_so}
+use Rattle.bac_reuse.specs.Moves.IsReachedSoIn.{Still, Moved, Turned}
+use Rattle.bac_reuse.specs.Runs.{Reusing, with_reuses}
 use Rattle.bac_world.proofs.Machines.{Sound}
-use Rattle.bac_world.proofs.Settings.{reusing_in}
+use Rattle.bac_world.proofs.Settings.{Mode, reusing_in}
 
 push_few : (acks : List Apdu) (a : Apdu) (n : ℕ) → length acks ≤ n → length (acks ++ a ∷ []) ≤ n + 1
 push_few [] a n h = omega arith
@@ -476,14 +475,19 @@ module _ (W : ℕ) (x : Rules) (bound : IsBounded W x) (u : Reusing) where
   moved_small n s (TicksTicketAway key) = ticked_away_small n s key (n.far.tickets key)
   moved_small n s (TicksEntryAway key) = (s.0, ticks_small server_now n n.far.entries s.1 key)
 
-  reached_small : (pace : Pace) (clocks : ℕ → ℕ) (n : Net) → IsReachedSo x u (net_start pace clocks) n → Small n
-  reached_small pace clocks _ Still = (λ key. tt, λ key. tt)
-  reached_small pace clocks _ (Moved n m h) = moved_small n (reached_small pace clocks n h) m
+-- in whichever rules and setting each move is made
+pub reached_small : (W : ℕ) (ever : Reusing) (pace : Pace) (clocks : ℕ → ℕ) (reuses : ℕ → Bool) (n : Net)
+    → IsReachedSoIn (IsBounded W) ever (net_start pace clocks) reuses n → ((key : Key) → EntryFew W (n.entries key)) × ((key : Key) → EntryFew W (n.far.entries key))
+reached_small W ever pace clocks _ _ (Still reuses among) = (λ key. tt, λ key. tt)
+reached_small W ever pace clocks _ _ (Moved x bound reuses n m h) =
+    moved_small W x bound (with_reuses ever reuses) n (reached_small W ever pace clocks reuses n h) m
+reached_small W ever pace clocks _ _ (Turned x bound reuses next among n node exact store others h) =
+    moved_small W x bound (with_reuses ever reuses) n (reached_small W ever pace clocks reuses n h) (RestartsServer node exact store)
 
-module _ (W : ℕ) (x : Rules) (bound : IsBounded W x) (u : Reuses) (n : Net) (s : Sound x (Some u) n) where
+module _ (W : ℕ) (x : Rules) (bound : IsBounded W x) (mode : Mode) (n : Net) (s : Sound W x (Some mode) n) where
   pub entries_few : (key : Key) → EntryFew W (n.entries key)
-  entries_few = (reached_small W x bound (reusing_in (Some u)) s.0 s.1 n s.3).0
+  entries_few = (reached_small W (reusing_in (Some mode)) s.0 s.1 mode.now n s.3).0
 
   -- those of strangers too
   pub far_entries_few : (key : Key) → EntryFew W (n.far.entries key)
-  far_entries_few = (reached_small W x bound (reusing_in (Some u)) s.0 s.1 n s.3).1
+  far_entries_few = (reached_small W (reusing_in (Some mode)) s.0 s.1 mode.now n s.3).1

@@ -34,6 +34,7 @@ use Rattle.bac_world.specs.World.{WorldRun, IsFresh, IsBounded}
 use Rattle.bac_world.specs.World.Event.{Ask, AskAway, Deliver, Noise, Stray, Tick, Advance, Change, Restart, Begin, BeginAgain}
 use Rattle.bac_world.proofs.Pairs.{IsPaired, pairwise_get}
 use Rattle.bac_world.proofs.Bridge.{IsCopyOf, IsBetween, framed_means}
+use Rattle.bac_world.proofs.Settings.{Mode, always}
 use Rattle.bac_world.proofs.Steps.{Over, decide_number, each_with}
 use Rattle.bac_world.proofs.Asking.{accepted_is}
 use Rattle.bac_world.proofs.Headline.{run_over_so, rules_of, rules_bounded, fresh_over, reached_once_more, long_bounded, room}
@@ -351,33 +352,36 @@ node_there nodes i l at = go (slice_get nodes i) refl at
     go (Some a) e f = (a, e)
 
 module _ (links : ℕ → Option Octets) (apart : (i j : ℕ) (l : Octets) → links i ≡ Some l → links j ≡ Some l → i ≡ j) (W : ℕ) (x : Rules)
-    (bound : IsBoundedNet W x) (u : Reuses) (w : World) (n : Net) (h : Over links apart W x (Some u) w n) where
+    (bound : IsBoundedNet W x) (mode : Mode) (w : World) (n : Net) (h : Over links apart W x (Some mode) w n) where
+  abbrev u : Reuses
+  u = mode.now
+
   Result : ℕ → Node → Outcome → Type 0
-  Result = Enters links apart W x bound u w n h
+  Result = Enters links apart W x bound mode w n h
 
   copied : (number : ℕ) (c : Copy) → slice_get w.copies number ≡ Some c → IsPaired (IsCopyOf links apart) n.posts number c
   copied number c at = pairwise_get (IsCopyOf links apart) n.posts w.copies number c h.posts at
 
   by_way : (number : ℕ) (p : Post) (c : Copy) → slice_get n.posts number ≡ Some p → IsCopyOf links apart p c → (a b : Node) (o : Outcome)
       → slice_get w.nodes c.to ≡ Some a → (l : Octets) → links c.from ≡ Some l → (up : Bool) → IsBetween up p.key c.from c.to
-      → IsHeardInBy (u c.to) up (peer_at l) p.copy.apdu (told w c.to) a b o → Enters links apart W x bound u w n h c.to b o
+      → IsHeardInBy (u c.to) up (peer_at l) p.copy.apdu (told w c.to) a b o → Enters links apart W x bound mode w n h c.to b o
   by_way number p c at k a b o node l link true between turn =
-      subst (λ (i : ℕ). Enters links apart W x bound u w n h i b o) (sym between.1)
-      (server_enters links apart W x bound u w n h number p at a b o (subst (λ (i : ℕ). slice_get w.nodes i ≡ Some a) between.1 node) l
+      subst (λ (i : ℕ). Enters links apart W x bound mode w n h i b o) (sym between.1)
+      (server_enters links apart W x bound mode w n h number p at a b o (subst (λ (i : ℕ). slice_get w.nodes i ≡ Some a) between.1 node) l
       (subst (λ (i : ℕ). links i ≡ Some l) between.0 link) k.invoke (service_of a.store)
       (subst (λ (i : ℕ). IsHeardInBy (u i) true (peer_at l) p.copy.apdu (told w i) a b o) between.1 turn))
   by_way number p c at k a b o node l link false between turn =
-      subst (λ (i : ℕ). Enters links apart W x bound u w n h i b o) (sym between.1)
-      (client_enters links apart W x bound u w n h p a b o (subst (λ (i : ℕ). slice_get w.nodes i ≡ Some a) between.1 node) l
+      subst (λ (i : ℕ). Enters links apart W x bound mode w n h i b o) (sym between.1)
+      (client_enters links apart W x bound mode w n h p a b o (subst (λ (i : ℕ). slice_get w.nodes i ≡ Some a) between.1 node) l
       (subst (λ (i : ℕ). links i ≡ Some l) between.0 link) k.invoke
       (subst (λ (i : ℕ). IsHeardInBy (u i) false (peer_at l) p.copy.apdu (told w i) a b o) between.1 turn))
 
   copy_enters : (number : ℕ) (c : Copy) → slice_get w.copies number ≡ Some c → (l : Octets) → link_at w.nodes c.from ≡ Some l → (a b : Node) (o : Outcome)
-      → slice_get w.nodes c.to ≡ Some a → NodeHears (u c.to) (told w c.to) l c.octets a b o → Enters links apart W x bound u w n h c.to b o
+      → slice_get w.nodes c.to ≡ Some a → NodeHears (u c.to) (told w c.to) l c.octets a b o → Enters links apart W x bound mode w n h c.to b o
   copy_enters number c at l link a b o node on = go (heard_in (told w c.to) l c.octets a b o (u c.to) on)
     where
-      go : IsDropped (told w c.to) l c.octets a b o ⊎ IsHeardIn (u c.to) (told w c.to) l c.octets a b o → Enters links apart W x bound u w n h c.to b o
-      go (inl d) = nothing_enters links apart W x bound u w n h c.to b o
+      go : IsDropped (told w c.to) l c.octets a b o ⊎ IsHeardIn (u c.to) (told w c.to) l c.octets a b o → Enters links apart W x bound mode w n h c.to b o
+      go (inl d) = nothing_enters links apart W x bound mode w n h c.to b o
           (ap (λ (y : Outcome). y.sends) d.outcome) (ap (λ (y : Outcome). y.ended) d.outcome) (ap (λ (y : Outcome). y.performed) d.outcome)
       go (inr d) =
           let p = copied number c at in
@@ -387,15 +391,15 @@ module _ (links : ℕ → Option Octets) (apart : (i j : ℕ) (l : Octets) → l
           (subst (λ (y : Apdu). IsHeardInBy (u c.to) (is_from_client y) d.peer y (told w c.to) a b o) one.1 d.heard))
 
   outside_enters : (i : ℕ) (from octets : Octets) → IsOutside w.nodes from octets → (a b : Node) (o : Outcome) → slice_get w.nodes i ≡ Some a
-      → NodeHears (u i) (told w i) from octets a b o → Enters links apart W x bound u w n h i b o
+      → NodeHears (u i) (told w i) from octets a b o → Enters links apart W x bound mode w n h i b o
   outside_enters i from octets out a b o node on = go out (heard_in (told w i) from octets a b o (u i) on)
     where
       go : IsOutside w.nodes from octets → IsDropped (told w i) from octets a b o ⊎ IsHeardIn (u i) (told w i) from octets a b o
-          → Enters links apart W x bound u w n h i b o
-      go out (inl d) = nothing_enters links apart W x bound u w n h i b o
+          → Enters links apart W x bound mode w n h i b o
+      go out (inl d) = nothing_enters links apart W x bound mode w n h i b o
           (ap (λ (y : Outcome). y.sends) d.outcome) (ap (λ (y : Outcome). y.ended) d.outcome) (ap (λ (y : Outcome). y.performed) d.outcome)
       go (inr noise) (inr d) = absurd (noise d.peer d.apdu d.means)
-      go (inl foreign) (inr d) = stranger_enters links apart W x bound u w n h i d.peer d.apdu
+      go (inl foreign) (inr d) = stranger_enters links apart W x bound mode w n h i d.peer d.apdu
           (λ k at. foreign k (h.linked k ∙ at ∙ ap (λ (q : PeerView). Some q.link) d.means.carries.sender)) a b o node (is_from_client d.apdu) d.heard
 
   opens : Tidy w → (overtake : ℕ) → CanGoOnSo u W overtake w
@@ -407,8 +411,8 @@ module _ (links : ℕ → Option Octets) (apart : (i j : ℕ) (l : Octets) → l
     hears = λ number c at young l link a b o node on.
         let e = copy_enters number c at l link a b o node on in (e.can, e.few, e.one);
     outside = λ i from octets out a b o node on. let e = outside_enters i from octets out a b o node on in (e.can, e.few, e.one);
-    ticks = tick_enters links apart W x bound u w n h;
-    asks = ask_enters links apart W x bound u w n h;
+    ticks = tick_enters links apart W x bound mode w n h;
+    asks = ask_enters links apart W x bound mode w n h;
   }
 
 pub runs_can_go_on_so : (u : Reuses) (W overtake : ℕ) (w w' : World) → IsFresh w → IsTimely w.time.pace → IsBounded W overtake w → (events : List Event)
@@ -416,10 +420,10 @@ pub runs_can_go_on_so : (u : Reuses) (W overtake : ℕ) (w w' : World) → IsFre
 runs_can_go_on_so u W overtake w w' f timely b events run =
     let x = rules_of overtake w in
     let bound = rules_bounded W overtake w b in
-    let reached = run_over_so (link_at w.nodes) f.apart W x (Some u) bound refl (stores_of w.nodes) events w w'
-    (net_start w.time.pace (λ i. (w.time.clocks i).exact)) (fresh_over (Some u) W overtake w f timely b)
+    let reached = run_over_so (link_at w.nodes) f.apart W x (Some (always u)) bound refl (stores_of w.nodes) events w w'
+    (net_start w.time.pace (λ i. (w.time.clocks i).exact)) (fresh_over (Some (always u)) W overtake w f timely b)
     (subst (λ l. IsOnceSo u (stores_of w.nodes) l (stores_of w.nodes)) (sym f.log) (λ node. refl)) run in
-    opens (link_at w.nodes) f.apart W x bound u w' reached.0 reached.1 (tidy_run overtake u events w w' (tidy_fresh w f timely) run) overtake
+    opens (link_at w.nodes) f.apart W x bound (always u) w' reached.0 reached.1 (tidy_run overtake u events w w' (tidy_fresh w f timely) run) overtake
 
 -- where no invoke ID is used again
 pub runs_can_go_on : (W overtake : ℕ) (w w' : World) → IsFresh w → IsTimely w.time.pace → IsBounded W overtake w → (events : List Event)
@@ -432,6 +436,6 @@ pub runs_can_go_on_long : (u : Reuses) (W overtake : ℕ) (w w' : World) → IsF
     → AllAskLong events → WorldRunSo overtake u w events w' → RepliesFit w'.log → (more : List Event) (v : World) → length more ≤ 1
     → WorldRunSo overtake u w' more v → CanGoOnSo u W overtake v
 runs_can_go_on_long u W overtake w w' f timely t events asks run fits more v few last =
-    let reached = reached_once_more (Some u) W overtake w w' f timely t events asks run fits more v few last in
-    opens (link_at w.nodes) f.apart W (rules_of (room W) w) (rules_bounded W (room W) w (long_bounded W w t)) u v reached.0 reached.1
+    let reached = reached_once_more (Some (always u)) W overtake w w' f timely t events asks run fits more v few last in
+    opens (link_at w.nodes) f.apart W (rules_of (room W) w) (rules_bounded W (room W) w (long_bounded W w t)) (always u) v reached.0 reached.1
     (tidy_run overtake u more w' v (tidy_run overtake u events w w' (tidy_fresh w f timely) run) last) overtake

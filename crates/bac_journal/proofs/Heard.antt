@@ -36,7 +36,7 @@ use Rattle.bac_world.proofs.Pairs.{pairwise_none}
 use Rattle.bac_world.proofs.Bridge.{IsWay, TicketFits, here_at, there_at, key_of, slot_key}
 use Rattle.bac_world.proofs.Steps.{Over, Fits}
 use Rattle.bac_world.proofs.Serving.{each_of_server}
-use Rattle.bac_world.proofs.Settings.{end_heard, hears_at}
+use Rattle.bac_world.proofs.Settings.{end_heard, hears_at, Mode}
 use Rattle.bac_world.proofs.Reused.{hears_own, hears_same}
 use Rattle.bac_world.proofs.Hearing.{ticket_at}
 use Rattle.bac_journal.specs.Entering.{Every, CanLeave, IsNoted, IsOfClient, AreOfPeerSo, CanEnterSo}
@@ -44,14 +44,14 @@ use Rattle.bac_journal.proofs.Few.{client_gets_few, hears_few, entries_few}
 use Rattle.bac_journal.proofs.Copied.{paired_length, sent_length, leave_all, can_end}
 
 module _ (links : ℕ → Option Octets) (apart : (i j : ℕ) (l : Octets) → links i ≡ Some l → links j ≡ Some l → i ≡ j) (W : ℕ) (x : Rules)
-    (bound : IsBounded W x) (uses : Reuses) (w : World) (n : Net) (h : Over links apart W x (Some uses) w n) where
+    (bound : IsBounded W x) (mode : Mode) (w : World) (n : Net) (h : Over links apart W x (Some mode) w n) where
   pub record Enters (i : ℕ) (b : Node) (o : Outcome) : Type 0 where
-    pub can : CanEnterSo (uses i) w i b o
+    pub can : CanEnterSo (mode.now i) w i b o
     pub few : length o.sends ≤ W + 1
     pub one : length o.ended ≤ 1
 
-  pub none_performed : (i : ℕ) (b : Node) (o : Outcome) → o.performed ≡ None → AreOfPeerSo (uses i) w i b o.performed
-  none_performed i b o performed = subst (AreOfPeerSo (uses i) w i b) (sym performed) (go (uses i))
+  pub none_performed : (i : ℕ) (b : Node) (o : Outcome) → o.performed ≡ None → AreOfPeerSo (mode.now i) w i b o.performed
+  none_performed i b o performed = subst (AreOfPeerSo (mode.now i) w i b) (sym performed) (go (mode.now i))
     where
       go : (reuse : Bool) → AreOfPeerSo reuse w i b None
       go true = tt
@@ -73,7 +73,7 @@ module _ (links : ℕ → Option Octets) (apart : (i j : ℕ) (l : Octets) → l
   module _ (number : ℕ) (p : Post) (at : slice_get n.posts number ≡ Some p) (a b : Node) (o : Outcome)
       (node : slice_get w.nodes p.key.server ≡ Some a) (l : Octets)
       (client_at : links p.key.client ≡ Some l) (invoke : invoke_id_of p.copy.apdu ≡ p.key.invoke_id) (service : Service)
-      (turn : IsServerTurn (hears_at (uses p.key.server) a.settings (told w p.key.server) service (slot_key l (invoke_id_of p.copy.apdu)) p.copy.apdu a.servers)
+      (turn : IsServerTurn (hears_at (mode.now p.key.server) a.settings (told w p.key.server) service (slot_key l (invoke_id_of p.copy.apdu)) p.copy.apdu a.servers)
       (told w p.key.server) a b o) where
     abbrev key : Key
     key = p.key
@@ -84,24 +84,24 @@ module _ (links : ℕ → Option Octets) (apart : (i j : ℕ) (l : Octets) → l
     abbrev q : PeerKey
     q = slot_key l p.key.invoke_id
 
-    fits : Fits links apart W x (Some uses) w n n p.key.server a
+    fits : Fits links apart W x (Some mode) w n n p.key.server a
     fits = h.nodes p.key.server a node
 
     abbrev context : Context
     context = server_context x p.key (there_at n p.key.server)
 
     abbrev reuse : Bool
-    reuse = uses p.key.server
+    reuse = mode.now p.key.server
 
     -- the end before it is heard, and whether a slot is free then
     abbrev end : (now id : ℕ) → ServerEnd
-    end now id = end_heard (uses p.key.server) now (slot_key l id) p.copy.apdu a.servers
+    end now id = end_heard (mode.now p.key.server) now (slot_key l id) p.copy.apdu a.servers
 
     abbrev free : Bool
     free = is_free (there_at n p.key.server) (end (there_at n p.key.server) p.key.invoke_id)
 
     abbrev gets : Option ServerTransaction → server.Reaction
-    gets e = server_hears (uses p.key.server) (server_context x p.key (there_at n p.key.server)) service is_read e free p.copy.apdu
+    gets e = server_hears (mode.now p.key.server) (server_context x p.key (there_at n p.key.server)) service is_read e free p.copy.apdu
 
     abbrev v : server.Reaction
     v = gets (value_at same_key (slot_key l p.key.invoke_id) a.servers.slots)
@@ -153,10 +153,10 @@ module _ (links : ℕ → Option Octets) (apart : (i j : ℕ) (l : Octets) → l
 
     own : Each (λ y. (is_from_client y ≡ false) × (invoke_id_of y ≡ p.key.invoke_id)) u.sends
     own = each_of_server key.invoke_id u.sends
-        (hears_own context service free reuse (n.entries key) (own_of W x (Some uses) bound n h.sound key) apdu)
+        (hears_own context service free reuse (n.entries key) (own_of W x (Some mode) bound n h.sound key) apdu)
 
     ticket : (t : ClientTransaction) × (n.tickets p.key ≡ Some t)
-    ticket = ticket_of W x (Some uses) bound n h.sound number p at
+    ticket = ticket_of W x (Some mode) bound n h.sound number p at
 
     client_of : (d : Performed) → o.performed ≡ Some d → IsOfClient w p.key.server d
     client_of d is = record {
@@ -175,7 +175,7 @@ module _ (links : ℕ → Option Octets) (apart : (i j : ℕ) (l : Octets) → l
     few : length o.sends ≤ W + 1
     few =
         let small : length u.sends ≤ W + 1 = (hears_few context service W bound.some (bound.windows key.server) is_read reuse (n.entries key) free apdu
-        (entries_few W x bound uses n h.sound key)).sends in
+        (entries_few W x bound mode n h.sound key)).sends in
         let all : length o.sends ≡ length u.sends = paired_length IsSent (to_all (peer_at l) u.sends) o.sends sent ∙ sent_length l u.sends in
         omega arith
 
@@ -201,7 +201,7 @@ module _ (links : ℕ → Option Octets) (apart : (i j : ℕ) (l : Octets) → l
     still : Turn (stays a.clients) → Enters p.key.client b o
     still t = nothing_enters p.key.client b o (pairwise_none IsSent o.sends t.sends) (pairwise_none IsEndedView o.ended t.ended) t.performed
 
-    at_client : Fits links apart W x (Some uses) w n n p.key.client a
+    at_client : Fits links apart W x (Some mode) w n n p.key.client a
     at_client = h.nodes p.key.client a node
 
     goes : (k : ℕ) (t : ClientTransaction) → value_at same_key (slot_key l p.key.invoke_id) a.clients.slots ≡ Some (record { number = k; held = Open t })

@@ -37,7 +37,7 @@ use Rattle.bac_world.proofs.StrangersHeard.{live_for}
 use Rattle.bac_world.proofs.Table.{none_left}
 use Rattle.bac_world.proofs.Hearing.{ticket_at}
 use Rattle.bac_world.proofs.Heard.{IsHeardInBy}
-use Rattle.bac_world.proofs.Settings.{end_heard, hears_at}
+use Rattle.bac_world.proofs.Settings.{end_heard, hears_at, Mode}
 use Rattle.bac_world.proofs.Reused.{hears_same}
 use Rattle.bac_journal.specs.Entering.{Every, IsNoted, AreOfPeerSo}
 use Rattle.bac_journal.proofs.Few.{EntryFew, client_gets_few, hears_few, far_entries_few}
@@ -63,7 +63,7 @@ performed_key store p None d done = absurd done
 performed_key store p (Some x) d done = (x, refl, done.key)
 
 module _ (links : ℕ → Option Octets) (apart : (i j : ℕ) (l : Octets) → links i ≡ Some l → links j ≡ Some l → i ≡ j) (W : ℕ) (x : Rules)
-    (bound : IsBounded W x) (uses : Reuses) (w : World) (n : Net) (h : Over links apart W x (Some uses) w n) (i : ℕ) (peer : PeerView) (apdu : Apdu)
+    (bound : IsBounded W x) (mode : Mode) (w : World) (n : Net) (h : Over links apart W x (Some mode) w n) (i : ℕ) (peer : PeerView) (apdu : Apdu)
     (stranger : (k : ℕ) → links k ≡ Some peer.link → ⊥) (a b : Node) (o : Outcome) (node : slice_get w.nodes i ≡ Some a) where
   abbrev p : PeerKey
   p = heard_key peer apdu
@@ -71,7 +71,7 @@ module _ (links : ℕ → Option Octets) (apart : (i j : ℕ) (l : Octets) → l
   g : IsStranger links apart (heard_key peer apdu)
   g = record { none = stranger }
 
-  fits : Fits links apart W x (Some uses) w n n i a
+  fits : Fits links apart W x (Some mode) w n n i a
   fits = h.nodes i a node
 
   small : a.settings.window ≤ W
@@ -79,7 +79,7 @@ module _ (links : ℕ → Option Octets) (apart : (i j : ℕ) (l : Octets) → l
 
   -- At the server's end.
 
-  module _ (turn : IsServerTurn (hears_at (uses i) a.settings (told w i) (service_of a.store) (heard_key peer apdu) apdu a.servers) (told w i) a b o) where
+  module _ (turn : IsServerTurn (hears_at (mode.now i) a.settings (told w i) (service_of a.store) (heard_key peer apdu) apdu a.servers) (told w i) a b o) where
     abbrev now : ℕ
     now = told w i
 
@@ -103,7 +103,7 @@ module _ (links : ℕ → Option Octets) (apart : (i j : ℕ) (l : Octets) → l
     gets_so reuse e = server_hears reuse (context_of a.settings (told w i) (heard_key peer apdu)) (service_of a.store) is_read e (free reuse) apdu
 
     abbrev gets : Option ServerTransaction → server.Reaction
-    gets e = gets_so (uses i) e
+    gets e = gets_so (mode.now i) e
 
     few : length o.sends ≤ W + 1
     few =
@@ -112,9 +112,9 @@ module _ (links : ℕ → Option Octets) (apart : (i j : ℕ) (l : Octets) → l
         let live : live_entry now entry ≡ live_entry now net =
         subst (λ (t : ℕ). live_entry t entry ≡ live_entry t net) there (fits.servers.strangers p g) in
         let short : EntryFew W (live_entry now entry) =
-        subst (EntryFew W) (sym live) (few_live W now net (far_entries_few W x bound uses n h.sound (stranger_key i p))) in
-        let sends = (hears_same context service (free (uses i)) (uses i) entry apdu).sends in
-        let fewer = (hears_few context service W bound.some small is_read (uses i) (live_entry now entry) (free (uses i)) apdu short).sends in
+        subst (EntryFew W) (sym live) (few_live W now net (far_entries_few W x bound mode n h.sound (stranger_key i p))) in
+        let sends = (hears_same context service (free (mode.now i)) (mode.now i) entry apdu).sends in
+        let fewer = (hears_few context service W bound.some small is_read (mode.now i) (live_entry now entry) (free (mode.now i)) apdu short).sends in
         let same : length (gets entry).sends ≡ length (gets (live_entry now entry)).sends = ap (λ (l : List Apdu). length l) sends in
         let all : length o.sends ≡ length (gets entry).sends =
         paired_length IsSent (to_all peer (gets entry).sends) o.sends turn.sends ∙ sent_to peer (gets entry).sends in
@@ -143,12 +143,12 @@ module _ (links : ℕ → Option Octets) (apart : (i j : ℕ) (l : Octets) → l
           kept = ap (λ (y : PeerKey). value_at same_key y b.servers.slots) done.2 ∙ ap (λ (y : Node). value_at same_key p y.servers.slots) turn.node ∙ found.1;
         })
 
-    server_outside : Enters links apart W x bound uses w n h i b o
+    server_outside : Enters links apart W x bound mode w n h i b o
     server_outside = record {
       can = record {
         sends = leave_away links apart w h.linked w.notes i peer stranger (gets entry).sends o.sends turn.sends;
         ended = subst (Every (IsNoted w i)) (sym turn.ended) tt;
-        performed = of_stranger (uses i) turn o.performed refl;
+        performed = of_stranger (mode.now i) turn o.performed refl;
       };
       few = few;
       one = (let e : length o.ended ≡ 0 = ap (λ (fs : List EndedView). length fs) turn.ended in omega arith);
@@ -159,12 +159,12 @@ module _ (links : ℕ → Option Octets) (apart : (i j : ℕ) (l : Octets) → l
   abbrev Turn : ClientTurn → Type 0
   Turn t = IsClientTurn t (told w i) a b o
 
-  still : Turn (stays a.clients) → Enters links apart W x bound uses w n h i b o
-  still t = nothing_enters links apart W x bound uses w n h i b o (pairwise_none IsSent o.sends t.sends) (pairwise_none IsEndedView o.ended t.ended) t.performed
+  still : Turn (stays a.clients) → Enters links apart W x bound mode w n h i b o
+  still t = nothing_enters links apart W x bound mode w n h i b o (pairwise_none IsSent o.sends t.sends) (pairwise_none IsEndedView o.ended t.ended) t.performed
 
   goes : (k : ℕ) (t : ClientTransaction) → value_at same_key p a.clients.slots ≡ Some (record { number = k; held = Open t })
       → Turn (client_goes (told w i) a.clients p k t (client_on_apdu (context_of a.settings (told w i) p) reads_reply t apdu))
-      → Enters links apart W x bound uses w n h i b o
+      → Enters links apart W x bound mode w n h i b o
   goes k t found turn =
       let context : Context = context_of a.settings (told w i) p in
       let r : client.Reaction = client_on_apdu context reads_reply t apdu in
@@ -180,22 +180,22 @@ module _ (links : ℕ → Option Octets) (apart : (i j : ℕ) (l : Octets) → l
         can = record {
           sends = leave_away links apart w h.linked w.notes i peer stranger (client.sends_of r) o.sends turn.sends;
           ended = ends.0;
-          performed = none_performed links apart W x bound uses w n h i b o turn.performed;
+          performed = none_performed links apart W x bound mode w n h i b o turn.performed;
         };
         few = omega arith;
         one = ends.1;
       }
 
   held : (k : ℕ) (y : TransactionSlot) → value_at same_key p a.clients.slots ≡ Some (record { number = k; held = y })
-      → Turn (requester_on_apdu_in_slot a.settings reads_reply (told w i) apdu a.clients p k y) → Enters links apart W x bound uses w n h i b o
+      → Turn (requester_on_apdu_in_slot a.settings reads_reply (told w i) apdu a.clients p k y) → Enters links apart W x bound mode w n h i b o
   held k (Closed first) is turn = still turn
   held k (Open t) is turn = goes k t is turn
 
   slot : (found : Option Client) → value_at same_key p a.clients.slots ≡ found
-      → Turn (requester_on_apdu_at a.settings reads_reply (told w i) apdu a.clients p found) → Enters links apart W x bound uses w n h i b o
+      → Turn (requester_on_apdu_at a.settings reads_reply (told w i) apdu a.clients p found) → Enters links apart W x bound mode w n h i b o
   slot None is turn = still turn
   slot (Some v) is turn = held v.number v.held is turn
 
-  pub stranger_enters : (up : Bool) → IsHeardInBy (uses i) up peer apdu (told w i) a b o → Enters links apart W x bound uses w n h i b o
+  pub stranger_enters : (up : Bool) → IsHeardInBy (mode.now i) up peer apdu (told w i) a b o → Enters links apart W x bound mode w n h i b o
   stranger_enters true turn = server_outside turn
   stranger_enters false turn = slot (value_at same_key p a.clients.slots) refl turn

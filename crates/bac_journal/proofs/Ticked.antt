@@ -30,7 +30,7 @@ use Rattle.bac_world.specs.World.{World, Note, told, link_at, peer_at, newest, a
 use Rattle.bac_transaction.proofs.KeyedSlots.{EachSlot, each_so, each_in_order}
 use Rattle.bac_world.specs.ReusingLogs.{Reuses}
 use Rattle.bac_world.proofs.Machines.{own_of}
-use Rattle.bac_world.proofs.Settings.{reusing_in}
+use Rattle.bac_world.proofs.Settings.{Mode, reusing_in}
 use Rattle.bac_world.proofs.Pairs.{pairwise_split}
 use Rattle.bac_world.proofs.Bridge.{IsKnown, IsStranger, TicketFits, out_key, here_at, there_at, key_of, slot_key}
 use Rattle.bac_world.proofs.Steps.{Over, Fits}
@@ -42,7 +42,7 @@ use Rattle.bac_journal.proofs.Few.{asks_few}
 use Rattle.bac_journal.proofs.Copied.{every_join, paired_length, sent_length, each_found, can_all, leave_all, leave_away, can_end}
 
 module _ (links : ℕ → Option Octets) (apart : (i j : ℕ) (l : Octets) → links i ≡ Some l → links j ≡ Some l → i ≡ j) (W : ℕ) (x : Rules)
-    (bound : IsBounded W x) (uses : Reuses) (w : World) (n : Net) (h : Over links apart W x (Some uses) w n) where
+    (bound : IsBounded W x) (mode : Mode) (w : World) (n : Net) (h : Over links apart W x (Some mode) w n) where
   -- Ticks.
 
   module _ (i : ℕ) (a : Node) (at : slice_get w.nodes i ≡ Some a) (c : Settings) where
@@ -52,7 +52,7 @@ module _ (links : ℕ → Option Octets) (apart : (i j : ℕ) (l : Octets) → l
     abbrev entries : List ServerSlot
     entries = a.servers.slots
 
-    fits : Fits links apart W x (Some uses) w n n i a
+    fits : Fits links apart W x (Some mode) w n n i a
     fits = h.nodes i a at
 
     peer_is : (q : PeerKey) → (k : IsKnown links apart q) → q ≡ slot_key k.link q.invoke_id
@@ -157,7 +157,7 @@ module _ (links : ℕ → Option Octets) (apart : (i j : ℕ) (l : Octets) → l
     entry_asked key d is = go (n.tickets key) refl
       where
         go : (o : Option ClientTransaction) → n.tickets key ≡ o → WasAsked w.notes key
-        go None e = absurd (let no : Some d ≡ None = sym is ∙ (moves.in_order_so W x (reusing_in (Some uses)) bound h.sound.0 h.sound.2 h.sound.1 n h.sound.3).entered key e in cc)
+        go None e = absurd (let no : Some d ≡ None = sym is ∙ (moves.in_order_so_in W (reusing_in (Some mode)) h.sound.0 h.sound.2 h.sound.1 mode.now n h.sound.3).entered key e in cc)
         go (Some t) e = (n.numbers key, h.noted key t e)
 
     live_sends : (d : ServerTransaction) (q : PeerKey) → (k : IsKnown links apart q) → value_at same_key q a.servers.slots ≡ Some d → is_live (told w i) d ≡ true
@@ -169,7 +169,7 @@ module _ (links : ℕ → Option Octets) (apart : (i j : ℕ) (l : Octets) → l
         let live' : is_live (there_at n i) d ≡ true = ap (λ (t : ℕ). is_live t d) (ap (λ (y : Clock). y.shows) (h.there i)) ∙ live in
         let here : n.entries key ≡ Some d = live_own d live' (n.entries key)
         (ap (live_entry (there_at n i)) (sym there) ∙ fits.servers.found k.node k.link q.invoke_id k.at) in
-        let own : IsOwnEntry q.invoke_id (Some d) = subst (IsOwnEntry q.invoke_id) here (own_of W x (Some uses) bound n h.sound key) in
+        let own : IsOwnEntry q.invoke_id (Some d) = subst (IsOwnEntry q.invoke_id) here (own_of W x (Some mode) bound n h.sound key) in
         let sends : List Apdu = (server_ticks (context_of c (told w i) q) (Some d)).sends in
         leave_all links apart w h.linked false key i k.node a.link k.link (record { between = (refl, refl); from = fits.link; to = k.at })
         w.notes (entry_asked key d here) sends ds
