@@ -5,6 +5,7 @@ ghost use Rattle.bac_text.specs.declared.status.Status.TheVariants as status;
 ghost use Rattle.bac_reading.specs.Reports.{IsReport, IsReportedFile};
 ghost use Rattle.bac_environment.specs.Files.{OnFile};
 
+use crate::captures::begins_capture;
 use crate::files::reader_of;
 use crate::reasons::print_unfit;
 use bac_capture::{Ports, check_capture_over};
