@@ -284,7 +284,7 @@ fn serve_round<
     out: &mut O,
     err: &mut E,
 ) -> (Status, Option<K>)
-    requires { K.IsHonest (keeper_in round) → IsKept K.IsOpen K.kept K.noted (keeper_in round) served.entry.store }
+    requires { K.IsHonest (keeper_in round) → IsKept K.IsOpen K.kept K.noted (keeper_in round) served.store }
     ensures { IsServedStore (is_some served.entry.followed) served.entry.store (OnPort M.is_bound M.Link.failures M.Link.calls) (OnClock M.is_made M.Timer.told)
         result.0 serving.now (EndsWith K.IsHonest K.IsOpen K.kept K.noted K.base (is_some served.entry.followed) (keeper_in round) result.1)
         (O.contents out.old) (O.contents out.new) }
