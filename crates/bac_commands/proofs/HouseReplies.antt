@@ -109,7 +109,7 @@ abbrev IsSmallFound : Option Property → Type 0
 IsSmallFound found = IfSome found IsSmallProperty
 
 abbrev sized : Object → ℕ → Option Property
-sized o n = if n == FILE_SIZE then option_map file_size o.file else listed_in o n
+sized o n = if n == FILE_SIZE then option_map (file_size o) o.file else listed_in o n
 
 abbrev accessed : Object → ℕ → Option Property
 accessed o n = if n == FILE_ACCESS_METHOD then option_map access_method o.file else sized o n
@@ -122,8 +122,8 @@ named o n = if n == OBJECT_NAME then Some (computed n (characters 0 o.name)) els
 
 sized_small : (o : Object) (n : ℕ) → IsSmall o → IsSmallFound (sized o n)
 sized_small o n small =
-    if_both IsSmallFound (n == FILE_SIZE) (option_map file_size o.file) (listed_in o n)
-    (λ e. mapped IsSmallProperty file_size o.file (λ f. record { values = unsigned_small (length f.octets); single = refl }))
+    if_both IsSmallFound (n == FILE_SIZE) (option_map (file_size o) o.file) (listed_in o n)
+    (λ e. mapped IsSmallProperty (file_size o) o.file (λ f. record { values = unsigned_small (length f.octets); single = refl }))
     (λ e. first_each IsSmallProperty (is_number n) o.properties small.listed)
 
 accessed_small : (o : Object) (n : ℕ) → IsSmall o → IsSmallFound (accessed o n)
