@@ -243,7 +243,7 @@ module _ (links : ℕ → Option Octets) (apart : (i j : ℕ) (l : Octets) → l
       in_stretch =
           let bound = bounded_with W V some fits s.settings windows in
           let t = turns ever o.now s.reuses o.among among s.settings bound V opening u v o.net (set_over ever o.now o.among o.settings s.settings w o.net o.over u set)
-              (set_once ever o.now o.among o.settings s.settings w o.net o.over u set opening o.right) s.events turning run in
+          (set_once ever o.now o.among o.settings s.settings w o.net o.over u set opening o.right) s.events turning run in
           run_over_so links apart W (rules_with V s.settings) (Some (mode ever s.reuses among)) bound refl opening t.rest t.world v t.net t.over t.right t.run
 
       pub stretch_over : (q : IsOver v) × (q.now ≡ s.reuses)
