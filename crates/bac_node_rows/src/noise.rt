@@ -1,79 +1,66 @@
 //! Noise in worlds: octets from a link of no node.
 use crate::scene::link;
 use bac_network::{Event, World};
-use std::alloc::Global;
+use bac_rows::row::Row;
 
-/// Octets that come to a node from a link of no node.
-fn noise_at(alloc: Global, node: usize, octets: &[u8]) -> Option<Event> {
-    Some(Event::Noise {
+/// Octets come to a node from a link of no node.
+fn comes(world: &mut World, node: usize, octets: Vec<u8>, row: &mut Row<'_>) {
+    let noise = Event::Noise {
         node,
         from: link(9),
-        octets: octets.to_vec(alloc).ok()?,
-    })
+        octets,
+    };
+    row.needs(world.step(&noise).is_ok());
 }
 
-/// The octets of a copy come to a node from a link of no node.
-fn copied(alloc: Global, world: &World, node: usize, number: usize) -> Option<Event> {
+/// So many of the first octets of a copy.
+fn front(world: &World, number: usize, len: usize, row: &mut Row<'_>) -> Vec<u8> {
+    let mut front = Vec::new(row.alloc);
+    if let Some(copy) = world.copies().get(number) {
+        row.needs(
+            front
+                .extend_from_slice(copy.octets.get(..len).unwrap_or(&[]))
+                .is_ok(),
+        );
+    }
+    front
+}
+
+/// How many octets a copy has.
+fn len_of(world: &World, number: usize) -> usize {
     match world.copies().get(number) {
-        Some(copy) => noise_at(alloc, node, &copy.octets),
-        None => None,
+        Some(copy) => copy.octets.len(),
+        None => 0,
     }
 }
 
-/// Drops the last octet of noise; whether there was one.
-fn shorten(noise: &mut Event) -> bool {
-    match noise {
-        Event::Noise { octets, .. } => octets.pop().is_some(),
-        _ => false,
+/// Each proper prefix of a copy comes to a node, the longest first.
+fn prefixes_come(world: &mut World, node: usize, number: usize, row: &mut Row<'_>) {
+    let len = len_of(world, number);
+    for shorter in 0..len {
+        let octets = front(world, number, len - 1 - shorter, row);
+        comes(world, node, octets, row);
     }
-}
-
-fn comes(world: &mut World, noise: &Event) -> Option<()> {
-    match world.step(noise) {
-        Ok(_) => Some(()),
-        Err(_) => None,
-    }
-}
-
-/// How many octets noise has.
-fn len_of(noise: &Event) -> usize {
-    match noise {
-        Event::Noise { octets, .. } => octets.len(),
-        _ => 0,
-    }
-}
-
-/// Each proper prefix of these octets comes, the longest first.
-fn prefixes_come(world: &mut World, noise: &mut Event) -> Option<()> {
-    for _ in 0..len_of(noise) {
-        if shorten(noise) {
-            comes(world, noise)?;
-        }
-    }
-    Some(())
 }
 
 /// Each proper prefix of each datagram that was sent comes to a node.
-fn noise_comes(alloc: Global, world: &mut World, node: usize) -> Option<()> {
+fn noise_comes(world: &mut World, node: usize, row: &mut Row<'_>) {
     for number in 0..world.copies().len() {
-        let mut noise = copied(alloc, world, node, number)?;
-        prefixes_come(world, &mut noise)?;
+        prefixes_come(world, node, number, row);
     }
-    Some(())
 }
 
 /// Each proper prefix of each datagram that was sent comes to each node.
-pub(crate) fn all_noise_comes(alloc: Global, world: &mut World) -> Option<()> {
+pub(crate) fn all_noise_comes(world: &mut World, row: &mut Row<'_>) {
     for node in 0..world.nodes().len() {
-        noise_comes(alloc, world, node)?;
+        noise_comes(world, node, row);
     }
-    Some(())
 }
 
 /// No octets come to each node.
-pub(crate) fn no_octets_come(alloc: Global, world: &mut World) -> Option<()> {
+pub(crate) fn no_octets_come(world: &mut World, row: &mut Row<'_>) {
     for node in 0..world.nodes().len() {
-        comes(world, &noise_at(alloc, node, &[])?)?;
+        let none = Vec::new(row.alloc);
+        comes(world, node, none, row);
     }
-    Some(())
 }
