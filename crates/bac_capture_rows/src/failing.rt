@@ -45,14 +45,21 @@ pub(crate) fn input(row: &mut Row<'_>) {
     }
 }
 
+/// Prints how a file ends whose output has that room.
+fn print_short(print: Print, file: &[u8], mut room: &mut [u8], row: &mut Row<'_>) {
+    let mut input = file;
+    let mut err = Vec::new(row.alloc);
+    let code = status_of(row.alloc, print, &mut input, &mut room, &mut err);
+    print_end(code, &err, row);
+}
+
 /// `ROOM HEX`: an output that has room for so many octets, of 40 at most, without other functions by name or with them.
 pub(crate) fn output(print: Print, row: &mut Row<'_>) {
     let room = row.number() as usize;
-    let octets = octets(row);
-    let mut input = octets.as_slice();
+    let file = octets(row);
     let mut room_for = [0u8; 40];
-    let mut short = room_for.get_mut(..room).unwrap_or(&mut []);
-    let mut err = Vec::new(row.alloc);
-    let code = status_of(row.alloc, print, &mut input, &mut short, &mut err);
-    print_end(code, &err, row);
+    match room_for.get_mut(..room) {
+        Some(short) => print_short(print, &file, short, row),
+        None => row.fail(),
+    }
 }

@@ -33,11 +33,9 @@ fn decode(in_words: bool, text: &str, row: &mut Row<'_>) {
 /// Prints the layers of an NPDU in its BVLL.
 fn decode_npdu(in_words: bool, row: &mut Row<'_>) {
     let npdu = row.words;
-    let [high, low] = ((npdu.len() / 2 % 65_536 + 4) as u16).to_be_bytes();
+    let len = npdu.len() / 2 % 65_536 + 4;
     let mut text = Row::new(row.alloc, "");
-    text.say("810A");
-    text.say_octets(&[high, low]);
-    text.say(npdu);
+    text.show(format_args!("810A{len:04X}{npdu}"));
     decode(in_words, text.text(), row);
 }
 

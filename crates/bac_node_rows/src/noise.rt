@@ -3,50 +3,55 @@ use crate::scene::link;
 use bac_network::{Event, World};
 use bac_rows::row::Row;
 
-/// Octets come to a node from a link of no node.
-fn comes(world: &mut World, node: usize, octets: Vec<u8>, row: &mut Row<'_>) {
-    let noise = Event::Noise {
+/// Octets that come to a node from a link of no node.
+fn noise_at(node: usize, octets: &[u8], row: &mut Row<'_>) -> Event {
+    let mut copy = Vec::new(row.alloc);
+    row.needs(copy.extend_from_slice(octets).is_ok());
+    Event::Noise {
         node,
         from: link(9),
-        octets,
-    };
-    row.needs(world.step(&noise).is_ok());
-}
-
-/// So many of the first octets of a copy.
-fn front(world: &World, number: usize, len: usize, row: &mut Row<'_>) -> Vec<u8> {
-    let mut front = Vec::new(row.alloc);
-    if let Some(copy) = world.copies().get(number) {
-        row.needs(
-            front
-                .extend_from_slice(copy.octets.get(..len).unwrap_or(&[]))
-                .is_ok(),
-        );
+        octets: copy,
     }
-    front
 }
 
-/// How many octets a copy has.
-fn len_of(world: &World, number: usize) -> usize {
+/// The octets of a copy come to a node from a link of no node.
+fn copied(world: &World, node: usize, number: usize, row: &mut Row<'_>) -> Event {
     match world.copies().get(number) {
-        Some(copy) => copy.octets.len(),
-        None => 0,
+        Some(copy) => noise_at(node, &copy.octets, row),
+        None => noise_at(node, &[], row),
     }
 }
 
-/// Each proper prefix of a copy comes to a node, the longest first.
-fn prefixes_come(world: &mut World, node: usize, number: usize, row: &mut Row<'_>) {
-    let len = len_of(world, number);
-    for shorter in 0..len {
-        let octets = front(world, number, len - 1 - shorter, row);
-        comes(world, node, octets, row);
+/// Drops the last octet of noise; whether there was one.
+fn shorten(noise: &mut Event) -> bool {
+    match noise {
+        Event::Noise { octets, .. } => octets.pop().is_some(),
+        _ => false,
+    }
+}
+
+/// How many octets noise has.
+fn len_of(noise: &Event) -> usize {
+    match noise {
+        Event::Noise { octets, .. } => octets.len(),
+        _ => 0,
+    }
+}
+
+/// Each proper prefix of these octets comes, the longest first.
+fn prefixes_come(world: &mut World, noise: &mut Event, row: &mut Row<'_>) {
+    for _ in 0..len_of(noise) {
+        if shorten(noise) {
+            row.needs(world.step(noise).is_ok());
+        }
     }
 }
 
 /// Each proper prefix of each datagram that was sent comes to a node.
 fn noise_comes(world: &mut World, node: usize, row: &mut Row<'_>) {
     for number in 0..world.copies().len() {
-        prefixes_come(world, node, number, row);
+        let mut noise = copied(world, node, number, row);
+        prefixes_come(world, &mut noise, row);
     }
 }
 
@@ -60,7 +65,7 @@ pub(crate) fn all_noise_comes(world: &mut World, row: &mut Row<'_>) {
 /// No octets come to each node.
 pub(crate) fn no_octets_come(world: &mut World, row: &mut Row<'_>) {
     for node in 0..world.nodes().len() {
-        let none = Vec::new(row.alloc);
-        comes(world, node, none, row);
+        let noise = noise_at(node, &[], row);
+        row.needs(world.step(&noise).is_ok());
     }
 }
