@@ -1,5 +1,5 @@
 -- The cells that are told are those that are noted, so they make the store.
-use Rattle.std.proofs.Common.{◌≡◌, ℕ, zero, suc, ◌<◌, ◌≤◌, Bool, true, false, ◌&&◌, ◌==◌, nat_lt, List, [], ◌∷◌, Option, Some, None, refl, sym, ap, ◌∙◌, arith, if◌then◌else◌}
+use Rattle.std.proofs.Common.{◌≡◌, ◌≢◌, ℕ, zero, suc, ◌<◌, ◌≤◌, Bool, true, false, ◌&&◌, ◌==◌, nat_lt, List, [], ◌∷◌, Option, Some, None, refl, sym, ap, ◌∙◌, arith, if◌then◌else◌}
 use Rattle.std.specs.Option.{IfSome}
 use Rattle.std.proofs.lemmas.Bool.Decides.{nat_tests}
 use Rattle.bac_value.specs.Value.{ObjectId}
@@ -7,6 +7,7 @@ use Rattle.bac_service.specs.Values.Request.{ReadFile, WriteFile, ReadProperty, 
 use Rattle.bac_store.specs.AtNode.{Change}
 use Rattle.bac_store.specs.Changes.{is_done}
 use Rattle.bac_store.specs.Kept.{IsInOrder}
+use Rattle.bac_store.specs.Limits.{FILE_SIZE}
 use Rattle.bac_store.specs.Replies.{reply_to}
 use Rattle.bac_store.specs.Stores.{File, Property, Store}
 use Rattle.bac_store.specs.Writes.{file_at, listed_at}
@@ -16,7 +17,7 @@ use Rattle.bac_keep.specs.Made.Made.{Changed, Performed}
 use Rattle.bac_keep.specs.Noted.{chunk_count, octets_noted, values_noted, with_octets_of, with_property}
 use Rattle.bac_keep.specs.Overlay.{chunk, overlay, with_chunks, with_file}
 use Rattle.bac_c.specs.Telling.{CONTENTS, HasPlaces, Told, count_part, has_cell, octets_count, octets_told, part_told, put, put_all, put_first, put_made, value_told, values_count}
-use Rattle.bac_keep.proofs.Notes.{changed_octets, changed_value, performed_octets, performed_value}
+use Rattle.bac_keep.proofs.Notes.{changed_octets, changed_value, performed_octets, performed_size, performed_value}
 
 -- ---- of a property
 
@@ -100,10 +101,19 @@ keeps document s cells (Performed (ReadProperty r)) order s_order places keepabl
 keeps document s cells (Performed (WriteFile id access)) order s_order places keepable is =
     ap (λ (x : Cells). overlay x document) (octets_put s id cells)
     ∙ performed_octets cells document order s (Performed (WriteFile id access)) is keepable s_order id access refl places
-keeps document s cells (Performed (WriteProperty r values priority)) order s_order places keepable is =
-    ap (λ (x : Cells). overlay x document) (values_put s r.object r.property cells places.1)
-    ∙ performed_value cells document order s (Performed (WriteProperty r values priority)) is keepable r values priority refl places.0
-    (small_if r.property (listed_at s r.object r.property) places.1)
+keeps document s cells (Performed (WriteProperty r values priority)) order s_order places keepable is = go (r.property == FILE_SIZE) refl
+  where
+    go : (b : Bool) → (r.property == FILE_SIZE) ≡ b
+        → overlay (put_all s r.object (if b then CONTENTS else r.property) cells) document ≡ s
+    go true e =
+        let size : r.property ≡ FILE_SIZE = grind (arith, nat_tests) in
+        ap (λ (x : Cells). overlay x document) (octets_put s r.object cells)
+        ∙ performed_size cells document order s (Performed (WriteProperty r values priority)) is keepable s_order r values priority size refl places.0
+    go false e =
+        let other : r.property ≢ FILE_SIZE = grind (arith, nat_tests) in
+        ap (λ (x : Cells). overlay x document) (values_put s r.object r.property cells places.1)
+        ∙ performed_value cells document order s (Performed (WriteProperty r values priority)) is keepable r values priority other refl places.0
+        (small_if r.property (listed_at s r.object r.property) places.1)
 keeps document s cells (Changed (Change.Value id n octets)) order s_order places keepable is =
     ap (λ (x : Cells). overlay x document) (values_put s id n cells places.1)
     ∙ changed_value cells document order s (Changed (Change.Value id n octets)) is keepable id n octets refl places.0 (small_if n (listed_at s id n) places.1)

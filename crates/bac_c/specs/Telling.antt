@@ -5,6 +5,7 @@ use Rattle.bac_service.specs.Choices.{is_read_service}
 use Rattle.bac_service.specs.Values.{object_asked, property_asked, service_asked}
 use Rattle.bac_service.specs.Values.{Reference}
 use Rattle.bac_store.specs.AtNode.{Change}
+use Rattle.bac_store.specs.Limits.{FILE_SIZE}
 use Rattle.bac_store.specs.Stores.{File, Property, Store}
 use Rattle.bac_store.specs.Writes.{file_at, listed_at}
 use Rattle.bac_keep.specs.Cells.{Cells, Fits, NUMBERS, file_place, value_place, with_cell}
@@ -31,7 +32,7 @@ CONTENTS = 4294967295
 
 abbrev pub number_told : Option Reference → ℕ
 number_told None = CONTENTS
-number_told (Some r) = r.property
+number_told (Some r) = if r.property == FILE_SIZE then CONTENTS else r.property
 
 -- ---- of a property: one cell, where the network may write it
 

@@ -14,6 +14,7 @@ use crate::records::Reference;
 use crate::telling::{CONTENTS, cell_out, cells_of};
 use bac_responder::Act;
 use bac_service::{PropertyReference, Request};
+use bac_store::FILE_SIZE;
 use bac_value::ObjectIdentifier;
 use std::alloc::Global;
 
@@ -29,13 +30,13 @@ fn whole(object: ObjectIdentifier, property: u32) -> Reference
     }
 }
 
-/// The number of a property; of a file that of its octets.
+/// The number of a property. Of a file it is that of its octets, which a write of its size changes too.
 fn number_of(property: Option<PropertyReference>) -> u32
     ensures { result ≡ number_told (option_map property_reference_view property) }
 {
     match property {
-        Some(reference) => reference.property,
-        None => CONTENTS,
+        Some(reference) if reference.property != FILE_SIZE => reference.property,
+        _ => CONTENTS,
     }
 }
 
