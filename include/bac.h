@@ -371,8 +371,8 @@ size_t bac_end(const bac_node *node, size_t index, bac_ending *ending, uint8_t *
  * file). Where act->service is 7 or 15 and act->done holds, they were written: act on it. */
 size_t bac_performed(const bac_node *node, bac_act *act, uint8_t *out, size_t room);
 
-/* Whether that request wrote something; if so, written says what: a property, or, with BAC_WHOLE in place of its number, the octets of a file. Otherwise
- * nothing is written to it. */
+/* Whether that request wrote something; if so, written says what: a property, or, with BAC_WHOLE in place of its number, the octets of a file, which a
+ * write of its file-size changes too. Otherwise nothing is written to it. */
 bool bac_written(const bac_node *node, bac_reference *written);
 
 /* Why the last datagram was dropped: 0 it was not, 1 no BVLL that the node takes (also a broadcast or a forwarded NPDU), 2 no NPDU, 3 routed elsewhere, 4 a
