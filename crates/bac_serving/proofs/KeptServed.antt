@@ -10,7 +10,7 @@ use Rattle.bac_driver.specs.Runs.{Timed}
 use Rattle.bac_driver.specs.Seen.{Watcher}
 use Rattle.bac_driver.specs.declared.round.Round.{Round}
 use Rattle.bac_driver.specs.declared.wait_limit.WaitLimit.{WaitLimit}
-use Rattle.bac_commands.specs.Kept.{AllIsKept, EndsKept, IsKeptByStatus, ReportsKept, RoundsText, Unseen, unwatched}
+use Rattle.bac_commands.specs.Kept.{EndsKept, IsKeptByStatus, ReportsKept, RoundsText, Unseen, unwatched}
 use Rattle.bac_commands.specs.Statuses.{ByStatus}
 use Rattle.bac_commands.proofs.Unwatched.{text_of}
 use Rattle.bac_serving.specs.Keeping.{EndsWith, IsServedStore, Runs, RunsInRounds, RunsInStretches, RunsTo}

@@ -1,5 +1,4 @@
 -- Over the document, which is followed where that is told.
-use Rattle.std.proofs.Common.{subst}
 use Rattle.bac_environment.proofs.Statuses.{lifted}
 use Rattle.bac_serving.proofs.keeping.serve_kept.Goals as goal
 

@@ -1,7 +1,4 @@
 -- It serves in rounds; in stretches, where the document is followed.
-use Rattle.std.proofs.Common.{List, Option, subst}
-use Rattle.bac_driver.specs.Kept.{keeper_of}
-use Rattle.bac_driver.specs.Runs.{timed}
 use Rattle.bac_environment.specs.Sockets.{OnClock, OnPort}
 use Rattle.bac_serving.proofs.KeptServed.{served_so}
 use Rattle.bac_serving.proofs.keeping.serve_round.Goals as goal
