@@ -2,6 +2,7 @@ pub mod AsEver
 pub mod Settings
 pub mod Turned
 pub mod Runs
+pub mod Anew
 pub mod StoresReply
 pub mod LongApdus
 pub mod Chained

@@ -30,7 +30,7 @@ use Rattle.bac_world.specs.World.{Event, IsBounded, IsFresh, Life, RunsOn, World
 use Rattle.bac_world.specs.World.Event.{Advance, Ask, AskAway, Begin, BeginAgain, Change, Deliver, Noise, Restart, Stray, Tick}
 use Rattle.bac_world.proofs.Headline.{fresh_over, rules_bounded, rules_of, run_over_so}
 use Rattle.bac_world.proofs.Heard.{IsHeardIn, IsHeardInBy, heard_in}
-use Rattle.bac_world.proofs.Settings.{end_heard}
+use Rattle.bac_world.proofs.Settings.{always, end_heard}
 use Rattle.bac_world.proofs.Steps.{Over}
 use Rattle.bac_plant.specs.Writes.{AddsNothingFor, HearsNoOther, KeepsWrite, KeptOctets, PerformsWrite, WritesActOnce, kept_by}
 use Rattle.bac_plant.proofs.WritesGathering.{NoneWholeIn}
@@ -72,12 +72,12 @@ module _ (links : ℕ → Option Octets) (apart : (i j : ℕ) (l : Octets) → l
   -- a world that a run leads to
   record Reached (v : World) : Type 0 where
     net : Net
-    over : Over links apart W x (Some u) v net
+    over : Over links apart W x (Some (always u)) v net
     once : IsOnceSo u opening v.log (stores_of v.nodes)
 
   reaches : (es : List Event) (v v' : World) → Reached v → WorldRunSo x.overtake u v es v' → Reached v'
   reaches es v v' r run =
-      let m = run_over_so links apart W x (Some u) bound readable opening es v v' r.net r.over r.once run in
+      let m = run_over_so links apart W x (Some (always u)) bound readable opening es v v' r.net r.over r.once run in
       record { net = m.0; over = m.1; once = m.2 }
 
   one_event : (e : Event) (v v' : World) → Reached v → WorldStepSo x.overtake u v e v' → Reached v'
@@ -158,7 +158,7 @@ module _ (W overtake : ℕ) (u : Reuses) (first old new : World) (fresh : IsFres
   started : At first
   started = record {
     net = net_start first.time.pace (λ i. (first.time.clocks i).exact);
-    over = fresh_over (Some u) W overtake first fresh timely bounded;
+    over = fresh_over (Some (always u)) W overtake first fresh timely bounded;
     once = subst (λ (l : List Fact). IsOnceSo u (stores_of first.nodes) l (stores_of first.nodes)) (sym fresh.log) (λ i. refl);
   }
 

@@ -15,7 +15,7 @@ use Rattle.bac_protocol.specs.Transaction.{Key, Rules}
 use Rattle.bac_protocol.specs.Wire.{is_from_client}
 use Rattle.bac_protocol.specs.World.{Net}
 use Rattle.bac_protocol.proofs.Paces.{shows_on}
-use Rattle.bac_reuse.proofs.ReusingMoves.{in_order_so}
+use Rattle.bac_reuse.proofs.ReusingMoves.{in_order_so_in}
 use Rattle.bac_slots.specs.Slots.{IsDistinct, keep, value_at}
 use Rattle.bac_transaction.specs.Ends.{act_at, context_of, is_free, key_of}
 use Rattle.bac_transaction.specs.Keys.{PeerKey, same_key}
@@ -31,7 +31,7 @@ use Rattle.bac_world.specs.World.{Copy, Event, IsOfNone, IsWithNode, Life, RunsO
 use Rattle.bac_world.specs.World.Event.{Advance, Ask, AskAway, Begin, BeginAgain, Change, Deliver, Noise, Restart, Stray, Tick}
 use Rattle.bac_world.proofs.Heard.{IsHeardIn, IsHeardInBy, heard_in}
 use Rattle.bac_world.proofs.ServerTick.{entry_tick}
-use Rattle.bac_world.proofs.Settings.{end_heard, reusing_in}
+use Rattle.bac_world.proofs.Settings.{always, end_heard, reusing_in}
 use Rattle.bac_world.proofs.Steps.{Over, decide_number, each_with}
 use Rattle.bac_plant.specs.Writes.{AddsNothingFor, HearsNoOther, IsNoOther, KeptOctets}
 use Rattle.bac_plant.proofs.WritesKept.{HasKept, none_performed, other_kept, own_kept, table, tick_kept}
@@ -134,7 +134,7 @@ module _ (begin choice : ℕ) (request : KeptOctets) (key : PeerKey) where
   }
 
   module _ (links : ℕ → Option Octets) (apart : (i j : ℕ) (l : Octets) → links i ≡ Some l → links j ≡ Some l → i ≡ j) (W : ℕ) (x : Rules)
-      (bound : IsBounded W x) (u : Reuses) (v : World) (n : Net) (h : Over links apart W x (Some u) v n) (node : ℕ) where
+      (bound : IsBounded W x) (u : Reuses) (v : World) (n : Net) (h : Over links apart W x (Some (always u)) v n) (node : ℕ) where
     module _ (young : told v node ≤ begin + KEEP) (was : KeptAt v.nodes node) (v' : World) where
       hears_went : (i : ℕ) (from octets : Octets)
           → (i ≡ node → (peer : PeerView) (p : Apdu) → Means SpellsApdu from octets peer p → key_of peer p ≡ key → IsNoOther choice request p)
@@ -234,7 +234,7 @@ module _ (begin choice : ℕ) (request : KeptOctets) (key : PeerKey) where
     goes : (by own : ℕ) → told v node ≤ (goes_on v.time.pace by own (v.time.clocks node)).shows
     goes by own =
         let key : Key = record { client = node; server = node; invoke_id = 0 } in
-        let ticking = (in_order_so W x (reusing_in (Some u)) bound h.sound.0 h.sound.2 h.sound.1 n h.sound.3).ticking key in
+        let ticking = (in_order_so_in W (reusing_in (Some (always u))) h.sound.0 h.sound.2 h.sound.1 u n h.sound.3).ticking key in
         let some : 0 < v.time.pace.grain = subst (λ p. 0 < p.grain) h.pace ticking.some in
         shows_on v.time.pace some by own (v.time.clocks node)
         (subst (λ p. IsShown p (v.time.clocks node)) h.pace (subst (λ (c : Clock). IsShown n.pace c) (h.there node) ticking.server))

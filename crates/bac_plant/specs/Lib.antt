@@ -1,6 +1,7 @@
 pub mod Plants
 pub mod Network
 pub mod Steps
+pub mod Anew
 pub mod Events
 pub mod NextSteps
 pub mod Composed

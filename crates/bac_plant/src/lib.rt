@@ -4,6 +4,7 @@
 #![tactic(auto)]
 
 pub mod examples;
+pub mod other_settings;
 mod overtaking;
 mod power;
 mod replies;

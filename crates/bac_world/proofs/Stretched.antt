@@ -236,34 +236,35 @@ module _ (links : ℕ → Option Octets) (apart : (i j : ℕ) (l : Octets) → l
       pub over : OverIn ever now among settings w net
       pub right : IsOnceSo ever opening w.log (stores_of w.nodes)
 
+    -- one stretch
+    module _ (s : Stretch) (w u v : World) (o : IsOver w) (windows : (i : ℕ) → (s.settings i).window ≤ W) (among : AreOf s.reuses ever)
+        (turning : Turns o.now s.reuses s.events) (set : AreSet w s.settings u) (run : WorldRunSo V s.reuses u s.events v) where
+      in_stretch : (m : Net) × OverIn ever s.reuses among s.settings v m × IsOnceSo ever opening v.log (stores_of v.nodes)
+      in_stretch =
+          let bound = bounded_with W V some fits s.settings windows in
+          let t = turns ever o.now s.reuses o.among among s.settings bound V opening u v o.net (set_over ever o.now o.among o.settings s.settings w o.net o.over u set)
+              (set_once ever o.now o.among o.settings s.settings w o.net o.over u set opening o.right) s.events turning run in
+          run_over_so links apart W (rules_with V s.settings) (Some (mode ever s.reuses among)) bound refl opening t.rest t.world v t.net t.over t.right t.run
+
+      pub stretch_over : (q : IsOver v) × (q.now ≡ s.reuses)
+      stretch_over = (
+        record {
+          settings = s.settings;
+          windows = windows;
+          now = s.reuses;
+          among = among;
+          net = in_stretch.0;
+          over = in_stretch.1;
+          right = in_stretch.2;
+        },
+        refl,
+      )
+
     pub over_in : (ss : List Stretch) (w w' : World) (o : IsOver w) → ArePermitted W ever o.now ss → WorldRunIn V w ss w' → IsOver w'
     over_in [] w w' o permitted run = subst IsOver (sym run) o
-    over_in (s ∷ ss) w w' o permitted run = over_in ss run.1 w' next permitted.3 run.4
-      where
-        bound : claims.IsBounded W (rules_with V s.settings)
-        bound = bounded_with W V some fits s.settings permitted.0
-
-        turned : IsTurned ever o.now s.reuses o.among permitted.1 s.settings bound V opening run.0 run.1 o.net
-            (set_over ever o.now o.among o.settings s.settings w o.net o.over run.0 run.2)
-            (set_once ever o.now o.among o.settings s.settings w o.net o.over run.0 run.2 opening o.right) s.events
-        turned = turns ever o.now s.reuses o.among permitted.1 s.settings bound V opening run.0 run.1 o.net
-            (set_over ever o.now o.among o.settings s.settings w o.net o.over run.0 run.2)
-            (set_once ever o.now o.among o.settings s.settings w o.net o.over run.0 run.2 opening o.right) s.events permitted.2 run.3
-
-        ended : (m : Net) × OverIn ever s.reuses permitted.1 s.settings run.1 m × IsOnceSo ever opening (run.1).log (stores_of (run.1).nodes)
-        ended = run_over_so links apart W (rules_with V s.settings) (Some (mode ever s.reuses permitted.1)) bound refl opening turned.rest turned.world run.1
-            turned.net turned.over turned.right turned.run
-
-        next : IsOver run.1
-        next = record {
-          settings = s.settings;
-          windows = permitted.0;
-          now = s.reuses;
-          among = permitted.1;
-          net = ended.0;
-          over = ended.1;
-          right = ended.2;
-        }
+    over_in (s ∷ ss) w w' o permitted run =
+        let q = stretch_over s w run.0 run.1 o permitted.0 permitted.1 permitted.2 run.2 run.3 in
+        over_in ss run.1 w' q.0 (subst (λ (now : Reuses). ArePermitted W ever now ss) (sym q.1) permitted.3) run.4
 
     -- where all nodes take long APDUs, however many later copies may overtake one
     pub over_in_long : (overtake : ℕ) (ss : List Stretch) (w w' : World) (o : IsOver w) → IsShortNet o.net → ArePermitted W ever o.now ss
