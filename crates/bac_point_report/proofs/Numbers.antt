@@ -4,8 +4,6 @@ use Rattle.std.specs.Prelude.{Option, Some, None, MatchOption}
 use Rattle.bac_value.specs.Element.{Part, part_spelling, SpellsElement}
 use Rattle.bac_value.specs.Meaning.{IsValueOf}
 use Rattle.bac_value.specs.Value.{Datum, null, boolean, unsigned, signed, real, double, octets, characters, bits, enumerated, date, time, object}
-use Rattle.bac_value.specs.Views.{value_view}
-use Rattle.bac_value.specs.declared.value.Value.{Value}
 use Rattle.bac_point_report.specs.Listing.{IsNoNumber, IsNumber, unsigned_in}
 use Rattle.bac_point_report.proofs.Objects.{kinds_differ, same_front}
 

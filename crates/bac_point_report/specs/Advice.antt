@@ -11,11 +11,11 @@ abbrev pub WITHOUT_VALUE : List ℕ
 WITHOUT_VALUE =
     8 ∷ 9 ∷ 10 ∷ 15 ∷ 16 ∷ 18 ∷ 20 ∷ 25 ∷ 27 ∷ 29 ∷ 32 ∷ 33 ∷ 34 ∷ 35 ∷ 36 ∷ 38 ∷ 51 ∷ 56 ∷ 57 ∷ 58 ∷ 59 ∷ 61 ∷ 62 ∷ []
 
-abbrev pub is_without_value : (kind : ℕ) → Bool
+unfoldable pub is_without_value : (kind : ℕ) → Bool
 is_without_value kind = list_any (λ other. other == kind) WITHOUT_VALUE
 
 -- the present-value was asked for, which no object of the type has, nor this one
-abbrev pub has_no_value : Reference → Outcome → Bool
+unfoldable pub has_no_value : Reference → Outcome → Bool
 has_no_value r how = (r.property == 85) && (is_without_value r.object.kind && is_absent how)
 
 -- what to read in its place

@@ -25,6 +25,7 @@ const WITHOUT_VALUE: [u16; 23] = [
 const ADVICE: &[u8] = b" has no present-value; name another property, for example object-name\n";
 
 /// Whether objects of a type have no present-value.
+#[tactic(auto, unfolding(crate::specs::Advice::is_without_value))]
 fn is_without_value(kind: u16) -> bool
     ensures { result ≡ is_without_value kind }
 {
@@ -32,6 +33,7 @@ fn is_without_value(kind: u16) -> bool
 }
 
 /// Whether the present-value of an object was asked for, and objects of its type have none.
+#[tactic(auto, unfolding(crate::specs::Advice::has_no_value))]
 fn has_no_value(reference: PropertyReference, outcome: Outcome<'_>) -> bool
     ensures { result ≡ has_no_value (property_reference_view reference) (outcome_view outcome.entry) }
 {
