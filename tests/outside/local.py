@@ -4,6 +4,7 @@
 - A log that nobody reads, into a pipe and into a socket: 1,000 reads are answered, and once the log is read it tells how many lines are missing.
 - A FIFO in place of the document that it follows, from the start and later: it is refused by name, and reads are answered.
 - Documents of 8 MiB in its place, one of a million keys, one of comments, one that is too large: refused or taken over, and the slowest answer meanwhile is told.
+- A document that it follows and a file that keeps its store, over three lives that end by `kill -9`: what a client wrote and what the document changed stay.
 - Documents of 8 MiB of several shapes at a start: read, or refused by name, and in how many seconds is told.
 - Standard output that nobody reads any more: a command says nothing, and ends with 141. On a full disk it says so, and ends with 3.
 - In a network of its own, whose loopback goes down and comes up, and in which its socket is aborted (`ss -K`): it goes on.
@@ -195,6 +196,37 @@ def large(program, folder):
         check('what follows is taken over', server.says('present-value real 22.5'), server.said[-300:])
 
 
+def values_at(program, server):
+    """The present values of the objects of a plant, as `bac ask` tells them."""
+    ask = [program, 'ask', '--port', str(server.port), '--text', 'read']
+    ends = [subprocess.run([*ask, name, 'present-value'], capture_output=True, text=True, timeout=120) for name in ('analog-input:5', 'analog-value:1', 'analog-value:2')]
+    return [end.stdout.strip().removeprefix('answered real ') for end in ends]
+
+
+def kept(program, folder):
+    """Three lives of a server that follows a document and keeps its store."""
+    path = folder / 'kept.toml'
+    setpoint = '[[object]]\ntype = "analog-value"\ninstance = {0}\nname = "{0}"\npresent-value = {{ real = {1}, writable = true }}\n'
+    plant = lambda air, first, second: DOCUMENT.format(air) + setpoint.format(1, first) + setpoint.format(2, second)
+    options = ['--objects', str(path), '--follow', '--keep', str(folder / 'kept.db'), '--log-level', 'changes']
+    put(folder, path, plant(20.5, 1.0, 3.0))
+    with Server(program, options) as server:
+        written = subprocess.run([program, 'ask', '--port', str(server.port), 'write', 'analog-value:1', 'present-value', 'real:55'], timeout=120)
+        check('kept: a client writes', written.returncode == 0)
+        put(folder, path, plant(21.5, 1.0, 4.0))
+        check('kept: the document is followed', server.says('document analog-value:2 present-value real 4.0'), server.said[-300:])
+        check('kept: what the client wrote stays', values_at(program, server) == ['21.5', '55.0', '4.0'], values_at(program, server))
+    put(folder, path, plant(20.5, 1.0, 3.0))
+    with Server(program, options) as server:
+        check('kept: what is kept wins at a start', values_at(program, server) == ['20.5', '55.0', '4.0'], values_at(program, server))
+        put(folder, path, plant(20.5, 2.0, 3.0))
+        check('kept: the document is followed again', server.says('document analog-value:1 present-value real 2.0'), server.said[-300:])
+    with Server(program, options) as server:
+        check('kept: and that is kept', values_at(program, server) == ['20.5', '2.0', '4.0'], values_at(program, server))
+        check('kept: no fault', b'fault' not in server.said, server.said[-300:])
+    print('kept: three lives, what a client wrote and what the document changed')
+
+
 def described(text):
     return 'described = true\n[[object]]\ntype = "device"\ninstance = 1\nname = "d"\n' + text
 
@@ -263,6 +295,7 @@ def main(words):
     with tempfile.TemporaryDirectory() as name:
         fifo(program, Path(name))
         large(program, Path(name))
+        kept(program, Path(name))
         starts(program, Path(name))
     if shutil.which('unshare') and shutil.which('ss'):
         namespace = ['unshare', '-n'] if os.geteuid() == 0 else ['unshare', '-r', '-n']

@@ -1,7 +1,7 @@
 //! `bac`: BACnet confirmed services on the command line.
 #![tactic(auto)]
 
-use bac_command_line::{Piped, System, exit_code, run};
+use bac_command_line::{Piped, System, exit_code, run_to_end};
 use bac_text::{Status, no_memory};
 use std::io;
 use std::io::{BufWriter, IsTerminal};
@@ -14,8 +14,7 @@ fn start(rt: &HostRuntime) -> io::Result<ExitCode> {
     let mut out = Piped::new(BufWriter::new(rt.alloc(), rt.stdout())?);
     let mut err = rt.stderr();
     let system = System::new(rt, err.is_terminal(), is_screen);
-    let status = run(rt.alloc(), &words, &system, &system, &mut out, &mut err);
-    Ok(exit_code(status, out.has_reader_ended()))
+    Ok(run_to_end(rt.alloc(), &words, &system, &system, &mut out, &mut err))
 }
 
 fn main(rt: HostRuntime) -> ExitCode {

@@ -10,3 +10,4 @@ pub mod InFlight
 pub mod Once
 pub mod Gathered
 pub mod GivenPeers
+pub mod Decimals

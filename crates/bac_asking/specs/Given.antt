@@ -1,5 +1,5 @@
 -- What the words of `ask` give, as they were read.
-use Rattle.std.specs.Prelude.{◌≡◌, ℕ, ◌<◌, ◌≤◌, ◌*◌, min, Bool, true, false, List, codes, decimal, Option, Some, None}
+use Rattle.std.specs.Prelude.{◌≡◌, ℕ, ◌*◌, min, Bool, true, false, List, codes, MatchOption, Option, Some, None}
 use Rattle.std.specs.Option.{option_map}
 use Rattle.clap.specs.declared.parser.matches.ArgMatches.{ArgMatches}
 use Rattle.bac_ask_report.specs.declared.cell_text.CellText.{CellText}
@@ -7,10 +7,12 @@ use Rattle.bac_ask_report.specs.declared.cell_text.CellText.TheVariants as texts
 use Rattle.bac_commands.specs.declared.online.output_format.OutputFormat.{OutputFormat}
 use Rattle.bac_commands.specs.declared.online.output_format.Style.{Style}
 use Rattle.bac_commands.specs.declared.online.output_format.Style.TheVariants as style
+use Rattle.bac_driver.specs.Udp.{LOCAL_HOST}
 use Rattle.bac_driver.specs.Waits.{MOST}
-use Rattle.bac_lists.specs.Addresses.{IsLink, IsRoute}
+use Rattle.bac_lists.specs.Addresses.{IsLink, IsRoute, link_of}
 use Rattle.bac_npdu.specs.Peers.{PeerView, RouteView}
 use Rattle.bac_environment.specs.Given.{IsFlag, IsNumber, words_text}
+use Rattle.bac_asking.specs.Seconds.{AreNoSeconds, AreSeconds}
 use Rattle.bac_asking.specs.declared.asking.Asking.{Asking}
 use Rattle.bac_asking.specs.declared.asking.Rounds.{Rounds}
 use Rattle.bac_asking.specs.declared.recording.RecordForm.{RecordForm}
@@ -51,10 +53,14 @@ pub record AreRecordsOf (given : ArgMatches) (records : Option RecordForm) : Typ
   pub raw_is : IsFlag given (codes "raw-text") raw
   pub are : records ≡ records_by json csv raw
 
--- of whole seconds the milliseconds between rounds
-pub record IsPace (given : ArgMatches) (is : Option ℕ) : Type 0 where
-  pub whole : (n : ℕ) → 0 < n → n ≤ 1_000_000_000 → words_text given (codes "every") ≡ Some (decimal n) → is ≡ Some (n * 1000)
-  pub none : words_text given (codes "every") ≡ None → is ≡ None
+-- a text is that time, or none
+abbrev pub IsPaceBy : (text : Option (List ℕ)) → (is : Option ℕ) → Type 0
+IsPaceBy None is = is ≡ None
+IsPaceBy (Some text) is = MatchOption is (AreNoSeconds text) (AreSeconds text)
+
+-- the milliseconds between rounds
+abbrev pub IsPace : ArgMatches → (is : Option ℕ) → Type 0
+IsPace given is = IsPaceBy (words_text given (codes "every")) is
 
 -- of whole seconds the milliseconds that it waits
 pub record IsPatience (given : ArgMatches) (is : Option ℕ) : Type 0 where
@@ -110,9 +116,27 @@ is_json asking = is_json_by asking.records
 
 -- ---- which node is asked
 
--- the text behind `--to` is the address of this link
-abbrev pub IsLinkGiven : ArgMatches → (link : List ℕ) → Type 0
-IsLinkGiven given link = (text : List ℕ) → words_text given (codes "to") ≡ Some text → IsLink text link
+-- that number, or where there is none, that port
+abbrev pub port_by : (number own : Option ℕ) → Option ℕ
+port_by None own = own
+port_by (Some number) own = Some number
+
+-- the port behind `--port`, or where none is given, that one
+pub record IsPortGiven (given : ArgMatches) (own : Option ℕ) (port : ℕ) : Type 0 where
+  pub number : Option ℕ
+  pub number_is : IsNumber given (codes "port") number
+  pub is : port_by number own ≡ Some port
+
+-- a port of this machine
+pub record IsPortHere (given : ArgMatches) (own : Option ℕ) (link : List ℕ) : Type 0 where
+  pub port : ℕ
+  pub given_so : IsPortGiven given own port
+  pub is : link ≡ link_of LOCAL_HOST port
+
+-- the text behind `--to` is the address of this link; without one it is that of a port of this machine
+pub record IsLinkGiven (given : ArgMatches) (own : Option ℕ) (link : List ℕ) : Type 0 where
+  pub told : (text : List ℕ) → words_text given (codes "to") ≡ Some text → IsLink text link
+  pub here : words_text given (codes "to") ≡ None → IsPortHere given own link
 
 -- a text is this way on; without one there is none
 abbrev pub IsRouteBy : (text : Option (List ℕ)) → Option RouteView → Type 0
@@ -120,7 +144,7 @@ IsRouteBy None route = route ≡ None
 IsRouteBy (Some text) None = ⊥
 IsRouteBy (Some text) (Some r) = IsRoute text r
 
--- the peer at that link, by the way behind `--route`
-pub record IsPeerGiven (given : ArgMatches) (p : PeerView) : Type 0 where
-  pub link : IsLinkGiven given p.link
+-- the peer at that link, by the way behind `--route`; where neither `--to` nor `--port` is given, on this machine at that port
+pub record IsPeerGiven (given : ArgMatches) (own : Option ℕ) (p : PeerView) : Type 0 where
+  pub link : IsLinkGiven given own p.link
   pub route : IsRouteBy (words_text given (codes "route")) p.route

@@ -12,3 +12,4 @@ pub mod InFlight
 pub mod Asked
 pub mod WholeFiles
 pub mod Gathering
+pub mod Seconds

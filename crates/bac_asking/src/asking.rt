@@ -5,7 +5,7 @@ ghost use Rattle.bac_npdu.specs.Views.{peer_view, route_view};
 ghost use Rattle.bac_environment.specs.Given.{words_text};
 ghost use Rattle.bac_asking.specs.Asked.{for_lines};
 ghost use Rattle.bac_asking.specs.Asking.{patience_for};
-ghost use Rattle.bac_asking.specs.Given.{AreRecordsOf, AreRoundsOf, IsGiven, IsLinkGiven, IsOutputFormat, IsPace, IsPatience, IsPeerGiven, IsRouteBy, cell_text_by, is_json, is_raw, records_by, rounds_by, style_by};
+ghost use Rattle.bac_asking.specs.Given.{AreRecordsOf, AreRoundsOf, IsGiven, IsLinkGiven, IsOutputFormat, IsPace, IsPatience, IsPeerGiven, IsPortGiven, IsRouteBy, cell_text_by, is_json, is_raw, port_by, records_by, rounds_by, style_by};
 ghost use Rattle.bac_asking.specs.Rounds.{next_from};
 ghost use Rattle.bac_environment.specs.Limits.{turns_of};
 
@@ -181,14 +181,31 @@ fn source_towards_all<M: ClientSockets>(machine: &M, lines: &[LineQuestion]) -> 
     host
 }
 
+/// The number that is given, as a port; that other port where none is given.
+fn port_by(number: Option<u64>, own: Option<u16>) -> Option<u16>
+    ensures { IfSome result (λ port. port_by number own ≡ Some port) }
+{
+    match number {
+        Some(number) => u16::try_from(number).ok(),
+        None => own,
+    }
+}
+
+/// The port behind `--port`, or that other one.
+fn port_of(given: &ArgMatches<'_>, own: Option<u16>) -> Option<u16>
+    ensures { IfSome result (IsPortGiven given.now own) }
+{
+    port_by(number_of(given, "port"), own)
+}
+
 /// The address that is asked: that behind `--to`, or a port of this machine.
-#[tactic(auto, using(crate::proofs::GivenPeers::link_given, crate::proofs::GivenPeers::no_link_given))]
-fn link_of(given: &ArgMatches<'_>) -> Option<LinkAddress>
-    ensures { IfSome result (IsLinkGiven given.now) }
+#[tactic(auto, using(crate::proofs::GivenPeers::link_given, crate::proofs::GivenPeers::link_here))]
+fn link_of(given: &ArgMatches<'_>, own: Option<u16>) -> Option<LinkAddress>
+    ensures { IfSome result (IsLinkGiven given.now own) }
 {
     match given.get_str("to") {
         Some(text) => read_link(text),
-        None => Some(link_at(LOCAL_HOST, given.get_one("port")?)),
+        None => Some(link_at(LOCAL_HOST, port_of(given, own)?)),
     }
 }
 
@@ -294,11 +311,12 @@ fn rounds_of(given: &ArgMatches<'_>) -> Option<Rounds>
     rounds_by(every, times)
 }
 
-/// The node that the arguments name. None if they name none, or an address is invalid.
-pub fn peer_of(given: &ArgMatches<'_>) -> Option<Peer>
-    ensures { IfSome result (λ p. IsPeerGiven given.now (peer_view p)) }
+/// The node that the arguments name: by `--to`, otherwise on this machine at the port of `--port`; `own` is that port if none is given. None if they name no node,
+/// or an address is invalid.
+pub fn peer_of(given: &ArgMatches<'_>, own: Option<u16>) -> Option<Peer>
+    ensures { IfSome result (λ p. IsPeerGiven given.now own (peer_view p)) }
 {
-    let link = link_of(given)?;
+    let link = link_of(given, own)?;
     let route = route_of(given)?;
     Some(Peer { link, route })
 }
@@ -307,7 +325,7 @@ pub fn peer_of(given: &ArgMatches<'_>) -> Option<Peer>
 pub fn default_of(given: &ArgMatches<'_>) -> Option<Option<Peer>> {
     let has_link = given.get_str("to").is_some() || given.get_one::<u16>("port").is_some();
     if has_link || given.get_str("route").is_some() {
-        Some(Some(peer_of(given)?))
+        Some(Some(peer_of(given, None)?))
     } else {
         Some(None)
     }

@@ -9,16 +9,20 @@ use crate::file_news::{FileNews, print_news, print_not_read};
 use crate::file_task::{ChosenFiles, FileTask};
 use crate::folder::{Folder, MANIFEST};
 use crate::listed_files::{listed_files, objects_in};
+use crate::no_answer::tell_no_answer;
 use crate::peer_file::{PeerFile, end_words};
 use crate::reasons::{print_bad_manifest, print_empty_manifest, print_no_files};
+use crate::recording::outcome_of;
 use crate::whole_files::client_of;
 use crate::whole_reading::{Got, read_whole};
 use crate::whole_writing::{Put, replace_whole};
+use bac_driver::AskEnd;
 use bac_environment::{Environment, OpenFiles};
 use bac_files::{
     Comparison, SavedFile, compare, digest_of, file_name, manifest_line, read_manifest_line,
 };
 use bac_npdu::Peer;
+use bac_point_report::is_silent;
 use bac_text::{Status, no_memory};
 use bac_value::ObjectIdentifier;
 use std::alloc::{AllocError, Global};
@@ -31,6 +35,8 @@ struct Backup<'e, F, M: ClientSockets> {
     peer: Peer,
     client: Client<'e, M>,
     folder: Folder<'e, F>,
+    /// Whether an ask got no answer; nothing more is asked then.
+    is_silent: bool,
 }
 
 /// The words for an object in a request.
@@ -101,6 +107,31 @@ fn are_saved(file: &SavedFile, octets: &[u8]) -> bool {
 }
 
 impl<F: OpenFiles, M: ClientSockets> Backup<'_, F, M> {
+    /// If an ask got no answer, notes it, and `err` says so.
+    fn note_silence<E: Write>(&mut self, end: &AskEnd, err: &mut E) {
+        let outcome = outcome_of(end);
+        if is_silent(outcome) {
+            self.is_silent = true;
+            let timeout = self.asking.timeout;
+            tell_no_answer(self.folder.alloc, self.peer, timeout, outcome, err);
+        }
+    }
+
+    /// Prints that a file was not read to its end, and why. If the last read got no answer, nothing more is asked.
+    fn report_not_read<O: Write, E: Write>(
+        &mut self,
+        object: ObjectIdentifier,
+        got: &Got,
+        out: &mut O,
+        err: &mut E,
+    ) -> Result<(), Status>
+        ensures told { IfErr result IsStop }
+    {
+        print_not_read(self.folder.alloc, object, got, out, err)?;
+        self.note_silence(&got.last.end, err);
+        Ok(())
+    }
+
     /// Reads a file of the peer as a whole.
     fn read<E: Write>(&mut self, object: ObjectIdentifier, err: &mut E) -> Result<Got, Status>
         ensures told { IfErr result IsStop }
@@ -179,11 +210,11 @@ impl<F: OpenFiles, M: ClientSockets> Backup<'_, F, M> {
         if got.is_whole {
             return self.keep_whole(object, &got.octets, out, err);
         }
-        print_not_read(self.folder.alloc, object, &got, out, err)?;
+        self.report_not_read(object, &got, out, err)?;
         Ok(None)
     }
 
-    /// Reads files of the peer, and writes them beside those of the folder, each once. Answers those that are there.
+    /// Reads files of the peer, and writes them beside those of the folder, each once, up to one that gets no answer. Answers those that are there.
     fn save_each<O: Write, E: Write>(
         &mut self,
         objects: &[ObjectIdentifier],
@@ -194,7 +225,7 @@ impl<F: OpenFiles, M: ClientSockets> Backup<'_, F, M> {
     {
         let mut saved = Vec::new(self.folder.alloc);
         for object in objects {
-            if has_object(&saved, *object) {
+            if self.is_silent || has_object(&saved, *object) {
                 continue;
             }
             if let Some(file) = self.save(*object, out, err)? {
@@ -373,7 +404,7 @@ impl<F: OpenFiles, M: ClientSockets> Backup<'_, F, M> {
 
     /// Prints that so many octets were not put into a file of the peer, and why.
     fn print_not_put<O: Write, E: Write>(
-        &self,
+        &mut self,
         object: ObjectIdentifier,
         count: usize,
         put: &Put,
@@ -387,10 +418,12 @@ impl<F: OpenFiles, M: ClientSockets> Backup<'_, F, M> {
             return Err(no_memory(err));
         };
         let news = match put.uncut {
-            Some(there) => FileNews::NotCut(there, &why),
+            Some(uncut) => FileNews::NotCut(uncut, &why),
             None => FileNews::NotPut(put.count, count, &why),
         };
-        print_news(alloc, object, &news, out, err)
+        print_news(alloc, object, &news, out, err)?;
+        self.note_silence(&put.last.end, err);
+        Ok(())
     }
 
     /// Writes octets into a file of the peer, and prints where not all were. Answers whether all were.
@@ -413,7 +446,7 @@ impl<F: OpenFiles, M: ClientSockets> Backup<'_, F, M> {
 
     /// Prints whether a file of the peer, which was read again, has the octets that were put into it. Answers whether it has.
     fn print_compared<O: Write, E: Write>(
-        &self,
+        &mut self,
         file: &SavedFile,
         count: usize,
         got: &Got,
@@ -424,7 +457,7 @@ impl<F: OpenFiles, M: ClientSockets> Backup<'_, F, M> {
     {
         let alloc = self.folder.alloc;
         if !got.is_whole {
-            print_not_read(alloc, file.object, got, out, err)?;
+            self.report_not_read(file.object, got, out, err)?;
             return Ok(false);
         }
         let there = got.octets.len();
@@ -501,7 +534,7 @@ impl<F: OpenFiles, M: ClientSockets> Backup<'_, F, M> {
         }
     }
 
-    /// Writes files of the folder back, one after the other. Answers whether the peer has all of them then.
+    /// Writes files of the folder back, one after the other, up to one that gets no answer. Answers whether the peer has all of them then.
     fn restore_all<O: Write, E: Write>(
         &mut self,
         files: &[SavedFile],
@@ -512,7 +545,7 @@ impl<F: OpenFiles, M: ClientSockets> Backup<'_, F, M> {
     {
         let mut all = true;
         for file in files {
-            let restored = self.restore(file, out, err)?;
+            let restored = !self.is_silent && self.restore(file, out, err)?;
             all = all && restored;
         }
         Ok(all)
@@ -538,6 +571,7 @@ fn backup_in<'e, F: OpenFiles, M: ClientSockets, E: Write>(
             files: environment.files,
             path,
         },
+        is_silent: false,
     })
 }
 

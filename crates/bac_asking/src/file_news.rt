@@ -4,10 +4,11 @@ ghost use Rattle.bac_text.specs.Statuses.{IsStop};
 
 use crate::peer_file::end_words;
 use crate::whole_reading::Got;
+use crate::whole_writing::Uncut;
 use bac_text::{Status, no_memory, output_failed};
-use bac_value::{NoMemory, ObjectIdentifier};
+use bac_value::ObjectIdentifier;
 use bac_value_text::object_text;
-use std::alloc::Global;
+use std::alloc::{AllocError, Global};
 use std::io;
 use std::io::Write;
 
@@ -28,8 +29,8 @@ pub(crate) enum FileNews<'a> {
     NotRead(usize, &'a [u8]),
     /// So many octets of so many were put, for that reason.
     NotPut(usize, usize, &'a [u8]),
-    /// The peer has so many octets as before, which are more than were to be put: its file-size was not written, for that reason.
-    NotCut(u64, &'a [u8]),
+    /// The peer has more octets than were to be put, and was not emptied, for that reason: what became of them.
+    NotCut(Uncut, &'a [u8]),
 }
 
 /// Writes what came of it, without the reason that may stand behind.
@@ -49,10 +50,23 @@ fn write_news<O: Write>(news: &FileNews<'_>, out: &mut O) -> io::Result<()> {
         FileNews::NotPut(written, count, _) => {
             write!(out, "{written} of {count} octets were written: ")
         }
-        FileNews::NotCut(there, _) => write!(
+        FileNews::NotCut(uncut, _) => {
+            write_uncut(*uncut, out)?;
+            out.write_all(b": ")
+        }
+    }
+}
+
+/// Writes what became of a file that was not emptied.
+pub(crate) fn write_uncut<O: Write>(uncut: Uncut, out: &mut O) -> io::Result<()> {
+    match uncut {
+        Uncut::Stays(there) => write!(
             out,
-            "remains unchanged: {there} octets, and its file-size was not written: "
+            "stays as it is: it has {there} octets, and the device does not let its length be changed"
         ),
+        Uncut::MaybeEmpty => {
+            out.write_all(b"may be empty now, as the request to empty it failed")
+        }
     }
 }
 
@@ -98,7 +112,7 @@ pub(crate) fn print_news<O: Write, E: Write>(
 }
 
 /// Why a file was not read to its end: what was wrong with its last part, or how the last read ended.
-fn reason_in(alloc: Global, got: &Got) -> Result<Vec<u8>, NoMemory> {
+fn reason_in(alloc: Global, got: &Got) -> Result<Vec<u8>, AllocError> {
     match got.fault {
         Some(fault) => {
             let text = format!(in alloc; "{fault}")?;

@@ -1,5 +1,8 @@
 //! What is done with whole files of a peer: which words ask for that, and its status.
+ghost use Rattle.std.specs.Prelude.{IfSome, Some};
+ghost use Rattle.bac_asking.specs.Given.{IsGiven, IsPeerGiven};
 ghost use Rattle.bac_asking.specs.WholeFiles.{IsFiled};
+ghost use Rattle.bac_npdu.specs.Views.{peer_view};
 
 use crate::asking::{Asking, asking_of, peer_of};
 use crate::backup::{back_up, restore};
@@ -8,6 +11,7 @@ use crate::reasons::print_no_whole_file;
 use crate::unsent::tell_unsent;
 use crate::whole_files::{get, put};
 use bac_environment::{Environment, OpenFiles};
+use bac_lists::BACNET_PORT;
 use bac_npdu::Peer;
 use bac_text::Status;
 use bac_value_text::object_in;
@@ -92,11 +96,13 @@ pub fn work_of<'m, 'a>(given: &'m ArgMatches<'a>, asking: &Asking) -> Option<Fil
     whole_work(given.get_strs("WORDS")?, given.get_str("out"))
 }
 
-/// How the arguments of `backup` or `restore` say that a peer is asked. None if they name no node, or an address is invalid.
-pub fn file_task_of(given: &ArgMatches<'_>, shows_progress: bool) -> Option<FileTask> {
+/// How the arguments of `backup` or `restore` say that a peer is asked: by default the node on this machine at the port of BACnet/IP. None if an address is invalid.
+pub fn file_task_of(given: &ArgMatches<'_>, shows_progress: bool) -> Option<FileTask>
+    ensures { IfSome result (λ t. IsGiven given.now t.asking × IsPeerGiven given.now (Some BACNET_PORT) (peer_view t.peer)) }
+{
     Some(FileTask {
         asking: asking_of(given, shows_progress),
-        peer: peer_of(given)?,
+        peer: peer_of(given, Some(BACNET_PORT))?,
     })
 }
 

@@ -15,6 +15,7 @@ mod flights;
 mod folder;
 mod gathering;
 mod listed_files;
+mod no_answer;
 mod online;
 mod pace;
 mod past_ports;
@@ -40,6 +41,7 @@ pub use file_task::{
 };
 pub use file_words::ask;
 pub use gathering::gather;
+pub use no_answer::tell_no_answer;
 pub use online::{pair, question_in};
 pub use recording::{RecordForm, outcome_of, print_header};
 pub use seconds::{bad_pace, print_bad_pace, read_seconds};

@@ -5,9 +5,12 @@ ghost use Rattle.bac_text.specs.Statuses.{IsStop};
 use crate::asking::Asking;
 use crate::client::Client;
 use crate::client_sockets::ClientSockets;
+use crate::no_answer::tell_no_answer;
 use crate::peer_file::{Asked, ask_words, end_words, reply_of};
+use crate::recording::outcome_of;
 use bac_environment::print_bad_name;
 use bac_npdu::Peer;
+use bac_point_report::is_silent;
 use bac_service::{AnyComplex, AnyReply, Reply};
 use bac_service_text::{BadWord, Wanted};
 use bac_text::{Status, no_memory};
@@ -89,9 +92,19 @@ fn ask_list<M: ClientSockets, E: Write>(
 }
 
 /// Tells how the ask for the list ended, where that was not with a list.
-fn tell_unlisted<E: Write>(alloc: Global, asked: &Asked, err: &mut E) -> Result<(), Status>
+fn tell_unlisted<E: Write>(
+    alloc: Global,
+    timeout: Option<u64>,
+    asked: &Asked,
+    err: &mut E,
+) -> Result<(), Status>
     ensures told { IfErr result IsStop }
 {
+    let outcome = outcome_of(&asked.end);
+    if is_silent(outcome) {
+        tell_no_answer(alloc, asked.question.peer, timeout, outcome, err);
+        return Ok(());
+    }
     let Ok(words) = end_words(alloc, asked) else {
         return Err(no_memory(err));
     };
@@ -120,7 +133,7 @@ pub(crate) fn listed_files<M: ClientSockets, E: Write>(
     match files_in(alloc, reply_of(&asked.end)) {
         Ok(Some(files)) => Ok(Some(files)),
         Ok(None) => {
-            tell_unlisted(alloc, &asked, err)?;
+            tell_unlisted(alloc, asking.timeout, &asked, err)?;
             Ok(None)
         }
         Err(_) => Err(no_memory(err)),

@@ -7,17 +7,18 @@ use crate::asking_lines::ask_on;
 use crate::client::Client;
 use crate::client_sockets::ClientSockets;
 use crate::online::question_in;
+use crate::recording::outcome_of;
 use bac_commands::Style;
 use bac_driver::{AskEnd, Question};
 use bac_files::PartSize;
 use bac_lists::print_bad_words;
 use bac_npdu::Peer;
+use bac_point_report::failure_words;
 use bac_requester::Ending;
 use bac_service::{AnyComplex, AnyReply, Content, FileRead, FileWritten, Reply};
 use bac_service_text::FormFault;
 use bac_text::{Status, no_memory};
-use bac_value::NoMemory;
-use std::alloc::Global;
+use std::alloc::{AllocError, Global};
 use std::io::Write;
 
 /// A file of a peer, by the words for its object.
@@ -155,10 +156,7 @@ pub(crate) fn wants_smaller(end: &AskEnd) -> bool {
     matches!(end, AskEnd::Ended(Ending::Aborted(1 | 4 | 11)))
 }
 
-/// How an ask ended, in words, as `ask --text` prints it.
-pub(crate) fn end_words(alloc: Global, asked: &Asked) -> Result<Vec<u8>, NoMemory> {
-    match crate::recording::words_of(alloc, false, &asked.question.request, &asked.end) {
-        Ok(told) => Ok(told.words),
-        Err(_) => Err(NoMemory),
-    }
+/// Why an ask did not end as was wanted, in words.
+pub(crate) fn end_words(alloc: Global, asked: &Asked) -> Result<Vec<u8>, AllocError> {
+    failure_words(alloc, outcome_of(&asked.end))
 }

@@ -102,7 +102,7 @@ pub(crate) struct EndWords {
 }
 
 /// The line of `ask --text` without its end.
-pub(crate) fn words_of(
+fn words_of(
     alloc: Global,
     strict: bool,
     request: &OwnedRequest,

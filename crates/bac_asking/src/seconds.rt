@@ -1,68 +1,100 @@
 //! Seconds as decimal numbers: `2`, or `0.5`.
-ghost use Rattle.std.specs.Prelude.{◌≡◌, ◌<◌, ◌≤◌, ◌*◌, ℕ, Some, decimal};
+ghost use Rattle.std.specs.Prelude.{◌≡◌, ◌&&◌, ◌<◌, ◌≤◌, ◌^◌, ◌-◌, ℕ, MatchOption, false, get_or, nat_eq, nat_le, nat_lt};
+ghost use Rattle.bac_asking.specs.Seconds.{AreDecimal, AreDigits, AreMilliseconds, AreNoSeconds, AreSeconds, AreWhole, GivesTime};
 
+use bac_lists::{parts_at, read_number};
 use clap::ArgMatches;
 use std::io::Write;
 
 /// The most seconds between rounds.
 const MOST: u64 = 1_000_000_000;
 
-/// A number of decimal digits.
-fn digits_in(text: &str) -> Option<u64> {
-    if text.as_bytes().iter().all(|octet| octet.is_ascii_digit()) {
-        text.parse().ok()
-    } else {
-        None
+/// Whether a text begins with a plus.
+fn has_plus(text: &str) -> bool
+    ensures { result ≡ nat_eq (get_or text.now 0 0) 43 }
+{
+    match text.as_bytes() {
+        [first, ..] => *first == b'+',
+        [] => false,
     }
 }
 
-/// The milliseconds that one to three digits behind the point are.
-fn milliseconds_in(fraction: &str) -> Option<u64> {
-    let digits = digits_in(fraction)?;
-    match fraction.len() {
-        1 => digits.checked_mul(100),
-        2 => digits.checked_mul(10),
-        3 => Some(digits),
+/// The number whose digits a text has, and nothing else.
+#[tactic(auto, using(crate::proofs::Decimals::plus_no_digits, crate::proofs::Decimals::digits_without_plus))]
+fn read_digits(text: &str) -> Option<u64>
+    ensures { MatchOption result ((number : ℕ) → AreDigits text.now number → ⊥) (AreDigits text.now) }
+{
+    if has_plus(text) {
+        return None;
+    }
+    read_number(text)
+}
+
+/// How many thousandths the last of so many digits behind a point counts.
+fn each_digit(count: usize) -> Option<u64>
+    ensures { MatchOption result (0 < count → count ≤ 3 → ⊥) (λ each. (count ≤ 3) × (each ≡ 10 ^ (3 - count))) }
+{
+    match count {
+        1 => Some(100),
+        2 => Some(10),
+        3 => Some(1),
         _ => None,
     }
 }
 
-/// So many milliseconds, if they are no more than may lie between rounds, and not none.
-fn within(milliseconds: u64) -> Option<u64> {
-    if milliseconds == 0 || milliseconds > MOST * 1_000 {
-        None
-    } else {
-        Some(milliseconds)
-    }
-}
-
-/// The milliseconds of a number with a point, and one to three digits behind it.
-fn decimal_seconds(text: &str) -> Option<u64> {
-    let (whole, fraction) = text.split_once('.')?;
-    let seconds = digits_in(whole)?;
-    let milliseconds = milliseconds_in(fraction)?;
-    within(seconds.checked_mul(1_000)?.checked_add(milliseconds)?)
+/// The milliseconds of digits before a point, and one to three behind it.
+#[tactic(auto, using(crate::proofs::Decimals::decimal_given, crate::proofs::Decimals::no_digits_before, crate::proofs::Decimals::no_digits_behind, crate::proofs::Decimals::too_many_digits))]
+fn decimal_seconds(front: &str, back: &str) -> Option<u64>
+    ensures { MatchOption result ((m : ℕ) → AreDecimal front.now back.now m → ⊥) (GivesTime (AreDecimal front.now back.now)) }
+{
+    let seconds = read_digits(front)?;
+    let rest = read_digits(back)?;
+    let each = each_digit(back.len())?;
+    Some(
+        seconds
+            .saturating_mul(1_000)
+            .saturating_add(rest.saturating_mul(each)),
+    )
 }
 
 /// The milliseconds of whole seconds.
-fn whole_seconds(seconds: u64) -> Option<u64>
-    ensures { 0 < seconds → seconds ≤ 1_000_000_000 → result ≡ Some (seconds * 1000) }
+#[tactic(auto, using(crate::proofs::Decimals::whole_given, crate::proofs::Decimals::no_whole))]
+fn whole_seconds(text: &str) -> Option<u64>
+    ensures { MatchOption result ((m : ℕ) → AreWhole text.now m → ⊥) (GivesTime (AreWhole text.now)) }
 {
-    if seconds == 0 || seconds > MOST {
-        None
-    } else {
-        Some(seconds * 1_000)
+    let seconds = read_number(text)?;
+    Some(seconds.saturating_mul(1_000))
+}
+
+/// The milliseconds of a number of seconds, which may have a point.
+#[tactic(auto, using(crate::proofs::Decimals::with_point, crate::proofs::Decimals::without_point))]
+fn milliseconds_in(text: &str) -> Option<u64>
+    ensures { MatchOption result ((m : ℕ) → AreMilliseconds text.now m → ⊥) (GivesTime (AreMilliseconds text.now)) }
+{
+    match parts_at(text, '.') {
+        Some((front, back)) => decimal_seconds(front, back),
+        None => whole_seconds(text),
     }
 }
 
-/// The milliseconds of a number of seconds, 0.001 to 1,000,000,000, with at most three digits behind the point. None of any other text.
-pub fn read_seconds(text: &str) -> Option<u64>
-    ensures { (n : ℕ) → 0 < n → n ≤ 1_000_000_000 → text.now ≡ decimal n → result ≡ Some (n * 1000) }
+/// Whether so many milliseconds may lie between rounds.
+fn is_within(milliseconds: u64) -> bool
+    ensures { result ≡ (nat_lt 0 milliseconds && nat_le milliseconds 1000000000000) }
 {
-    let Ok(seconds) = text.parse::<u64>() else {
-        return decimal_seconds(text);
-    };
-    whole_seconds(seconds)
+    0 < milliseconds && milliseconds <= MOST * 1_000
+}
+
+/// The milliseconds of a number of seconds, 0.001 to 1,000,000,000, with at most three digits behind the point. None of any other text.
+#[tactic(auto, using(crate::proofs::Decimals::seconds_told, crate::proofs::Decimals::seconds_refused, crate::proofs::Decimals::no_seconds))]
+pub fn read_seconds(text: &str) -> Option<u64>
+    ensures { MatchOption result (AreNoSeconds text.now) (AreSeconds text.now) }
+{
+    let milliseconds = milliseconds_in(text)?;
+    if is_within(milliseconds) {
+        Some(milliseconds)
+    } else {
+        None
+    }
 }
 
 /// The text given for `--every`, if it is invalid: it is not a number of seconds from 0.001 to 1,000,000,000 with at most three decimal places.

@@ -5,16 +5,18 @@ ghost use Rattle.bac_text.specs.Statuses.{IsStop};
 use crate::asking::Asking;
 use crate::client::Client;
 use crate::client_sockets::ClientSockets;
+use crate::file_news::write_uncut;
 use crate::file_task::FileTask;
 use crate::peer_file::PeerFile;
 use crate::reasons::print_unwritten;
 use crate::recording::print_header;
 use crate::whole_reading::{Got, read_whole, whole_end};
-use crate::whole_writing::{Put, replace_whole, size_of, written_end};
+use crate::whole_writing::{Put, Uncut, replace_whole, size_of, written_end};
 use bac_commands::Style;
 use bac_driver::{AskEnd, Question};
 use bac_environment::{Environment, OpenFiles, octets_of, opened};
 use bac_text::{Status, no_memory, output_failed};
+use std::io;
 use std::io::Write;
 
 /// The file that a whole file is written to.
@@ -179,16 +181,20 @@ pub(crate) fn get<F: OpenFiles, M: ClientSockets, O: Write, E: Write>(
     }
 }
 
+/// Writes what became of a file that was not emptied, behind the words for its object.
+fn write_object_uncut<O: Write>(object: &str, uncut: Uncut, out: &mut O) -> io::Result<()> {
+    write!(out, "{object} ")?;
+    write_uncut(uncut, out)?;
+    out.write_all(b"\n")
+}
+
 /// Says of a file that was not put as a whole what stands there.
 fn tell_unput<E: Write>(of: (&str, usize), put: &Put, err: &mut E) {
     let (object, count) = of;
     let written = put.count;
     // if that fails too, only the status is left
     let _ = match put.uncut {
-        Some(there) => writeln!(
-            err,
-            "{object} remains unchanged: {there} octets, and its file-size was not written"
-        ),
+        Some(uncut) => write_object_uncut(object, uncut, err),
         None => writeln!(err, "{object}: {written} of {count} octets were written"),
     };
 }

@@ -8,9 +8,12 @@ use crate::client_sockets::ClientSockets;
 use crate::peer_file::{
     Asked, PeerFile, ask_words, position_in, put_part, reply_of, wants_smaller,
 };
+use crate::recording::outcome_of;
+use bac_ask_report::Outcome;
 use bac_commands::link_fault;
 use bac_driver::AskEnd;
 use bac_files::{PartSize, part_at};
+use bac_point_report::is_silent;
 use bac_requester::Ending;
 use bac_service::{AnyComplex, AnyReply, FileWritten, Reply};
 use bac_text::{Status, no_memory};
@@ -51,6 +54,15 @@ impl Writing {
     }
 }
 
+/// What became of a file that was to be emptied, and was not.
+#[derive(Clone, Copy)]
+pub(crate) enum Uncut {
+    /// The peer refused that: the file has so many octets as before.
+    Stays(u64),
+    /// The write did not end with an answer that tells whether it was performed.
+    MaybeEmpty,
+}
+
 /// What was written of some octets.
 #[derive(Drop)]
 pub(crate) struct Put {
@@ -58,8 +70,8 @@ pub(crate) struct Put {
     pub count: usize,
     /// Whether these are all.
     pub is_whole: bool,
-    /// How many octets the file has, where it is longer than these and was not emptied, so that nothing was written.
-    pub uncut: Option<u64>,
+    /// What became of the file, where it is longer than these and was not emptied, so that nothing was written.
+    pub uncut: Option<Uncut>,
     /// The last write, and how it ended.
     pub last: Asked,
 }
@@ -100,6 +112,32 @@ fn write_whole<M: ClientSockets, E: Write>(
     Err(link_fault(err))
 }
 
+/// Nothing was written: the last ask, before any write, ended so, and that became of the file.
+fn nothing_put(uncut: Option<Uncut>, last: Asked) -> Put {
+    Put {
+        count: 0,
+        is_whole: false,
+        uncut,
+        last,
+    }
+}
+
+/// What became of a file with so many octets, by how the write of its file-size ended; None where it is empty.
+fn uncut_by(there: u64, end: &AskEnd) -> Option<Uncut> {
+    match outcome_of(end) {
+        Outcome::Answered(AnyReply::Simple) => None,
+        Outcome::Answered(AnyReply::Error { .. } | AnyReply::Reject(_))
+        | Outcome::Rejected(_)
+        | Outcome::Refused(_)
+        | Outcome::NoLink => Some(Uncut::Stays(there)),
+        Outcome::Answered(AnyReply::Complex(_))
+        | Outcome::Aborted(_)
+        | Outcome::TimedOut
+        | Outcome::Expired
+        | Outcome::NoEnding => Some(Uncut::MaybeEmpty),
+    }
+}
+
 /// The words of the number 0 in a write: Unsigned, of one octet (clause 20.2.4).
 const NO_OCTETS: &str = "2100";
 
@@ -116,19 +154,13 @@ fn empty<M: ClientSockets, E: Write>(
 {
     let words = ["write", file.object, "file-size", NO_OCTETS];
     let last = ask_words(asking, client, file.peer, &words, err)?;
-    let is_empty = matches!(reply_of(&last.end), Some(AnyReply::Simple));
-    if is_empty {
-        return Ok(None);
+    match uncut_by(there, &last.end) {
+        None => Ok(None),
+        uncut => Ok(Some(nothing_put(uncut, last))),
     }
-    Ok(Some(Put {
-        count: 0,
-        is_whole: false,
-        uncut: Some(there),
-        last,
-    }))
 }
 
-/// The same of a file with so many octets at most, as its file-size says: it stays as it is.
+/// The same of a file with so many octets at most, as its file-size says: it stays as it is. Where the peer does not answer at all, nothing is written either.
 fn make_room<M: ClientSockets, E: Write>(
     asking: &Asking,
     client: &mut Client<'_, M>,
@@ -138,7 +170,11 @@ fn make_room<M: ClientSockets, E: Write>(
 ) -> Result<Option<Put>, Status>
     ensures told { IfErr result IsStop }
 {
-    match size_of(asking, client, file, err)? {
+    let last = ask_size(asking, client, file, err)?;
+    if is_silent(outcome_of(&last.end)) {
+        return Ok(Some(nothing_put(None, last)));
+    }
+    match size_in(client.station.alloc, &last, err)? {
         Some(there) if there > count as u64 => empty(asking, client, file, there, err),
         _ => Ok(None),
     }
@@ -180,6 +216,29 @@ fn number_in(alloc: Global, reply: Option<Reply<'_>>) -> Result<Option<u64>, NoM
     }
 }
 
+/// A client reads the file-size of a file.
+fn ask_size<M: ClientSockets, E: Write>(
+    asking: &Asking,
+    client: &mut Client<'_, M>,
+    file: &PeerFile<'_>,
+    err: &mut E,
+) -> Result<Asked, Status>
+    ensures told { IfErr result IsStop }
+{
+    let words = ["read", file.object, "file-size"];
+    ask_words(asking, client, file.peer, &words, err)
+}
+
+/// The number that the read of a file-size was answered with; None where it was not answered with one.
+fn size_in<E: Write>(alloc: Global, asked: &Asked, err: &mut E) -> Result<Option<u64>, Status>
+    ensures told { IfErr result IsStop }
+{
+    match number_in(alloc, reply_of(&asked.end)) {
+        Ok(number) => Ok(number),
+        Err(_) => Err(no_memory(err)),
+    }
+}
+
 /// How many octets a file has by its file-size; None where the peer does not answer with a number.
 pub(crate) fn size_of<M: ClientSockets, E: Write>(
     asking: &Asking,
@@ -189,10 +248,6 @@ pub(crate) fn size_of<M: ClientSockets, E: Write>(
 ) -> Result<Option<u64>, Status>
     ensures told { IfErr result IsStop }
 {
-    let words = ["read", file.object, "file-size"];
-    let asked = ask_words(asking, client, file.peer, &words, err)?;
-    match number_in(client.station.alloc, reply_of(&asked.end)) {
-        Ok(number) => Ok(number),
-        Err(_) => Err(no_memory(err)),
-    }
+    let asked = ask_size(asking, client, file, err)?;
+    size_in(client.station.alloc, &asked, err)
 }

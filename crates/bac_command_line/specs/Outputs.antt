@@ -1,5 +1,9 @@
 -- What standard output has.
-use Rattle.std.specs.Prelude.{ℕ, List, [], Option, Some, None}
+use Rattle.std.specs.Prelude.{ℕ, Bool, true, false, List, [], Option, Some, None, Result, Ok, Err}
+use Rattle.std.specs.IoError.{error_kind}
+use Rattle.std.specs.declared.io.Error.{Error}
+use Rattle.std.specs.declared.io.ErrorKind.{ErrorKind}
+use Rattle.std.specs.declared.io.ErrorKind.TheVariants.{BrokenPipe}
 use Rattle.std.specs.declared.io.traits.Write.{Ghosts}
 use Rattle.bac_shown.specs.declared.form.Form.{Form}
 use Rattle.bac_command_line.specs.declared.output.Output.{Output}
@@ -21,3 +25,16 @@ begun_in (Some form) known = Some []
 
 abbrev pub piped_contents : {W : Type 0} (known : W → Option (List ℕ)) → Piped W → Option (List ℕ)
 piped_contents known piped = known piped.below
+
+-- nobody reads what is written any more: a write or a flush failed so
+abbrev pub has_reader_ended : {W : Type 0} → Piped W → Bool
+has_reader_ended piped = piped.has_reader_ended
+
+abbrev pub is_broken_pipe : ErrorKind → Bool
+is_broken_pipe BrokenPipe = true
+is_broken_pipe kind = false
+
+-- that call failed so
+abbrev pub failed_unread : {A : Type 0} → Result A Error → Bool
+failed_unread (Ok x) = false
+failed_unread (Err e) = is_broken_pipe (error_kind e)

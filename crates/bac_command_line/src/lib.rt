@@ -21,7 +21,7 @@ mod telling;
 mod told;
 
 pub use command::run;
-pub use ending::exit_code;
+pub use ending::{exit_code, run_to_end};
 pub use machine::Machine;
 pub use piped::Piped;
 pub use since_boot::SinceBoot;

@@ -218,7 +218,7 @@ pub(crate) fn task_of<'m, 'a>(
                     path,
                 });
             }
-            let peer = peer_of(given)?;
+            let peer = peer_of(given, None)?;
             if let Some(work) = work_of(given, &asking) {
                 let task = FileTask { asking, peer };
                 return Some(Task::Files { task, work });

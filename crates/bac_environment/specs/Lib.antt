@@ -2,3 +2,4 @@ pub mod Files
 pub mod Sockets
 pub mod Limits
 pub mod Given
+pub mod Times

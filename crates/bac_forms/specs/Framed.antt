@@ -7,6 +7,15 @@ use Rattle.bac_capture.specs.declared.fault.PacketFault.{PacketFault}
 use Rattle.bac_capture.specs.declared.link.LinkKind.TheVariants as link
 use Rattle.bac_text.specs.DecodedLines.{IsDatagramText}
 
+abbrev pub has_datagram : Result (Option DatagramView) PacketFault → Bool
+has_datagram (Ok (Some d)) = true
+has_datagram (Ok None) = false
+has_datagram (Err fault) = false
+
+-- the octets are a frame that carries a datagram
+abbrev pub is_frame : (octets : List ℕ) → Bool
+is_frame octets = has_datagram (datagram_at link.Ethernet None octets)
+
 abbrev pub none_line : List ℕ
 none_line = codes "frame: no BACnet/IP datagram\n"
 

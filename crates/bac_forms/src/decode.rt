@@ -8,7 +8,7 @@ ghost use Rattle.bac_forms.specs.Reading.{octets_of};
 
 use crate::fault::FormFault;
 use crate::form::Form;
-use crate::frame::{show_frame, show_layers};
+use crate::frame::{is_frame, show_frame, show_layers};
 use crate::place::Position;
 use crate::reading::read_datagrams;
 use bac_text::{Status, no_memory, output_failed, shown_status};
@@ -146,12 +146,24 @@ fn tell_none<E: Write>(text: &[u8], datagrams: &[Vec<u8>], err: &mut E) {
     }
 }
 
+/// What is told of frames that were read as datagrams.
+pub const FRAME_ADVICE: &str = "these are whole Ethernet frames: --frame reads them";
+
+/// Tells how frames are read, where one was read as a datagram.
+fn tell_frames<E: Write>(printing: Printing, datagrams: &[Vec<u8>], err: &mut E) {
+    if !printing.frames && datagrams.iter().any(|datagram| is_frame(datagram)) {
+        // if that fails too, only the status is left
+        let _ = err.writeln(FRAME_ADVICE);
+    }
+}
+
 /// Prints the layers of the datagrams of a text in that form, as `bac_text::decode_text_over` does of each; each behind a line `datagram N`, from 1 on, where they
 /// are numbered. With `frames` each is the datagram in a frame of Ethernet, from or to a UDP port of BACnet/IP; of another frame a line `frame: ` says why it has
 /// none, which counts as a fault.
 ///
 /// Ends with `Faulty` where one has a fault. Where a character of the text does not fit the form nothing is printed but `bad escaped`, with the form's name, and the
-/// line, the column and the character on `err`; where it has no datagram, and more than blanks, `no datagram` on `err`. Out of memory: `no memory` on `err`. `Output` where `out` cannot be written.
+/// line, the column and the character on `err`; where it has no datagram, and more than blanks, `no datagram` on `err`; where a datagram
+/// is a whole frame, and none was wanted, [`FRAME_ADVICE`]. Out of memory: `no memory` on `err`. `Output` where `out` cannot be written.
 pub fn decode_form_over<O: Write, E: Write>(
     alloc: Global,
     form: Form,
@@ -167,6 +179,7 @@ pub fn decode_form_over<O: Write, E: Write>(
         Err(fault) => return refuse(form, fault, err),
     };
     tell_none(text, &datagrams, err);
+    tell_frames(printing, &datagrams, err);
     match print_all(alloc, printing, &datagrams, out) {
         Ok(status) => status,
         Err(error) => {

@@ -1,11 +1,11 @@
 //! Datagrams in frames of Ethernet.
-ghost use Rattle.std.specs.Prelude.{None, IfOk, OnOk};
+ghost use Rattle.std.specs.Prelude.{◌≡◌, None, IfOk, OnOk};
 ghost use Rattle.std.specs.Io.KnownBytes.{Appends};
 ghost use Rattle.bac_capture.specs.Frames.{datagram_at};
 ghost use Rattle.bac_capture.specs.declared.link.LinkKind.TheVariants as link;
 ghost use Rattle.bac_text.specs.DecodedLines.{IsDatagramText};
 ghost use Rattle.bac_text.specs.Texts.{AppendsText};
-ghost use Rattle.bac_forms.specs.Framed.{IsFrameText, fault_line, none_line};
+ghost use Rattle.bac_forms.specs.Framed.{IsFrameText, fault_line, is_frame, none_line};
 
 use bac_capture::{LinkKind, PacketFault, Ports, read_frame};
 use bac_text::show_datagram;
@@ -15,6 +15,17 @@ use std::io::Write;
 
 /// The sixteen UDP ports of BACnet/IP.
 const PORTS: Ports = Ports { also: None };
+
+/// Whether octets are a frame of Ethernet with a datagram of BACnet/IP, from or to one of its sixteen UDP ports.
+pub fn is_frame(octets: &[u8]) -> bool
+    ensures { result ≡ is_frame octets.now }
+{
+    match read_frame(LinkKind::Ethernet, PORTS, octets) {
+        Ok(Some(_)) => true,
+        Ok(None) => false,
+        Err(_) => false,
+    }
+}
 
 /// Prints the layers of a datagram. Answers whether it has no fault.
 #[tactic(auto, using(crate::proofs::Shown::datagram_told))]

@@ -19,9 +19,10 @@ mod scan;
 mod scanning;
 mod stream;
 
-pub use decode::{Printing, decode_form_over};
+pub use decode::{FRAME_ADVICE, Printing, decode_form_over};
 pub use fault::FormFault;
 pub use form::{FORM_NAMES, Form};
+pub use frame::is_frame;
 pub use guessing::{evident, guess};
 pub use place::Position;
 pub use reading::read_datagrams;

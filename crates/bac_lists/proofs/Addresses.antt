@@ -1,37 +1,23 @@
 -- Words that are addresses, or none.
-use Rattle.std.proofs.Common.{◌≡◌, ◌⊎◌, ◌↔◌, ℕ, ◌<◌, Bool, true, false, List, length, Option, Some, None, refl, sym, ap, subst, ◌∙◌, arith, inl, inr}
-use Rattle.std.proofs.lemmas.Bool.Decides.{nat_tests}
-use Rattle.std.specs.List.{after_first, before_first, position_or_len}
+use Rattle.std.proofs.Common.{◌≡◌, ◌⊎◌, ◌↔◌, ℕ, Bool, true, false, List, Option, Some, None, refl, sym, ap, subst, ◌∙◌, arith, inl, inr}
+use Rattle.std.specs.List.{after_first, before_first}
 use Rattle.std.specs.Prelude.{IfSome, IsSome, IsTrue, MatchOption}
-use Rattle.bac_npdu.specs.Peers.{PeerView, RouteView, route_fits}
+use Rattle.bac_npdu.specs.Peers.{RouteView, route_fits}
 use Rattle.bac_npdu.specs.Views.{route_view}
 use Rattle.bac_npdu.specs.declared.route.Route.{Route}
+use Rattle.bac_lists.proofs.Numerals.{one_number}
 use Rattle.bac_lists.specs.Addresses.{AreOctets, IsCut, IsEnd, IsHost, IsLink, IsNoEnd, IsNoHost, IsNoLink, IsNoNumber, IsNoPeer, IsNoPort, IsNoRoute, IsNoWay, IsNumber, IsPeer, IsPort, IsRoute, IsWay, has_octet, is_colon, is_of_node, is_slash, link_of, port_or_own}
 
 -- ---- ports
 
-pub no_number_no_port : (text : List ℕ) → IsNoNumber text → IsNoPort text
+pub no_number_no_port : (text : List ℕ) → IsNoNumber 16 text → IsNoPort text
 no_number_no_port text none = λ port is. none port is.number
 
-pub zero_no_port : (text : List ℕ) (number : ℕ) → IsNumber text number → number ≡ 0 → IsNoPort text
+pub zero_no_port : (text : List ℕ) (number : ℕ) → IsNumber 16 text number → number ≡ 0 → IsNoPort text
 zero_no_port text number is none = λ port o. absurd (omega (arith, o.some, o.number.is, is.is, none))
 
-pub some_port : (text : List ℕ) (number : ℕ) → IsNumber text number → (number ≡ 0 → ⊥) → IsPort text number
+pub some_port : (text : List ℕ) (number : ℕ) → IsNumber 16 text number → (number ≡ 0 → ⊥) → IsPort text number
 some_port text number is some = record { number = is; some = omega (arith, some) }
-
--- ---- where a text is cut
-
-has_some : (p : ℕ → Bool) (text : List ℕ) → position_or_len p text < length text → has_octet p text ≡ true
-has_some p text before = grind (arith, nat_tests, before)
-
-has_none : (p : ℕ → Bool) (text : List ℕ) → position_or_len p text ≡ length text → has_octet p text ≡ false
-has_none p text all = grind (arith, nat_tests, all)
-
-pub cut_so : {A : Type 0} (p : ℕ → Bool) (text : List ℕ) (f g : A → List ℕ) (r : Option A)
-    → MatchOption r (position_or_len p text ≡ length text) (λ x. (position_or_len p text < length text) × (f x ≡ before_first p text) × (g x ≡ after_first p text))
-    → MatchOption r (has_octet p text ≡ false) (λ x. IsCut p text (f x) (g x))
-cut_so p text f g None all = has_none p text all
-cut_so p text f g (Some x) parts = record { there = has_some p text parts.0; front_is = parts.1; back_is = parts.2 }
 
 both_ways : (b : Bool) → b ≡ true → b ≡ false → ⊥
 both_ways true holds missing = absurd cc
@@ -78,14 +64,11 @@ link_of_end text host link port number end holds is made =
 
 -- ---- ways on
 
-pub no_number_no_way : (network digits : List ℕ) → IsNoNumber network → IsNoWay network digits
+pub no_number_no_way : (network digits : List ℕ) → IsNoNumber 16 network → IsNoWay network digits
 no_number_no_way network digits none = λ r way. none r.network way.number
 
 pub no_octets_no_way : (network digits : List ℕ) → ((octets : List ℕ) → AreOctets digits octets → ⊥) → IsNoWay network digits
 no_octets_no_way network digits none = λ r way. none r.address way.address
-
-same_number : (text : List ℕ) (a b : ℕ) → IsNumber text a → IsNumber text b → a ≡ b
-same_number text a b one other = sym one.is ∙ other.is
 
 same_octets : (digits a b : List ℕ) → AreOctets digits a → AreOctets digits b → a ≡ b
 same_octets digits a b one other = let is : Some a ≡ Some b = sym one.is ∙ other.is in cc
@@ -94,13 +77,13 @@ abbrev way_at : ℕ → List ℕ → RouteView
 way_at number octets = record { network = number; address = octets }
 
 -- the way that is made of them is the one that they are, if it is one
-pub way_told : (network digits octets : List ℕ) (number : ℕ) (r : Option Route) → IsNumber network number → AreOctets digits octets
+pub way_told : (network digits octets : List ℕ) (number : ℕ) (r : Option Route) → IsNumber 16 network number → AreOctets digits octets
     → (IsSome r ↔ IsTrue (route_fits (record { network = number; address = octets })))
     → IfSome r (λ x. route_view x ≡ record { network = number; address = octets })
     → MatchOption r (IsNoWay network digits) (λ x. IsWay network digits (route_view x))
 way_told network digits octets number None is are some parts = λ way told.
     let same : way_at way.network way.address ≡ way_at number octets =
-    ap (λ (n : ℕ). way_at n way.address) (same_number network way.network number told.number is)
+    ap (λ (n : ℕ). way_at n way.address) (one_number 16 network way.network number told.number is)
     ∙ ap (λ (o : List ℕ). way_at number o) (same_octets digits way.address octets told.address are) in
     let fits : IsTrue (route_fits (way_at number octets)) = subst (λ (w : RouteView). IsTrue (route_fits w)) same told.fits in
     absurd (cc (some.1 fits))

@@ -1,4 +1,5 @@
 pub mod Separated
+pub mod Numerals
 pub mod Addresses
 pub mod ReadLines
 pub mod LineWords

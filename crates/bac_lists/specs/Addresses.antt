@@ -34,18 +34,18 @@ IsHost text host = (a : Ipv4Addr) × IsIpv4Text text a × (ipv4_octets a ≡ hos
 abbrev pub IsNoHost : (text : List ℕ) → Type 0
 IsNoHost text = (a : Ipv4Addr) → IsIpv4Text text a → ⊥
 
--- a text is this number, of 16 bits: decimal digits, before which a plus may stand
-pub record IsNumber (text : List ℕ) (number : ℕ) : Type 0 where
+-- a text is this number, of so many bits: decimal digits, before which a plus may stand
+pub record IsNumber (bits : ℕ) (text : List ℕ) (number : ℕ) : Type 0 where
   pub digits : IsNumeral 10 (without_leading_plus text)
   pub is : digits_value 10 (without_leading_plus text) ≡ number
-  pub fits : number < 2 ^ 16
+  pub fits : number < 2 ^ bits
 
-abbrev pub IsNoNumber : (text : List ℕ) → Type 0
-IsNoNumber text = (number : ℕ) → IsNumber text number → ⊥
+abbrev pub IsNoNumber : (bits : ℕ) → (text : List ℕ) → Type 0
+IsNoNumber bits text = (number : ℕ) → IsNumber bits text number → ⊥
 
 -- a number from 1 on
 pub record IsPort (text : List ℕ) (port : ℕ) : Type 0 where
-  pub number : IsNumber text port
+  pub number : IsNumber 16 text port
   pub some : 0 < port
 
 abbrev pub IsNoPort : (text : List ℕ) → Type 0
@@ -55,11 +55,14 @@ IsNoPort text = (port : ℕ) → IsPort text port → ⊥
 abbrev pub BACNET_PORT : ℕ
 BACNET_PORT = 47808
 
+abbrev pub is_mark : (mark octet : ℕ) → Bool
+is_mark mark octet = nat_eq octet mark
+
 abbrev pub is_colon : (octet : ℕ) → Bool
-is_colon octet = nat_eq octet 58
+is_colon = is_mark 58
 
 abbrev pub is_slash : (octet : ℕ) → Bool
-is_slash octet = nat_eq octet 47
+is_slash = is_mark 47
 
 -- an octet like that stands in a text
 abbrev pub has_octet : (is_wanted : ℕ → Bool) → (text : List ℕ) → Bool
@@ -109,7 +112,7 @@ pub record AreOctets (digits octets : List ℕ) : Type 0 where
 
 -- two texts are this way on: a network's number, and a device's address there
 pub record IsWay (network digits : List ℕ) (r : RouteView) : Type 0 where
-  pub number : IsNumber network r.network
+  pub number : IsNumber 16 network r.network
   pub address : AreOctets digits r.address
   pub fits : IsTrue (route_fits r)
 

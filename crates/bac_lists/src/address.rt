@@ -1,11 +1,12 @@
 //! IPv4 addresses, UDP ports and the ways behind routers as words.
-ghost use Rattle.std.specs.Prelude.{◌≡◌, ◌⊎◌, ◌≤◌, ℕ, List, false, true, take, IfSome, MatchOption};
+ghost use Rattle.std.specs.Prelude.{◌≡◌, ◌⊎◌, ◌≤◌, ℕ, List, true, take, IfSome, MatchOption};
 ghost use Rattle.std.specs.Net.Addr.{ipv4_octets};
 ghost use Rattle.std.specs.Net.Grammar.{IsIpv4Text};
 ghost use Rattle.std.specs.declared.net.Ipv4Addr.{Ipv4Addr};
 ghost use Rattle.bac_npdu.specs.Views.{peer_view, route_view};
-ghost use Rattle.bac_lists.specs.Addresses.{AreOctets, IsCut, IsEnd, IsHost, IsLink, IsNoEnd, IsNoHost, IsNoLink, IsNoNumber, IsNoPeer, IsNoPort, IsNoRoute, IsNoWay, IsNumber, IsPeer, IsPort, IsRoute, IsWay, has_octet, is_colon, is_of_node, is_slash, link_of, port_or_own};
+ghost use Rattle.bac_lists.specs.Addresses.{AreOctets, IsEnd, IsHost, IsLink, IsNoEnd, IsNoHost, IsNoLink, IsNoPeer, IsNoPort, IsNoRoute, IsNoWay, IsPeer, IsPort, IsRoute, IsWay, is_of_node, link_of, port_or_own};
 
+use crate::numbers::{parts_at, read_short};
 use bac_npdu::{LinkAddress, Peer, Route};
 use std::net::Ipv4Addr;
 
@@ -41,22 +42,12 @@ pub fn link_at(host: [u8; 4], port: u16) -> LinkAddress
     [a, b, c, d, high, low]
 }
 
-/// The number of 16 bits that a text is.
-fn read_number(text: &str) -> Option<u16>
-    ensures { MatchOption result (IsNoNumber text.now) (IsNumber text.now) }
-{
-    match text.parse::<u16>() {
-        Ok(number) => Some(number),
-        Err(_) => None,
-    }
-}
-
 /// The port that a text is, from 1 on.
 #[tactic(auto, using(crate::proofs::Addresses::no_number_no_port, crate::proofs::Addresses::zero_no_port, crate::proofs::Addresses::some_port))]
 fn read_port(text: &str) -> Option<u16>
     ensures { MatchOption result (IsNoPort text.now) (IsPort text.now) }
 {
-    let port = read_number(text)?;
+    let port = read_short(text)?;
     if port == 0 { None } else { Some(port) }
 }
 
@@ -92,20 +83,6 @@ pub fn read_link(text: &str) -> Option<LinkAddress>
     }
 }
 
-/// What stands before the first colon of a text, and what stands behind it.
-fn parts_at_colon(text: &str) -> Option<(&str, &str)>
-    ensures { MatchOption result (has_octet is_colon text.now ≡ false) (λ p. IsCut is_colon text.now p.0.now p.1.now) }
-{
-    text.split_once(':')
-}
-
-/// What stands before the first slash of a text, and what stands behind it.
-fn parts_at_slash(text: &str) -> Option<(&str, &str)>
-    ensures { MatchOption result (has_octet is_slash text.now ≡ false) (λ p. IsCut is_slash text.now p.0.now p.1.now) }
-{
-    text.split_once('/')
-}
-
 /// The address and the port that two texts are. None where one of them is none.
 #[tactic(auto, using(crate::proofs::Addresses::no_host_there, crate::proofs::Addresses::no_port_there))]
 fn host_and_port(host: &str, port: &str) -> Option<([u8; 4], u16)>
@@ -121,7 +98,7 @@ fn host_and_port(host: &str, port: &str) -> Option<([u8; 4], u16)>
 pub fn read_end(text: &str) -> Option<([u8; 4], Option<u16>)>
     ensures { MatchOption result (IsNoEnd text.now) (λ e. IsEnd text.now e.0 e.1) }
 {
-    match parts_at_colon(text) {
+    match parts_at(text, ':') {
         Some((host, port)) => {
             let (host, port) = host_and_port(host, port)?;
             Some((host, Some(port)))
@@ -156,7 +133,7 @@ fn read_octets(digits: &str) -> Option<([u8; MOST_OCTETS], usize)>
 fn route_of(network: &str, digits: &str) -> Option<Route>
     ensures { MatchOption result (IsNoWay network.now digits.now) (λ r. IsWay network.now digits.now (route_view r)) }
 {
-    let network = read_number(network)?;
+    let network = read_short(network)?;
     let (address, count) = read_octets(digits)?;
     Route::new(network, &address[..count])
 }
@@ -167,7 +144,7 @@ fn route_of(network: &str, digits: &str) -> Option<Route>
 pub fn read_route(text: &str) -> Option<Route>
     ensures { MatchOption result (IsNoRoute text.now) (λ r. IsRoute text.now (route_view r)) }
 {
-    let (network, digits) = parts_at_colon(text)?;
+    let (network, digits) = parts_at(text, ':')?;
     route_of(network, digits)
 }
 
@@ -176,7 +153,7 @@ pub fn read_route(text: &str) -> Option<Route>
 pub(crate) fn read_peer(text: &str) -> Option<Peer>
     ensures { MatchOption result (IsNoPeer text.now) (λ p. IsPeer text.now (peer_view p)) }
 {
-    match parts_at_slash(text) {
+    match parts_at(text, '/') {
         Some((address, way)) => {
             let link = read_link(address)?;
             let route = read_route(way)?;

@@ -28,7 +28,16 @@ fn separator_of(style: Style) -> &'static str {
     }
 }
 
-/// The name that is like a misspelled one, if there is one.
+/// What stands behind a word that no name is like: an object, and where the names of types stand, or those of properties.
+fn names_advice(wanted: Wanted) -> &'static [u8] {
+    match wanted {
+        Wanted::Object => b", for example analog-value:1 (bac help types lists the types)",
+        Wanted::Property => b" (bac help properties lists the names)",
+        _ => b"",
+    }
+}
+
+/// The name that is like a misspelled one, or where the names stand if there is none.
 fn add_name_like(
     alloc: Global,
     wanted: Wanted,
@@ -37,7 +46,7 @@ fn add_name_like(
 ) -> Result<(), AllocError> {
     match name_like(alloc, wanted, word)? {
         Some(name) => add_meant(name, reason),
-        None => Ok(()),
+        None => reason.extend_from_slice(names_advice(wanted)),
     }
 }
 

@@ -7,6 +7,7 @@ mod bad_words;
 mod line_name;
 mod line_words;
 mod near_names;
+mod numbers;
 mod parts;
 mod question_lines;
 mod source;
@@ -18,4 +19,5 @@ pub use address::{
 };
 pub use asker::{Asker, NO_LINE};
 pub use bad_words::{bad_word_text, print_bad_words};
+pub use numbers::{parts_at, read_number};
 pub use question_lines::{LineQuestion, have_names, questions_in};

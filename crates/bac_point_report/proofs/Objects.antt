@@ -45,7 +45,7 @@ abbrev pub AreLeft : (rest run : List ℕ) → Type 0
 AreLeft rest run = AreNoObjects rest → AreNoObjects run
 
 -- of two elements in front each is the other
-same_front : (p q : Part) (a b : List ℕ) → SpellsElement p (part_spelling p) → SpellsElement q (part_spelling q) → part_spelling p ++ a ≡ part_spelling q ++ b
+pub same_front : (p q : Part) (a b : List ℕ) → SpellsElement p (part_spelling p) → SpellsElement q (part_spelling q) → part_spelling p ++ a ≡ part_spelling q ++ b
     → (p ≡ q) × (a ≡ b)
 same_front p q a b s t e =
     let same = (one_only element_at SpellsElement element_exact p q (part_spelling p) (part_spelling q) a b s t e).0 in
@@ -71,7 +71,7 @@ none_first p rest next s is never (i ∷ others) are =
 
 -- ---- one element is no two values
 
-kinds_differ : (d e : Datum) (p : Part) → (kind_number d ≡ kind_number e → ⊥) → IsValueOf d p → IsValueOf e p → ⊥
+pub kinds_differ : (d e : Datum) (p : Part) → (kind_number d ≡ kind_number e → ⊥) → IsValueOf d p → IsValueOf e p → ⊥
 kinds_differ d e p differ a b = differ (ap (λ (m : Mark). m.number) (sym a.tag ∙ b.tag))
 
 pub no_object : (d : Datum) (p : Part) → object_in d ≡ None → IsValueOf d p → (i : ObjectId) → IsValueOf (object i) p → ⊥

@@ -1,7 +1,8 @@
 pub mod Targets
 pub mod Outcomes
-pub mod Lines
 pub mod Shown
 pub mod Points
+pub mod Advice
+pub mod Lines
 pub mod Listing
 pub mod Written

@@ -3,6 +3,7 @@ use Rattle.std.specs.Prelude.{ℕ, List, [], ◌∷◌, ◌++◌, Option, Some, 
 use Rattle.bac_service.specs.Values.{Reference}
 use Rattle.bac_value_text.specs.Texts.{object_text, property_text}
 use Rattle.bac_ask_report.specs.Records.{Outcome}
+use Rattle.bac_point_report.specs.Advice.{advice_line}
 use Rattle.bac_point_report.specs.Outcomes.{failure_words}
 
 -- in brackets, where there is one
@@ -27,3 +28,6 @@ value_line named value = (front_text named ++ value) ++ 10 ∷ []
 
 abbrev pub failure_line : Reference → Outcome → List ℕ
 failure_line r how = ((names_text 32 r ++ codes ": ") ++ failure_words how) ++ 10 ∷ []
+
+abbrev pub failure_lines : Reference → Outcome → List ℕ
+failure_lines r how = failure_line r how ++ advice_line r how

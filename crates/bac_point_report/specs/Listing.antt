@@ -53,6 +53,22 @@ AreObjectsOf r how objects = IsSomeAnd (values_of (ReadProperty r) how) (AreObje
 abbrev pub AreNoObjectsOf : Reference → Outcome → Type 0
 AreNoObjectsOf r how = (objects : List ObjectId) → AreObjectsOf r how objects → ⊥
 
+-- the number that a value is
+abbrev pub unsigned_in : Datum → Option ℕ
+unsigned_in null = None
+unsigned_in (boolean b) = None
+unsigned_in (unsigned n) = Some n
+unsigned_in (signed z) = None
+unsigned_in (real a) = None
+unsigned_in (double a) = None
+unsigned_in (octets a) = None
+unsigned_in (characters set a) = None
+unsigned_in (bits unused a) = None
+unsigned_in (enumerated n) = None
+unsigned_in (date a) = None
+unsigned_in (time a) = None
+unsigned_in (object i) = None
+
 -- the only value is that number
 pub record IsNumber (n : ℕ) (run : List ℕ) : Type 0 where
   pub element : Part
@@ -62,6 +78,14 @@ pub record IsNumber (n : ℕ) (run : List ℕ) : Type 0 where
 
 abbrev pub IsNumberOf : Reference → Outcome → ℕ → Type 0
 IsNumberOf r how n = IsSomeAnd (values_of (ReadProperty r) how) (IsNumber n)
+
+-- there is no value, more than one, or one that is no number
+abbrev pub IsNoNumber : (run : List ℕ) → Type 0
+IsNoNumber run = (n : ℕ) → IsNumber n run → ⊥
+
+-- it was not answered with one number
+abbrev pub IsNoNumberOf : Reference → Outcome → Type 0
+IsNoNumberOf r how = (n : ℕ) → IsNumberOf r how n → ⊥
 
 -- an Abort came
 abbrev pub is_aborted : Outcome → Bool

@@ -1,6 +1,7 @@
 //! What `read`, `write` and `points` ask and print, for people: the properties that words name, values alone, and the table of a device's points.
 #![tactic(auto)]
 
+mod advice;
 mod columns;
 mod line;
 mod listing;
@@ -11,8 +12,9 @@ mod showing;
 mod targets;
 mod written;
 
+pub use advice::is_refused;
 pub use columns::Widths;
-pub use line::{failure_line, value_line};
+pub use line::{failure_lines, value_line};
 pub use listing::{ListStep, after_list, number_of, objects_of};
 pub use outcome::{failure_words, has_values, is_done, is_silent, values_of};
 pub use point_record::{CSV_HEADER, point_object, point_row};

@@ -3,8 +3,9 @@ ghost use Rattle.std.specs.Prelude.{◌≡◌, IfOk, OnOk, ◌++◌};
 ghost use Rattle.std.specs.Option.{option_map};
 ghost use Rattle.bac_ask_report.specs.Records.{outcome_view};
 ghost use Rattle.bac_service.specs.Views.{property_reference_view};
-ghost use Rattle.bac_point_report.specs.Lines.{element_text, failure_line, front_text, names_text, value_line};
+ghost use Rattle.bac_point_report.specs.Lines.{element_text, failure_line, failure_lines, front_text, names_text, value_line};
 
+use crate::advice::advice_line;
 use crate::outcome::failure_words;
 use bac_ask_report::Outcome;
 use bac_service::PropertyReference;
@@ -64,8 +65,8 @@ pub fn value_line(
     Ok(line)
 }
 
-/// The line that says why there is no value of a property. An Err is out of memory.
-pub fn failure_line(
+/// The line that says why there is no value of a property.
+fn failure_line(
     alloc: Global,
     reference: PropertyReference,
     outcome: Outcome<'_>,
@@ -78,4 +79,19 @@ pub fn failure_line(
     line.extend_from_slice(&words)?;
     line.push(b'\n')?;
     Ok(line)
+}
+
+/// The line that says why there is no value of a property, and behind it what to read in its place, where objects of that type have no present-value. An Err is
+/// out of memory.
+pub fn failure_lines(
+    alloc: Global,
+    reference: PropertyReference,
+    outcome: Outcome<'_>,
+) -> Result<Vec<u8>, AllocError>
+    ensures { IfOk result (λ t. t.items ≡ failure_lines (property_reference_view reference) (outcome_view outcome.entry)) }
+{
+    let advice = advice_line(alloc, reference, outcome)?;
+    let mut lines = failure_line(alloc, reference, outcome)?;
+    lines.extend_from_slice(&advice)?;
+    Ok(lines)
 }

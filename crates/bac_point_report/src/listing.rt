@@ -1,13 +1,13 @@
 //! The objects of a device, by its object-list.
-ghost use Rattle.std.specs.Prelude.{◌≡◌, map, IfOk, IfSome, MatchOption};
+ghost use Rattle.std.specs.Prelude.{◌≡◌, ℕ, map, IfOk, MatchOption};
 ghost use Rattle.std.specs.Option.{option_map};
 ghost use Rattle.bac_ask_report.specs.Records.{outcome_view};
 ghost use Rattle.bac_service.specs.Views.{property_reference_view};
 ghost use Rattle.bac_value.specs.Meaning.{IsValueOf};
-ghost use Rattle.bac_value.specs.Value.{ObjectId, object as datum};
+ghost use Rattle.bac_value.specs.Value.{ObjectId, object as datum, unsigned};
 ghost use Rattle.bac_value.specs.Views.{element_view, object_identifier_view, value_view};
-ghost use Rattle.bac_point_report.specs.Listing.{AreNoObjects, AreNoObjectsOf, AreObjects, AreObjectsOf, IsNumber, IsNumberOf, IsStep};
-ghost use Rattle.bac_point_report.specs.Listing.{is_aborted, object_in};
+ghost use Rattle.bac_point_report.specs.Listing.{AreNoObjects, AreNoObjectsOf, AreObjects, AreObjectsOf, IsNoNumber, IsNoNumberOf, IsNumber, IsNumberOf, IsStep};
+ghost use Rattle.bac_point_report.specs.Listing.{is_aborted, object_in, unsigned_in};
 
 use crate::outcome::values_of;
 use bac_ask_report::Outcome;
@@ -91,9 +91,42 @@ pub fn objects_of(
     }
 }
 
-/// The number that values are. None if they are not one number.
+/// The number that a value is.
+fn unsigned_in(value: &Value) -> Option<u64>
+    ensures { result ≡ unsigned_in (value_view value.now) }
+{
+    match value {
+        Value::Unsigned(number) => Some(*number),
+        Value::Null => None,
+        Value::Boolean(_) => None,
+        Value::Signed(_) => None,
+        Value::Real(_) => None,
+        Value::Double(_) => None,
+        Value::OctetString(_) => None,
+        Value::CharacterString(_) => None,
+        Value::BitString(_) => None,
+        Value::Enumerated(_) => None,
+        Value::Date(_) => None,
+        Value::Time(_) => None,
+        Value::ObjectIdentifier(_) => None,
+    }
+}
+
+/// The number that an element is; None exactly if it is none.
+#[tactic(auto, using(crate::proofs::Numbers::number_told))]
+fn unsigned_of(alloc: Global, element: Element<&[u8]>) -> Result<Option<u64>, NoMemory>
+    ensures { IfOk result (λ o. MatchOption o ((n : ℕ) → IsValueOf (unsigned n) (element_view (λ s. s.now) element.entry) → ⊥)
+        (λ n. IsValueOf (unsigned n) (element_view (λ s. s.now) element.entry))) }
+{
+    match value_of(alloc, element)? {
+        Some(value) => Ok(unsigned_in(&value)),
+        None => Ok(None),
+    }
+}
+
+/// The number that values are; None exactly if they are not one number.
 fn number_in(alloc: Global, values: Data<'_>) -> Result<Option<u64>, NoMemory>
-    ensures { IfOk result (λ o. IfSome o (λ n. IsNumber n values.entry.octets.now)) }
+    ensures { IfOk result (λ o. MatchOption o (IsNoNumber values.entry.octets.now) (λ n. IsNumber n values.entry.octets.now)) }
 {
     let Some((element, others)) = values.elements().split_first() else {
         return Ok(None);
@@ -101,19 +134,17 @@ fn number_in(alloc: Global, values: Data<'_>) -> Result<Option<u64>, NoMemory>
     if !others.octets.is_empty() {
         return Ok(None);
     }
-    match value_of(alloc, element)? {
-        Some(Value::Unsigned(number)) => Ok(Some(number)),
-        _ => Ok(None),
-    }
+    unsigned_of(alloc, element)
 }
 
-/// The number with which a read of a property was answered. None if it was not answered with one number. An Err is out of memory.
+/// The number with which a read of a property was answered; None exactly if it was not answered with one number. An Err is out of memory.
 pub fn number_of(
     alloc: Global,
     reference: PropertyReference,
     outcome: Outcome<'_>,
 ) -> Result<Option<u64>, NoMemory>
-    ensures { IfOk result (λ o. IfSome o (λ n. IsNumberOf (property_reference_view reference) (outcome_view outcome.entry) n)) }
+    ensures { IfOk result (λ o. MatchOption o (IsNoNumberOf (property_reference_view reference) (outcome_view outcome.entry))
+        (λ n. IsNumberOf (property_reference_view reference) (outcome_view outcome.entry) n)) }
 {
     match values_of(AnyRequest::ReadProperty(reference), outcome) {
         Some(values) => number_in(alloc, values),

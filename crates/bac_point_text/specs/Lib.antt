@@ -3,6 +3,7 @@ pub mod Lines
 pub mod Enumerations
 pub mod PropertyNames
 pub mod Views
+pub mod Advice
 pub mod Alone
 pub mod ListAlone
 pub mod Faults

@@ -4,6 +4,7 @@
 //! a property has. [`value_alone`] prints a value, and [`value_as_written`] reads one, given the kind that it has to have.
 #![tactic(auto)]
 
+mod advice;
 mod alone;
 mod enumeration;
 mod kind;
@@ -20,6 +21,7 @@ mod utf8;
 mod written;
 mod written_fault;
 
+pub use advice::names_advice;
 pub use alone::value_alone;
 pub use enumeration::{Enumeration, Listed, NamedNumber};
 pub use kind::Kind;

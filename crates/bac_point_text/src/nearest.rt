@@ -1,5 +1,5 @@
 //! The name of an enumeration that is most like a word.
-use crate::enumeration::Enumeration;
+use crate::enumeration::{Enumeration, NamedNumber};
 use std::alloc::{AllocError, Global};
 use std::str;
 
@@ -8,6 +8,9 @@ const MOST_EDITS: usize = 2;
 
 /// A word with more octets is like no name.
 const MOST_OCTETS: usize = 64;
+
+/// A word with fewer octets is no part of a name.
+const LEAST_PART: usize = 3;
 
 /// A name, and how many edits lead there.
 #[derive(Clone, Copy)]
@@ -32,7 +35,37 @@ fn nearer(
     }
 }
 
-/// The name of the enumeration that is most like a word, where one is like it.
+/// The name that the fewest edits make of a word, where few do.
+fn misspelled(
+    alloc: Global,
+    rows: &[NamedNumber],
+    word: &str,
+) -> Result<Option<&'static str>, AllocError> {
+    let mut near = None;
+    for row in rows {
+        near = nearer(alloc, word, near, row.name)?;
+    }
+    Ok(near.map(|near| near.name))
+}
+
+/// Whether a word is a part of a name, as `kelvin` is of `degrees-kelvin`.
+fn is_part(word: &str, name: &str) -> bool {
+    name.split('-').any(|part| part == word)
+}
+
+/// The shortest name that has a word as a part.
+fn shortened(rows: &[NamedNumber], word: &str) -> Option<&'static str> {
+    let mut shortest: Option<&'static str> = None;
+    for row in rows {
+        let is_shorter = shortest.map_or(true, |name| row.name.len() < name.len());
+        if is_shorter && is_part(word, row.name) {
+            shortest = Some(row.name);
+        }
+    }
+    shortest
+}
+
+/// The name of the enumeration that is most like a word, where one is like it: misspelled by two letters at most, or else one of which the word is a part.
 pub(crate) fn nearest(
     alloc: Global,
     names: Enumeration,
@@ -44,9 +77,9 @@ pub(crate) fn nearest(
     let Ok(word) = str::from_utf8(word) else {
         return Ok(None);
     };
-    let mut near = None;
-    for row in &names.rows(alloc)? {
-        near = nearer(alloc, word, near, row.name)?;
+    let rows = names.rows(alloc)?;
+    match misspelled(alloc, &rows, word)? {
+        None if word.len() >= LEAST_PART => Ok(shortened(&rows, word)),
+        near => Ok(near),
     }
-    Ok(near.map(|near| near.name))
 }

@@ -63,7 +63,7 @@ more_came IsOn asking peer device behind more total references ends old new befo
   batches = record { references = references; ends = ends } ∷ came.batches;
   asks = record { middle = middle; earlier = came.asks; last = asks };
   are = next_are device behind more total came.batches references sum is came.are;
-  found = record { earlier = old; last = adds.found; are = adds.are; came = came.found; more = adds.each };
+  found = record { first = old; others = adds.found; are = adds.are; came = came.found; more = adds.each };
 }
 
 -- of one batch more an element did not come

@@ -1,5 +1,5 @@
 -- What `points` asks, and whether each property came.
-use Rattle.std.specs.Prelude.{◌≡◌, ◌⊎◌, ⊤, ℕ, ◌+◌, ◌^◌, ◌-◌, min, Bool, true, false, ◌&&◌, ◌||◌, List, [], ◌∷◌, ◌++◌, map, Option, Some, None}
+use Rattle.std.specs.Prelude.{◌≡◌, ◌⊎◌, ℕ, ◌+◌, ◌^◌, ◌-◌, min, Bool, true, false, ◌&&◌, ◌||◌, List, [], ◌∷◌, ◌++◌, map, Option, Some, None}
 use Rattle.std.specs.List.{flat_map, list_any, range_with_len}
 use Rattle.bac_value.specs.Value.{ObjectId}
 use Rattle.bac_value.specs.Views.{object_identifier_view}
@@ -11,7 +11,7 @@ use Rattle.bac_driver.specs.Runs.{Timed}
 use Rattle.bac_driver.specs.declared.question.AskEnd.{AskEnd}
 use Rattle.bac_commands.specs.Questions.{question_for}
 use Rattle.bac_lists.specs.declared.question_lines.LineQuestion.{LineQuestion}
-use Rattle.bac_point_report.specs.Listing.{AreObjectsOf, IsNumberOf, IsStep}
+use Rattle.bac_point_report.specs.Listing.{AreObjectsOf, IsNoNumberOf, IsNumberOf, IsStep}
 use Rattle.bac_point_report.specs.Outcomes.{has_values, is_silent}
 use Rattle.bac_point_report.specs.Points.{is_absent, point_references}
 use Rattle.bac_point_report.specs.declared.listing.ListStep.{ListStep}
@@ -22,7 +22,7 @@ use Rattle.bac_asking.specs.Online.{IsClient}
 use Rattle.bac_asking.specs.Recording.{outcome_of}
 use Rattle.bac_asking.specs.declared.asking.Asking.{Asking}
 use Rattle.bac_environment.specs.Sockets.{Clocks, Links}
-use Rattle.bac_points.specs.Reads.{WINDOW, asked_of, question_in}
+use Rattle.bac_points.specs.Reads.{StopsHere, WINDOW, asked_of, question_in}
 
 -- ---- properties, several asked at once
 
@@ -70,8 +70,8 @@ element_behind device behind = list_of device (Some (behind + 1))
 abbrev pub elements : (device : ObjectId) → (behind count : ℕ) → List Reference
 elements device behind count = map (element_behind device) (range_with_len behind count)
 
--- the first answer has such objects, and the other answers have those that follow
-pub record AreFoundNext (AreFirst AreOthers : List ObjectId → Type 0) (objects : List ObjectId) : Type 0 where
+-- some objects are the first, and others follow
+pub record AreJoined (AreFirst AreOthers : List ObjectId → Type 0) (objects : List ObjectId) : Type 0 where
   pub first : List ObjectId
   pub others : List ObjectId
   pub are : objects ≡ first ++ others
@@ -82,7 +82,7 @@ pub record AreFoundNext (AreFirst AreOthers : List ObjectId → Type 0) (objects
 abbrev pub AreFound : List Reference → List AskEnd → List ObjectId → Type 0
 AreFound [] ends objects = objects ≡ []
 AreFound (r ∷ references) [] objects = ⊥
-AreFound (r ∷ references) (end ∷ ends) objects = AreFoundNext (AreObjectsOf r (outcome_of end)) (AreFound references ends) objects
+AreFound (r ∷ references) (end ∷ ends) objects = AreJoined (AreObjectsOf r (outcome_of end)) (AreFound references ends) objects
 
 -- an element was not answered with objects
 abbrev pub AreLacking : List Reference → List AskEnd → Type 0
@@ -107,16 +107,9 @@ pub record AddsBatch (IsOn : Links) (asking : Asking) (peer : PeerView) (referen
   pub follows : FollowsBatch came references ends old new
 
 -- those of batches
-pub record AreFoundBehind (AreEarlier AreLast : List ObjectId → Type 0) (objects : List ObjectId) : Type 0 where
-  pub earlier : List ObjectId
-  pub last : List ObjectId
-  pub are : objects ≡ earlier ++ last
-  pub came : AreEarlier earlier
-  pub more : AreLast last
-
 abbrev pub AreFoundIn : List Batch → List ObjectId → Type 0
 AreFoundIn [] objects = objects ≡ []
-AreFoundIn (b ∷ earlier) objects = AreFoundBehind (AreFoundIn earlier) (AreFound b.references b.ends) objects
+AreFoundIn (b ∷ earlier) objects = AreJoined (AreFoundIn earlier) (AreFound b.references b.ends) objects
 
 -- so many elements were read, in batches, and each was answered with objects
 pub record ElementsCame (IsOn : Links) (asking : Asking) (peer : PeerView) (device : ObjectId) (count : ℕ) (objects : List ObjectId) (before after : Timed) :
@@ -149,20 +142,15 @@ pub record IsTold (r : Reference) (end : AskEnd) (count : ℕ) : Type 0 where
   pub is : IsNumberOf r (outcome_of end) number
   pub least : count ≡ min number MOST
 
--- the number of elements that was told; of none nothing is said
+-- the number of elements that was told, or none was
 abbrev pub IsCount : Reference → AskEnd → (count : Option ℕ) → Type 0
 IsCount r end (Some count) = IsTold r end count
-IsCount r end None = ⊤
-
--- nothing more was asked, and there are no objects
-pub record StopsHere (objects : Option (List ObjectId)) (before after : Timed) : Type 0 where
-  pub none : objects ≡ None
-  pub at : after ≡ before
+IsCount r end None = IsNoNumberOf r (outcome_of end)
 
 abbrev pub FollowsCount : (count : Option ℕ) → Links → Asking → PeerView → (device : ObjectId) → (objects : Option (List ObjectId)) → (before after : Timed)
     → Type 0
 FollowsCount (Some count) IsOn asking peer device objects before after = ReadsElements IsOn asking peer device count objects before after
-FollowsCount None IsOn asking peer device objects before after = StopsHere objects before after
+FollowsCount None IsOn asking peer device objects before after = StopsHere (objects ≡ None) before after
 
 -- the number of elements was read
 pub record AsksCount (IsOn : Links) (asking : Asking) (peer : PeerView) (device : ObjectId) (count : Option ℕ) (before after : Timed) : Type 0 where
@@ -181,9 +169,9 @@ pub record ReadsInParts (IsOn : Links) (asking : Asking) (peer : PeerView) (devi
 -- by how the read of the list as a whole ended: the objects, element by element, or none
 abbrev pub FollowsList : ListStep → Links → Asking → PeerView → (device : ObjectId) → (objects : Option (List ObjectId)) → (before after : Timed) → Type 0
 FollowsList (step.Objects found) IsOn asking peer device objects before after =
-    (objects ≡ Some (map object_identifier_view found.items)) × (after ≡ before)
+    StopsHere (objects ≡ Some (map object_identifier_view found.items)) before after
 FollowsList step.InParts IsOn asking peer device objects before after = ReadsInParts IsOn asking peer device objects before after
-FollowsList step.Failed IsOn asking peer device objects before after = StopsHere objects before after
+FollowsList step.Failed IsOn asking peer device objects before after = StopsHere (objects ≡ None) before after
 
 pub record FollowsRead (IsOn : Links) (asking : Asking) (peer : PeerView) (device : ObjectId) (end : AskEnd) (objects : Option (List ObjectId))
     (before after : Timed) : Type 0 where
@@ -246,7 +234,7 @@ pub record ReadsColumns (IsOn : Links) (asking : Asking) (peer : PeerView) (obje
 
 abbrev pub ReadsTable : Links → Asking → PeerView → (objects : Option (List ObjectId)) → (all : Bool) → (before after : Timed) → Type 0
 ReadsTable IsOn asking peer (Some objects) all before after = ReadsColumns IsOn asking peer objects all before after
-ReadsTable IsOn asking peer None all before after = (all ≡ false) × (after ≡ before)
+ReadsTable IsOn asking peer None all before after = StopsHere (all ≡ false) before after
 
 -- a client read the objects, and then their columns
 pub record ReadsPoints (IsOn : Links) (asking : Asking) (peer : PeerView) (device : ObjectId) (all : Bool) (before after : Timed) : Type 0 where

@@ -29,6 +29,11 @@ WINDOW = 8
 abbrev pub question_in : LineQuestion → Option Question
 question_in line = Some (question_view line.question)
 
+-- nothing more was asked, and that is so
+pub record StopsHere (Says : Type 0) (before after : Timed) : Type 0 where
+  pub at : after ≡ before
+  pub says : Says
+
 -- the question for a property
 abbrev pub asked_of : PeerView → Reference → Option Question
 asked_of peer r = Some (question_for peer (ReadProperty r))

@@ -26,7 +26,7 @@ use Rattle.bac_asking.specs.Online.{IsClient}
 use Rattle.bac_asking.specs.Recording.{outcome_of}
 use Rattle.bac_asking.specs.declared.asking.Asking.{Asking}
 use Rattle.bac_environment.specs.Sockets.{Clocks, Links}
-use Rattle.bac_points.specs.Reads.{read_by}
+use Rattle.bac_points.specs.Reads.{StopsHere, read_by}
 use Rattle.bac_points.specs.declared.task.Writing.{Writing}
 use Rattle.bac_points.specs.declared.writing.Order as code
 
@@ -85,7 +85,7 @@ pub record AsksKind (IsOn : Links) (asking : Asking) (o : Order) (kind : Option 
 
 -- the kind with the given name, and nothing is asked; without a name that of the value that the property has
 abbrev pub FindsKindBy : (name : Option (List ℕ)) → Links → Asking → Order → Option Kind → (before after : Timed) → Type 0
-FindsKindBy (Some name) IsOn asking o kind before after = (kind ≡ kind_named name) × (after ≡ before)
+FindsKindBy (Some name) IsOn asking o kind before after = StopsHere (kind ≡ kind_named name) before after
 FindsKindBy None IsOn asking o kind before after = AsksKind IsOn asking o kind before after
 
 abbrev pub FindsKind : Links → Asking → Order → Option Kind → (before after : Timed) → Type 0
@@ -134,15 +134,10 @@ pub record ReadsBack (IsOn : Links) (asking : Asking) (o : Order) (written : Req
   pub asks : AsksOn IsOn asking o.reading end before after
   pub prints : PrintsBack written o.reference (values_of (ReadProperty o.reference) (outcome_of end)) old new
 
--- nothing more was asked or printed
-pub record EndsHere (before after : Timed) (old new : Option (List ℕ)) : Type 0 where
-  pub at : after ≡ before
-  pub printed : new ≡ old
-
--- it is read back where the write was performed
+-- it is read back where the write was performed; otherwise nothing more is asked or printed
 abbrev pub FollowsWrite : (performed : Bool) → Links → Asking → Order → (written : Request) → (before after : Timed) → (old new : Option (List ℕ)) → Type 0
 FollowsWrite true IsOn asking o written before after old new = ReadsBack IsOn asking o written before after old new
-FollowsWrite false IsOn asking o written before after old new = EndsHere before after old new
+FollowsWrite false IsOn asking o written before after old new = StopsHere (new ≡ old) before after
 
 -- one write was asked
 pub record WritesOnce (IsOn : Links) (asking : Asking) (o : Order) (q : Question) (done : Bool) (before after : Timed) (old new : Option (List ℕ)) : Type 0 where
@@ -160,12 +155,8 @@ pub record WritesKind (IsOn : Links) (asking : Asking) (peer : PeerView) (o : Or
   pub writes : WritesOnce IsOn asking o question done before after old new
 
 -- without a kind none was asked
-pub record WritesNothing (done : Bool) (before after : Timed) (old new : Option (List ℕ)) : Type 0 where
-  pub whether : done ≡ false
-  pub ends : EndsHere before after old new
-
 abbrev pub WritesAs : Links → Asking → PeerView → Order → Option Kind → (done : Bool) → (before after : Timed) → (old new : Option (List ℕ)) → Type 0
-WritesAs IsOn asking peer o None done before after old new = WritesNothing done before after old new
+WritesAs IsOn asking peer o None done before after old new = StopsHere ((done ≡ false) × (new ≡ old)) before after
 WritesAs IsOn asking peer o (Some k) done before after old new = WritesKind IsOn asking peer o k done before after old new
 
 -- a client found the kind, and wrote

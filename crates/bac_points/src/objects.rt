@@ -12,9 +12,10 @@ ghost use Rattle.bac_points.specs.Lists.{elements, list_of};
 
 use crate::performing::Desk;
 use crate::questions::{WINDOW, lines_for, question_of};
+use crate::silence::tell_refused;
 use bac_asking::{Client, ClientSockets, ask_on, gather, outcome_of};
 use bac_driver::AskEnd;
-use bac_point_report::{ListStep, after_list, failure_line, number_of, objects_of};
+use bac_point_report::{ListStep, after_list, failure_lines, is_refused, number_of, objects_of};
 use bac_service::PropertyReference;
 use bac_text::{Status, no_memory};
 use bac_value::{NoMemory, ObjectIdentifier};
@@ -74,12 +75,16 @@ fn tell_unlisted<M: ClientSockets, E: Write>(
     if desk.tell_if_silent(slice::from_ref(end), err) {
         return Ok(());
     }
-    let Ok(line) = failure_line(desk.alloc, reference, outcome_of(end)) else {
+    let Ok(line) = failure_lines(desk.alloc, reference, outcome_of(end)) else {
         return Err(no_memory(err));
     };
     // if that fails too, only the status is left
     let _ = err.write_all(&line);
-    let _ = err.write_all(ADVICE);
+    if is_refused(outcome_of(end)) {
+        tell_refused(slice::from_ref(end), err);
+    } else {
+        let _ = err.write_all(ADVICE);
+    }
     Ok(())
 }
 

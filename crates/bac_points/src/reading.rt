@@ -10,12 +10,13 @@ ghost use Rattle.bac_points.specs.Reads.{PrintsAnswer, ReadsLines, ReadsWords, a
 
 use crate::performing::Desk;
 use crate::questions::{WINDOW, lines_in};
+use crate::silence::tell_refused;
 use bac_ask_report::Outcome;
 use bac_asking::{Client, ClientSockets, gather, outcome_of, print_header};
 use bac_driver::AskEnd;
 use bac_lists::LineQuestion;
 use bac_point_report::{
-    failure_line, has_values, is_silent, shown, targets_in, value_line, values_of,
+    failure_lines, has_values, is_silent, shown, targets_in, value_line, values_of,
 };
 use bac_service::{AnyRequest, PropertyReference};
 use bac_text::{Status, no_memory, output_failed};
@@ -64,7 +65,7 @@ fn print_answer<O: Write, E: Write>(
     let Some(values) = values_of(AnyRequest::ReadProperty(reference), outcome) else {
         if !is_silent(outcome) {
             // if that fails too, only the status is left
-            let _ = err.write_all(&failure_line(alloc, reference, outcome)?);
+            let _ = err.write_all(&failure_lines(alloc, reference, outcome)?);
         }
         return Ok(());
     };
@@ -147,6 +148,7 @@ fn read_lines<M: ClientSockets, O: Write, E: Write>(
     let ends = gather(desk.asking, WINDOW, client, lines, err)?;
     print_ends(desk, client, lines, &ends, out, err)?;
     desk.tell_if_silent(&ends, err);
+    tell_refused(&ends, err);
     Ok(are_valued(lines, &ends))
 }
 

@@ -17,14 +17,15 @@ ghost use Rattle.bac_points.specs.Writes.{differs_line, order_view, ordered_in, 
 
 use crate::performing::Desk;
 use crate::questions::{question_by, question_for};
+use crate::silence::tell_refused;
 use crate::task::Writing;
 use bac_asking::{Client, ClientSockets, ask_on, outcome_of};
 use bac_driver::{AskEnd, Question};
 use bac_point_report::{
-    Target, failure_line, is_done, kind_in, kind_named, shown, value_line, values_of,
+    Target, failure_lines, is_done, kind_in, kind_named, shown, value_line, values_of,
     written_values,
 };
-use bac_point_text::{Kind, WrittenFault};
+use bac_point_text::{Kind, WrittenFault, enumeration_of, names_advice};
 use bac_service::{AnyRequest, Priority, PropertyReference, WriteProperty};
 use bac_text::{Status, no_memory, output_failed};
 use bac_value::Data;
@@ -90,23 +91,44 @@ fn print_bad<E: Write>(reason: &str, err: &mut E) -> Status
     Status::CommandLine
 }
 
+/// What is told of an unknown name of a property: the name that is like it, or otherwise the names that there are.
+fn name_advice(
+    alloc: Global,
+    reference: PropertyReference,
+    nearest: Option<&str>,
+) -> Result<Vec<u8>, AllocError> {
+    if let Some(name) = nearest {
+        let text = format!(in alloc; "did you mean {name}?")?;
+        return Ok(text.into_bytes());
+    }
+    match enumeration_of(reference.object.kind, reference.property) {
+        Some(names) => names_advice(alloc, names),
+        None => Vec::from_slice(alloc, b"expected a number"),
+    }
+}
+
 /// Complains of a text that is no value of the kind that is wanted.
-fn print_bad_value<E: Write>(text: &str, fault: WrittenFault, err: &mut E) -> Status
+fn print_bad_value<E: Write>(
+    alloc: Global,
+    order: &Order<'_>,
+    fault: WrittenFault,
+    err: &mut E,
+) -> Status
     ensures { IsStop result }
 {
+    let text = order.text;
+    // if a write fails too, only the status is left
     match fault {
         WrittenFault::NoMemory => return no_memory(err),
-        WrittenFault::UnknownName {
-            nearest: Some(name),
-        } => {
-            // if that fails too, only the status is left
-            let _ = writeln!(
-                err,
-                "bad words: \"{text}\" is {fault}; did you mean {name}?"
-            );
+        WrittenFault::UnknownName { nearest } => {
+            let Ok(advice) = name_advice(alloc, order.reference, nearest) else {
+                return no_memory(err);
+            };
+            let _ = write!(err, "bad words: \"{text}\" is {fault}; ");
+            let _ = err.write_all(&advice);
+            let _ = err.write_all(b"\n");
         }
         _ => {
-            // if that fails too, only the status is left
             let _ = writeln!(err, "bad words: \"{text}\" is {fault}");
         }
     }
@@ -151,11 +173,12 @@ fn tell_failure<M: ClientSockets, E: Write>(
     if desk.tell_if_silent(slice::from_ref(end), err) {
         return Ok(());
     }
-    let Ok(line) = failure_line(desk.alloc, reference, outcome_of(end)) else {
+    let Ok(line) = failure_lines(desk.alloc, reference, outcome_of(end)) else {
         return Err(no_memory(err));
     };
     // if that fails too, only the status is left
     let _ = err.write_all(&line);
+    tell_refused(slice::from_ref(end), err);
     Ok(())
 }
 
@@ -299,7 +322,7 @@ fn print_unread<O: Write, E: Write>(
 {
     print_line(WRITTEN, out)?;
     // if that fails too, only the status is left
-    let _ = err.write_all(&failure_line(alloc, reference, outcome_of(end))?);
+    let _ = err.write_all(&failure_lines(alloc, reference, outcome_of(end))?);
     Ok(())
 }
 
@@ -344,7 +367,7 @@ fn writing_question<M: ClientSockets, E: Write>(
             };
             Ok(question_for(desk.peer, AnyRequest::WriteProperty(write)))
         }
-        Err(fault) => Err(print_bad_value(order.text, fault, err)),
+        Err(fault) => Err(print_bad_value(desk.alloc, order, fault, err)),
     }
 }
 

@@ -3,16 +3,19 @@ use Rattle.std.specs.Prelude.{ℕ, Bool, true, false, List, Option, Some, None, 
 use Rattle.std.specs.Str.{bytes_eq}
 use Rattle.bac_commands.specs.Statuses.{ByStatus}
 use Rattle.bac_forms.specs.Decoded.{IsFormDecoded}
-use Rattle.bac_forms.specs.Guess.{guess}
+use Rattle.bac_forms.specs.Guess.{evident, guess}
 use Rattle.bac_forms.specs.declared.form.Form.{Form}
 use Rattle.bac_text.specs.declared.status.Status.{Status}
 use Rattle.bac_reading.specs.Files.{IsPrintedFile}
 use Rattle.bac_reading.specs.declared.copied.Copied.{Copied}
+use Rattle.bac_reading.specs.declared.copied.FormChoice.{FormChoice}
+use Rattle.bac_reading.specs.declared.copied.FormChoice.TheVariants as choice
 
--- the form that is named, or the one that the text seems to have
-abbrev pub form_in : Option Form → (text : List ℕ) → Form
-form_in None text = guess text
-form_in (Some form) text = form
+-- the form that is named, the one that the text seems to have, or the one that it has beyond doubt
+abbrev pub form_in : FormChoice → (text : List ℕ) → Form
+form_in (choice.Named form) text = form
+form_in choice.Guessed text = guess text
+form_in choice.Evident text = evident text
 
 abbrev pub AreDecodedIn : Copied → (text : List ℕ) → (old new : Option (List ℕ)) → Status → Type 0
 AreDecodedIn copied text old new s = IsFormDecoded (form_in copied.form text) copied.printing text old new s

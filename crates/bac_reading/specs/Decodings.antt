@@ -5,6 +5,7 @@ use Rattle.bac_json_report.specs.Decoded as json
 use Rattle.bac_forms.specs.declared.form.Form.{Form}
 use Rattle.bac_reading.specs.Copied.{AreDecodedCopied, AreDecodedOf}
 use Rattle.bac_reading.specs.declared.copied.Copied as copied
+use Rattle.bac_reading.specs.declared.copied.FormChoice.TheVariants as choice
 use Rattle.bac_reading.specs.Files.{IsPrintedFile}
 use Rattle.bac_reading.specs.declared.decoding.Decoding.{Decoding}
 use Rattle.bac_reading.specs.declared.decoding.Decoding.TheVariants.{Copied, Lines}
@@ -33,7 +34,7 @@ in_words Words = true
 in_words Objects = false
 
 abbrev pub copied_as : Form → LayerForm → copied.Copied
-copied_as form layers = record { form = Some form; printing = record { in_words = in_words layers; numbered = false; frames = false } }
+copied_as form layers = record { form = choice.Named form; printing = record { in_words = in_words layers; numbered = false; frames = false } }
 
 -- each line was printed, or each datagram that is copied in another form
 abbrev pub AreReadAs : LayerForm → (form : Option Form) → (content old new : Option (List ℕ)) → Status → Type 0

@@ -1,20 +1,46 @@
 //! `decode` of datagrams in another form than a datagram on each line, with their numbers, or in frames.
-ghost use Rattle.bac_reading.specs.Copied.{AreDecodedCopied, AreDecodedIn, AreDecodedOf, IsCopiedFile};
+ghost use Rattle.std.specs.Prelude.{◌≡◌};
+ghost use Rattle.bac_reading.specs.Copied.{AreDecodedCopied, AreDecodedIn, AreDecodedOf, IsCopiedFile, form_in};
 ghost use Rattle.bac_environment.specs.Files.{OnFile};
 
+use crate::captures::{begins_capture, is_capture_name, tell_capture};
 use crate::decoding::STANDARD_INPUT;
 use bac_environment::{OpenFiles, octets_of, opened};
-use bac_forms::{Form, Printing, decode_form_over, guess};
+use bac_forms::{Form, Printing, decode_form_over, evident, guess};
 use bac_text::Status;
 use clap::ArgMatches;
 use std::alloc::Global;
 use std::io::{Read, Write};
 
+/// How the form of a text is chosen.
+#[derive(Clone, Copy)]
+pub enum FormChoice {
+    /// It is this one.
+    Named(Form),
+    /// It is the one that the text seems to have.
+    Guessed,
+    /// It is the one that the text has beyond doubt, or otherwise lines of digits.
+    Evident,
+}
+
+impl FormChoice {
+    /// The form of a text.
+    fn form_in(self, text: &[u8]) -> Form
+        ensures { result ≡ form_in self text.now }
+    {
+        match self {
+            FormChoice::Named(form) => form,
+            FormChoice::Guessed => guess(text),
+            FormChoice::Evident => evident(text),
+        }
+    }
+}
+
 /// How `decode` reads and prints datagrams.
 #[derive(Clone, Copy)]
 pub struct Copied {
-    /// Their form. None if it is to be guessed.
-    pub form: Option<Form>,
+    /// Their form.
+    pub form: FormChoice,
     /// What is printed of them.
     pub printing: Printing,
 }
@@ -24,12 +50,13 @@ pub(crate) fn is_copied(given: &ArgMatches<'_>) -> bool {
     given.get_flag("number") || given.get_flag("frame") || given.get_str("form").is_some()
 }
 
-/// The form that is named; None where it is to be found. None of it where the text names none.
-fn form_of(given: &ArgMatches<'_>) -> Option<Option<Form>> {
+/// How the form is chosen: as it is named, or without a name for standard input by what is evident. None where the text names none.
+fn form_of(given: &ArgMatches<'_>) -> Option<FormChoice> {
     match given.get_str("form") {
-        None => Some(Some(Form::Hex)),
-        Some("auto") => Some(None),
-        Some(name) => Some(Some(Form::named(name)?)),
+        None if given.get_str("HEX") == Some(STANDARD_INPUT) => Some(FormChoice::Evident),
+        None => Some(FormChoice::Named(Form::Hex)),
+        Some("auto") => Some(FormChoice::Guessed),
+        Some(name) => Some(FormChoice::Named(Form::named(name)?)),
     }
 }
 
@@ -44,7 +71,23 @@ pub(crate) fn copied_of(given: &ArgMatches<'_>) -> Option<Copied> {
     Some(Copied { form, printing })
 }
 
-/// The layers of the datagrams of a text.
+/// Tells the form in which a text is read, unless it is that of lines of digits.
+pub(crate) fn print_form<E: Write>(form: Form, err: &mut E) {
+    if form != Form::Hex {
+        let name = form.name();
+        // if that fails too, only the status is left
+        let _ = writeln!(err, "read as --form {name}");
+    }
+}
+
+/// Tells the form in which a text is read, where it was not named.
+fn tell_form<E: Write>(choice: FormChoice, form: Form, err: &mut E) {
+    if let FormChoice::Evident = choice {
+        print_form(form, err);
+    }
+}
+
+/// The layers of the datagrams of a text. Of one that is a capture `err` says how it is read.
 fn decode_text<O: Write, E: Write>(
     alloc: Global,
     copied: Copied,
@@ -54,10 +97,11 @@ fn decode_text<O: Write, E: Write>(
 ) -> Status
     ensures { AreDecodedIn copied text.now (O.contents out.old) (O.contents out.new) result }
 {
-    let form = match copied.form {
-        Some(form) => form,
-        None => guess(text),
-    };
+    let form = copied.form.form_in(text);
+    tell_form(copied.form, form, err);
+    if begins_capture(text) {
+        tell_capture(err);
+    }
     decode_form_over(alloc, form, copied.printing, text, out, err)
 }
 
@@ -78,13 +122,18 @@ pub(crate) fn decode_octets<R: Read + Drop, O: Write, E: Write>(
     }
 }
 
-/// Where a text is refused that looks like the name of a file, tells how a file is read.
+/// Where a text is refused that looks like the name of a file, tells how a file is read, or a capture.
 pub(crate) fn print_file_meant<E: Write>(status: Status, text: &str, err: &mut E) {
     let is_name = text.contains('.') && !text.contains(' ');
-    if status == Status::CommandLine && is_name {
-        // if that fails too, only the status is left
-        let _ = writeln!(err, "did you mean: bac decode - < {text}");
+    if status != Status::CommandLine || !is_name {
+        return;
     }
+    // if that fails too, only the status is left
+    let _ = if is_capture_name(text) {
+        writeln!(err, "did you mean: bac explain {text}")
+    } else {
+        writeln!(err, "did you mean: bac decode - < {text}")
+    };
 }
 
 /// The layers of the datagrams of a file. One that cannot be opened or read: `cannot read` on `err`.

@@ -5,9 +5,12 @@ ghost use Rattle.std.specs.Io.KnownBytes.{Keeps};
 ghost use Rattle.bac_environment.specs.Files.{OnFile};
 ghost use Rattle.bac_reading.specs.Decodings.{AreLayered, AreLayeredIn, AreRead, IsDecodedFrom, IsLayered, IsLayeredFrom, copied_as};
 
-use crate::copied::{Copied, decode_copied, decode_octets, print_file_meant};
+use crate::captures::begins_capture;
+use crate::copied::{
+    Copied, FormChoice, decode_copied, decode_octets, print_file_meant, print_form,
+};
 use crate::files::digits_of;
-use crate::reasons::{print_bad_digits, print_unfit};
+use crate::reasons::{print_bad_digits, print_frames, print_unfit};
 use crate::watched::Watched;
 use bac_environment::{Digits, OpenFiles, print_bad_digit};
 use bac_forms::{Form, Printing, evident};
@@ -45,7 +48,7 @@ impl LayerForm {
         ensures { result ≡ copied_as form self }
     {
         Copied {
-            form: Some(form),
+            form: FormChoice::Named(form),
             printing: Printing {
                 in_words: self == LayerForm::Words,
                 numbered: false,
@@ -111,10 +114,14 @@ fn decode_digits<F: Read + Drop, O: Write, E: Write>(
     let status = form.decode_lines(alloc, input, out, err);
     print_unfit(status, path, input.get_ref(), None, err);
     print_bad_digits(status, input.get_ref(), form.hint(), err);
+    if form != LayerForm::Objects {
+        print_frames(status, input.get_ref(), err);
+    }
     status
 }
 
-/// The form of the datagrams of an input, as its next octets show: lines of digits, unless they have another form beyond doubt. It takes none of them.
+/// The form of the datagrams of an input, as its next octets show: lines of digits, unless they have another form beyond doubt and are no capture. It takes none
+/// of them.
 fn form_of<R: BufRead>(layers: LayerForm, input: &mut R) -> Form
     ensures { Keeps (R.remaining input.old) (R.remaining input.new) }
 {
@@ -122,17 +129,11 @@ fn form_of<R: BufRead>(layers: LayerForm, input: &mut R) -> Form
         return Form::Hex;
     }
     match input.fill_buf() {
+        Ok(octets) if begins_capture(octets) => Form::Hex,
         Ok(octets) => evident(octets),
         // who reads on meets the fault, or goes on after a signal
         Err(_) => Form::Hex,
     }
-}
-
-/// Tells the form in which an input is read.
-fn print_form<E: Write>(form: Form, err: &mut E) {
-    let name = form.name();
-    // if that fails too, only the status is left
-    let _ = writeln!(err, "read as --form {name}");
 }
 
 /// The layers of the datagrams of an input, in the form that it has.

@@ -1,15 +1,24 @@
 //! Lines of hexadecimal digits that are read, as far as the first that is none is to be told.
 
+use crate::captures::{begins_capture, tell_capture};
 use bac_environment::{Digits, no_digit};
+use bac_forms::is_frame;
 use bac_text::{LINE_LIMIT, octets_in, read_of};
 use std::alloc::Global;
 use std::io::Write;
 use std::{io, str};
 
-/// The lines of an input that were read, up to the first that is no hexadecimal.
+/// How many octets of an input tell whether it is a capture.
+const FRONT: usize = 4;
+
+/// What is known of the lines of an input that were read, up to the first that is no hexadecimal.
 #[derive(Drop)]
 pub(crate) struct DigitLines {
     alloc: Global,
+    /// The first octets of the input.
+    front: Vec<u8>,
+    /// Whether a line was a frame of Ethernet with a datagram of BACnet/IP.
+    has_frame: bool,
     /// The number of the line that is read, counted from 1.
     number: u64,
     /// What was read of it, up to one octet more than a line may have.
@@ -18,14 +27,29 @@ pub(crate) struct DigitLines {
     is_bad: bool,
 }
 
-/// Whether a line is neither a note nor hexadecimal.
-fn is_bad(alloc: Global, line: &[u8]) -> bool {
+/// What a line is.
+#[derive(Clone, Copy, PartialEq, Eq)]
+enum LineKind {
+    /// A datagram in hexadecimal, or a note.
+    Good,
+    /// A frame of Ethernet in hexadecimal, with a datagram of BACnet/IP.
+    Frame,
+    /// Neither a note nor hexadecimal.
+    Bad,
+}
+
+fn kind_of(alloc: Global, line: &[u8]) -> LineKind {
     if line.len() > LINE_LIMIT {
-        return true;
+        return LineKind::Bad;
     }
-    match read_of(true, line) {
-        Some(text) => matches!(octets_in(alloc, text), Ok(None)),
-        None => false,
+    let Some(text) = read_of(true, line) else {
+        return LineKind::Good;
+    };
+    match octets_in(alloc, text) {
+        Ok(None) => LineKind::Bad,
+        Ok(Some(octets)) if is_frame(&octets) => LineKind::Frame,
+        // where memory is out, so it is for who reads
+        Ok(Some(_)) | Err(_) => LineKind::Good,
     }
 }
 
@@ -34,6 +58,8 @@ impl DigitLines {
     pub(crate) fn new(alloc: Global) -> DigitLines {
         DigitLines {
             alloc,
+            front: Vec::new(alloc),
+            has_frame: false,
             number: 1,
             line: Vec::new(alloc),
             is_bad: false,
@@ -41,7 +67,9 @@ impl DigitLines {
     }
 
     fn end_line(&mut self) {
-        self.is_bad = is_bad(self.alloc, &self.line);
+        let kind = kind_of(self.alloc, &self.line);
+        self.has_frame |= kind == LineKind::Frame;
+        self.is_bad = kind == LineKind::Bad;
         if !self.is_bad {
             self.number = self.number.saturating_add(1);
             self.line.clear();
@@ -49,6 +77,10 @@ impl DigitLines {
     }
 
     fn see_octet(&mut self, octet: u8) {
+        if self.front.len() < FRONT {
+            // where memory is out, so it is for who reads
+            let _ = self.front.push(octet);
+        }
         if octet == b'\n' {
             self.end_line();
         } else if self.line.len() <= LINE_LIMIT {
@@ -70,11 +102,19 @@ impl DigitLines {
         }
     }
 
-    /// Tells the line that is no hexadecimal, if there is one, and its first character that does not fit, with a hint behind it.
+    /// Whether a line was a frame of Ethernet with a datagram of BACnet/IP.
+    pub(crate) fn have_frame(&self) -> bool {
+        self.has_frame
+    }
+
+    /// Tells the line that is no hexadecimal, if there is one, and its first character that does not fit, with a hint behind it; of a capture how it is read.
     pub(crate) fn print_bad<E: Write>(&self, hint: &str, err: &mut E) {
         if self.is_bad {
             // if that fails too, only the status is left
             let _ = print_bad_line(self.number, &self.line, hint, err);
+            if begins_capture(&self.front) {
+                tell_capture(err);
+            }
         }
     }
 }

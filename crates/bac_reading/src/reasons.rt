@@ -1,6 +1,7 @@
 //! The second line of a complaint: which file or line it is about, and why.
 
 use crate::watched::Watched;
+use bac_forms::FRAME_ADVICE;
 use bac_text::Status;
 use std::io::Write;
 
@@ -36,5 +37,16 @@ pub(crate) fn print_bad_digits<R, E: Write>(
     }
     if let Some(lines) = &file.lines {
         lines.print_bad(hint, err);
+    }
+}
+
+/// Where the status of a command says that some datagram has a fault, tells how frames are read, if a line of digits was one.
+pub(crate) fn print_frames<R, E: Write>(status: Status, file: &Watched<R>, err: &mut E) {
+    let Some(lines) = &file.lines else {
+        return;
+    };
+    if status == Status::Faulty && lines.have_frame() {
+        // if that fails too, only the status is left
+        let _ = err.writeln(FRAME_ADVICE);
     }
 }

@@ -5,9 +5,10 @@ ghost use Rattle.bac_text.specs.declared.status.Status.TheVariants as status;
 ghost use Rattle.bac_reading.specs.Reports.{IsReport, IsReportedFile};
 ghost use Rattle.bac_environment.specs.Files.{OnFile};
 
+use crate::captures::begins_capture;
 use crate::files::reader_of;
 use crate::reasons::print_unfit;
-use bac_capture::{Ports, check_capture_over, signature_of};
+use bac_capture::{Ports, check_capture_over};
 use bac_environment::OpenFiles;
 use bac_explain_html::explain_html_over;
 use bac_explain_json::explain_json_over;
@@ -130,7 +131,7 @@ fn begins_as_none<R: BufRead>(alloc: Global, report: Report, input: &mut R) -> b
         return false;
     };
     match input.fill_buf() {
-        Ok([a, b, c, d, ..]) if signature_of(&[*a, *b, *c, *d]).is_some() => false,
+        Ok(octets) if begins_capture(octets) => false,
         Ok(octets) => are_no_capture(alloc, octets),
         // the check meets the fault, or reads on after a signal
         Err(_) => false,

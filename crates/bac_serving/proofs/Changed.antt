@@ -3,7 +3,7 @@ use Rattle.std.proofs.Common.{◌≡◌, List, [], ◌∷◌, ◌++◌, refl, su
 use Rattle.bac_store.specs.AtNode.{Change}
 use Rattle.bac_driver.specs.BoundNodes.{BoundNode}
 use Rattle.bac_driver.specs.Changes.{MakesChange, MakesChanges}
-use Rattle.bac_serving.specs.Looking.{IsChanged}
+use Rattle.bac_serving.specs.Stretches.{IsChanged}
 
 changes_joined : (later earlier : List Change) (first middle last : BoundNode) → MakesChanges earlier first middle → MakesChanges later middle last
     → MakesChanges (later ++ earlier) first last

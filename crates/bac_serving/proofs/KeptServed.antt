@@ -1,21 +1,24 @@
 -- What a server whose store is kept printed, and what is kept.
-use Rattle.std.proofs.Common.{◌≡◌, ℕ, List, Option, IfSome, subst, ◌∙◌}
-use Rattle.bac_protocol.specs.Service.{Octets}
+use Rattle.std.proofs.Common.{◌≡◌, ℕ, Bool, true, false, List, Option, None, Some, IfSome, MatchOption, subst}
 use Rattle.bac_store.specs.Stores.{Store}
 use Rattle.bac_text.specs.declared.status.Status.{Status}
 use Rattle.bac_text.specs.declared.status.Status.TheVariants as status
+use Rattle.bac_driver.specs.Kept.{keeper_of}
 use Rattle.bac_driver.specs.Observed.{Observed}
+use Rattle.bac_driver.specs.Rounds.{IsKept}
 use Rattle.bac_driver.specs.Runs.{Timed}
 use Rattle.bac_driver.specs.Seen.{Watcher}
+use Rattle.bac_driver.specs.declared.round.Round.{Round}
 use Rattle.bac_driver.specs.declared.wait_limit.WaitLimit.{WaitLimit}
-use Rattle.bac_commands.specs.Houses.{server_node}
-use Rattle.bac_commands.specs.Kept.{AllIsKept, EndsKept, IsKeptByStatus, ReportsKept, RoundsText, Unseen, unwatched}
+use Rattle.bac_commands.specs.Kept.{EndsKept, IsKeptByStatus, ReportsKept, RoundsText, Unseen, unwatched}
 use Rattle.bac_commands.specs.Statuses.{ByStatus}
 use Rattle.bac_commands.proofs.Unwatched.{text_of}
-use Rattle.bac_serving.specs.Keeping.{EndsWith, IsServedInRounds, ServesStore}
+use Rattle.bac_serving.specs.Keeping.{EndsWith, IsServedStore, Runs, RunsInRounds, RunsInStretches, RunsTo}
 use Rattle.bac_environment.specs.Sockets.{Clocks, Links}
-use Rattle.bac_serving.specs.Online.{HasTold}
-use Rattle.bac_serving.specs.Serving.{patience_of, restart_of}
+use Rattle.bac_serving.specs.Online.{IsServer}
+use Rattle.bac_serving.specs.Serving.{patience_of}
+use Rattle.bac_serving.specs.Stretches.{PrintsStretches, ServesInRounds}
+use Rattle.bac_serving.specs.declared.looking.Stop.{Stop}
 use Rattle.bac_environment.specs.Limits.{turns_of}
 use Rattle.bac_serving.specs.declared.serving.Serving.{Serving}
 use Rattle.bac_environment.proofs.Statuses.{lifted}
@@ -45,31 +48,37 @@ both status.CommandLine f a b = a
 both status.Output f a b = tt
 both status.Memory f a b = tt
 
--- a node that was made as is said served
-pub served_so : {K B : Type 0} (IsHonest IsOpen : K → Type 0) (kept noted : K → Store) (base : K → B) (first last : K) (back : Option K) (IsOn : Links) (IsClock : Clocks) (store : Store)
-    (serving : Serving) (start : ℕ) (restart : Option ℕ) (address : Octets) (before after : Timed) (old new : Option (List ℕ)) (s : Status)
-    → restart ≡ restart_of serving.restarted start → before.bound_node.node ≡ server_node serving.slots restart address store
-    → IsOn serving.host serving.port address before.bound_node.failures before.bound_node.calls → HasTold IsClock start before.told
-    → before.bound_node.rules ≡ serving.rules → ByStatus s (RoundsText (patience_of serving start) (turns_of serving.turns) before after old new) ⊥ ⊥
+-- a keeper that served in rounds, over what it lay over at first
+pub ran_in_rounds : {K B : Type 0} (IsHonest IsOpen : K → Type 0) (kept noted : K → Store) (base : K → B) (first last : K) (back : Option K) (serving : Serving)
+    (start : ℕ) (before after : Timed) (old new : Option (List ℕ)) (s : Status)
+    → ByStatus s (RoundsText (patience_of serving start) (turns_of serving.turns) before after old new) ⊥ ⊥
     → IsKeptByStatus s IsHonest IsOpen kept noted last after.bound_node.node.store → (IsHonest last → IsHonest first) → base last ≡ base first
-    → IfSome back (λ k. k ≡ last) → IsServedInRounds store IsOn IsClock s serving (EndsWith IsHonest IsOpen kept noted base first back) old new
-served_so IsHonest IsOpen kept noted base first last back IsOn IsClock store serving start restart address before after old new s restarts node on clock rules reports
-    all honest same_base same =
-    lifted s (λ served. served) (λ (no : ⊥). absurd no) (λ (no : ⊥). absurd no) (both s serves reports all)
-  where
-    node_is : before.bound_node.node ≡ server_node serving.slots (restart_of serving.restarted start) address store
-    node_is = subst (λ (r : Option ℕ). before.bound_node.node ≡ server_node serving.slots r address store) restarts node
+    → IfSome back (λ k. k ≡ last)
+    → ByStatus s (RunsTo (RunsInRounds serving start before old new) (EndsWith IsHonest IsOpen kept noted base false first back)) ⊥ ⊥
+ran_in_rounds IsHonest IsOpen kept noted base first last back serving start before after old new s reports all honest same_base same =
+    both s (λ text kept_all. record {
+      after = after;
+      text = text;
+      ends = record { last = last; same = same; honest = honest; is_over = same_base; all = kept_all };
+    }) reports all
 
-    serves : RoundsText (patience_of serving start) (turns_of serving.turns) before after old new
-        → AllIsKept IsHonest IsOpen kept noted last after.bound_node.node.store
-        → ServesStore store IsOn IsClock serving (EndsWith IsHonest IsOpen kept noted base first back) old new
-    serves text kept_all =
-        record {
-          start = start;
-          before = before;
-          after = after;
-          node = record { address = address; node = node_is; rules_are = rules; on = on };
-          clock = clock;
-          text = text;
-          ends = record { last = last; same = same; honest = honest; same_base = same_base; all = kept_all };
-        }
+-- a keeper that served in stretches, if it is still there
+pub ran_in_stretches : {K B : Type 0} (IsHonest IsOpen : K → Type 0) (kept noted : K → Store) (base : K → B) (first : K) (round : Option (Round K)) (back : Option K)
+    (stop : Stop) (before after : Timed) (old new : Option (List ℕ)) → PrintsStretches ServesInRounds stop before after old new
+    → MatchOption round ⊥ (λ r. IsHonest (keeper_of r) → IsKept IsOpen kept noted (keeper_of r) after.bound_node.node.store)
+    → (MatchOption round ⊥ (λ r. IsHonest (keeper_of r)) → IsHonest first) → IfSome back (λ k. MatchOption round ⊥ (λ r. k ≡ keeper_of r))
+    → RunsTo (RunsInStretches stop before old new) (EndsWith IsHonest IsOpen kept noted base true first back)
+ran_in_stretches IsHonest IsOpen kept noted base first None back stop before after old new text sound honest same = absurd sound
+ran_in_stretches IsHonest IsOpen kept noted base first (Some r) back stop before after old new text sound honest same =
+    record {
+      after = after;
+      text = text;
+      ends = record { last = keeper_of r; same = same; honest = honest; is_over = tt; all = record { is_kept = sound } };
+    }
+
+-- a node that was made as is said served
+pub served_so : (followed : Bool) (IsOn : Links) (IsClock : Clocks) (store : Store) (serving : Serving) (start : ℕ) (before : Timed) (Ends : Store → Type 0)
+    (old new : Option (List ℕ)) (s : Status) → IsServer IsOn IsClock serving store start before
+    → ByStatus s (RunsTo (Runs followed serving start before old new) Ends) ⊥ ⊥ → IsServedStore followed store IsOn IsClock s serving Ends old new
+served_so followed IsOn IsClock store serving start before Ends old new s server ran =
+    lifted s (λ run. record { start = start; before = before; server = server; run = run }) (λ (no : ⊥). absurd no) (λ (no : ⊥). absurd no) ran

@@ -1,5 +1,5 @@
 -- A database that was opened, and a server whose store it keeps.
-use Rattle.std.proofs.Common.{◌≡◌, ℕ, ◌≤◌, Bool, List, Option, Some, IfSome, ap, arith, subst, sym, ◌∙◌}
+use Rattle.std.proofs.Common.{◌≡◌, ℕ, ◌≤◌, Bool, true, false, List, Option, Some, IfSome, ap, arith, subst, sym, ◌∙◌}
 use Rattle.std.specs.Prelude.{IsTrue}
 use Rattle.sqlite_trees.specs.Tree.{Trees}
 use Rattle.sqlite_trees.specs.View.{IsClean, View, doubt}
@@ -10,7 +10,7 @@ use Rattle.bac_keep_file.specs.Settling.{MayFind, settles}
 use Rattle.bac_keep_file.specs.Steps.{IsReady, NoMore}
 use Rattle.bac_text.specs.declared.status.Status.{Status}
 use Rattle.bac_driver.specs.Rounds.{IsKept}
-use Rattle.bac_serving.specs.Keeping.{EndsWith, HasStore, IsServedInRounds, IsServedOver, OnDatabase, ServesKept, ServesStore, restarted_by}
+use Rattle.bac_serving.specs.Keeping.{EndsWith, HasStore, IsServedOver, IsServedStore, LiesOver, OnDatabase, ServesKept, ServesStore, restarted_by}
 use Rattle.bac_environment.specs.Sockets.{Clocks, Links}
 use Rattle.bac_serving.specs.declared.serving.Serving.{Serving}
 use Rattle.bac_environment.proofs.Statuses.{lifted}
@@ -74,14 +74,21 @@ module _ {D K : Type 0} (view : D → View) (database_of : K → D) (document_of
         crash = λ db may. subst (λ (k : K). recovers (database_of k) db) before (crash db may);
       }
 
-  pub kept_over : (IsDatabase : (path : List ℕ) → (is_new : Bool) → D → Type 0) (recovers : D → Trees → Type 0)
+  -- what it lies over in the end, where that is said of the keeper
+  over_so : (followed : Bool) (document : Store) (keeper first last : K) → first ≡ keeper → document_of keeper ≡ document
+      → LiesOver followed (document_of first) (document_of last) → LiesOver followed document (document_of last)
+  over_so false document keeper first last is below over = over ∙ (ap document_of is ∙ below)
+  over_so true document keeper first last is below over = tt
+
+  pub kept_over : (followed : Bool) (IsDatabase : (path : List ℕ) → (is_new : Bool) → D → Type 0) (recovers : D → Trees → Type 0)
       → ((d : D) (db : Trees) → IsTrue (view d).is_open → recovers d db → db ≡ (view d).committed) → (path : List ℕ) (is_new : Bool) (opened : D)
       (document store : Store) (keeper first : K) (back : Option K) (IsOn : Links) (IsClock : Clocks) (serving own : Serving) (old new : Option (List ℕ)) (s : Status)
       → IsDatabase path is_new opened → first ≡ keeper → document_of keeper ≡ document → HasStore view opened document store (database_of keeper) → own ≡ restarted_by is_new serving
       → ((last : K) → IfSome back (λ k. k ≡ last) → IsClosed recovers last)
-      → IsServedInRounds store IsOn IsClock s own (EndsWith honest_of open_of kept_of noted_of document_of first back) old new
-      → IsServedOver (OnDatabase IsDatabase view recovers) IsOn IsClock s serving path document old new
-  kept_over IsDatabase recovers settled path is_new opened document store keeper first back IsOn IsClock serving own old new s made is below has restarts closes served =
+      → IsServedStore followed store IsOn IsClock s own (EndsWith honest_of open_of kept_of noted_of document_of followed first back) old new
+      → IsServedOver followed (OnDatabase IsDatabase view recovers) IsOn IsClock s serving path document old new
+  kept_over followed IsDatabase recovers settled path is_new opened document store keeper first back IsOn IsClock serving own old new s made is below has restarts closes
+      served =
       lifted s over (λ (no : ⊥). absurd no) (λ n. n) served where
         found : honest_of first → store ≡ overlay (cells_of (view opened).committed) document
         found = subst (λ (k : K). honest_of k → store ≡ overlay (cells_of (view opened).committed) document) (sym is) has.found
@@ -89,7 +96,8 @@ module _ {D K : Type 0} (view : D → View) (database_of : K → D) (document_of
         clean_first : honest_of first → IsClean (view opened)
         clean_first = subst (λ (k : K). honest_of k → IsClean (view opened)) (sym is) has.honest
 
-        ends : (last : Store) → EndsWith honest_of open_of kept_of noted_of document_of first back last → OnDatabase IsDatabase view recovers path is_new document store last
+        ends : (last : Store) → EndsWith honest_of open_of kept_of noted_of document_of followed first back last
+            → OnDatabase IsDatabase view recovers followed path is_new document store last
         ends last e =
             let closed = closes e.last e.same in
             record {
@@ -98,29 +106,31 @@ module _ {D K : Type 0} (view : D → View) (database_of : K → D) (document_of
               ended = closed.ended;
               honest = λ clean. clean_first (e.honest (closed.honest clean));
               found = λ clean. found (e.honest (closed.honest clean));
+              over = document_of e.last;
+              is_over = over_so followed document keeper first e.last is below e.is_over;
               kept = λ clean at may.
                   let kept = e.all.is_kept (closed.honest clean) in
-                  let over : document_of e.last ≡ document = e.same_base ∙ (ap document_of is ∙ below) in
-                  let before : MayFind recovers (database_of e.last) document at = (may.0, closed.crash may.0 may.1, may.2) in
-                  settles view recovers settled (database_of e.last) (document_of e.last) at kept.is_open
-                  (subst (λ (d : Store). MayFind recovers (database_of e.last) d at) (sym over) before) ∙ kept.kept_is;
+                  let before : MayFind recovers (database_of e.last) (document_of e.last) at = (may.0, closed.crash may.0 may.1, may.2) in
+                  settles view recovers settled (database_of e.last) (document_of e.last) at kept.is_open before ∙ kept.kept_is;
             }
 
-        over : ServesStore store IsOn IsClock own (EndsWith honest_of open_of kept_of noted_of document_of first back) old new
-            → ServesKept (OnDatabase IsDatabase view recovers) IsOn IsClock serving path old new document
+        over : ServesStore followed store IsOn IsClock own (EndsWith honest_of open_of kept_of noted_of document_of followed first back) old new
+            → ServesKept followed (OnDatabase IsDatabase view recovers) IsOn IsClock serving path old new document
         over serves =
-            let by : ServesStore store IsOn IsClock own (OnDatabase IsDatabase view recovers path is_new document store) old new = record {
+            let by : ServesStore followed store IsOn IsClock own (OnDatabase IsDatabase view recovers followed path is_new document store) old new = record {
               start = serves.start;
               before = serves.before;
-              after = serves.after;
-              node = serves.node;
-              clock = serves.clock;
-              text = serves.text;
-              ends = ends serves.after.bound_node.node.store serves.ends;
+              server = serves.server;
+              run = record {
+                after = serves.run.after;
+                text = serves.run.text;
+                ends = ends serves.run.after.bound_node.node.store serves.run.ends;
+              };
             } in
             record {
               is_new = is_new;
               first = store;
               serves =
-                  subst (λ (o : Serving). ServesStore store IsOn IsClock o (OnDatabase IsDatabase view recovers path is_new document store) old new) restarts by;
+                  subst (λ (o : Serving). ServesStore followed store IsOn IsClock o (OnDatabase IsDatabase view recovers followed path is_new document store) old new)
+                  restarts by;
             }

@@ -8,8 +8,7 @@ use Rattle.bac_driver.specs.declared.wait_limit.WaitLimit.{WaitLimit}
 use Rattle.bac_commands.specs.Houses.{server_node}
 use Rattle.bac_commands.specs.Reports.{ReportsServing, ServedText}
 use Rattle.bac_environment.specs.Sockets.{Clocks, Links}
-use Rattle.bac_serving.specs.Online.{HasTold, IsServedBy, Serves}
-use Rattle.bac_serving.specs.Looking.{IsServer}
+use Rattle.bac_serving.specs.Online.{HasTold, IsServedBy, IsServer, Serves}
 use Rattle.bac_serving.specs.Serving.{patience_of, restart_of}
 use Rattle.bac_environment.specs.Limits.{turns_of}
 use Rattle.bac_serving.specs.declared.serving.Serving.{Serving}

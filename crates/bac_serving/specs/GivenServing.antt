@@ -152,6 +152,7 @@ pub record IsServing (given : ArgMatches) (s : Serving) : Type 0 where
   pub restarted : IsFlag given (codes "restarted") s.restarted
   pub rules : IsRules given s.turns s.rules
   pub guard : IsGuard given s.guard
+  pub peers : s.names_peers ≡ is_some (words_text given (codes "peers"))
   pub log : IsFlag given (codes "log") s.log
   pub level : s.level ≡ level_given (words_text given (codes "log-level"))
   pub json : IsFlag given (codes "json") s.json

@@ -1,5 +1,5 @@
 -- What `serve --keep` and `keep` print, and their statuses.
-use Rattle.std.specs.Prelude.{◌≡◌, ◌||◌, ℕ, Bool, not, List, Option, None, Some, IfSome}
+use Rattle.std.specs.Prelude.{◌≡◌, ⊤, ◌||◌, ℕ, Bool, true, false, not, List, Option, None, Some, IfSome}
 use Rattle.std.specs.Io.KnownBytes.{Keeps}
 use Rattle.sqlite_trees.specs.Tree.{Trees}
 use Rattle.sqlite_trees.specs.View.{IsClean, View}
@@ -11,15 +11,16 @@ use Rattle.bac_keep_file.specs.Settling.{MayFind}
 use Rattle.bac_keep_file.specs.Steps.{IsReady}
 use Rattle.bac_text.specs.declared.status.Status.{Status}
 use Rattle.bac_driver.specs.Runs.{Timed}
-use Rattle.bac_commands.specs.Houses.{server_node}
 use Rattle.bac_commands.specs.Kept.{AllIsKept, RoundsText}
 use Rattle.bac_commands.specs.Statuses.{ByStatus}
 use Rattle.bac_environment.specs.Files.{OfFile}
-use Rattle.bac_environment.specs.Sockets.{Clocks, IsAt, Links}
-use Rattle.bac_serving.specs.Online.{HasTold}
-use Rattle.bac_serving.specs.Serving.{patience_of, restart_of}
+use Rattle.bac_environment.specs.Sockets.{Clocks, Links}
+use Rattle.bac_serving.specs.Online.{IsServer}
+use Rattle.bac_serving.specs.Serving.{patience_of}
 use Rattle.bac_environment.specs.Limits.{turns_of}
 use Rattle.bac_serving.specs.Stores.{MeansStore}
+use Rattle.bac_serving.specs.Stretches.{PrintsStretches, ServesInRounds, stop_of}
+use Rattle.bac_serving.specs.declared.looking.Stop.{Stop}
 use Rattle.bac_serving.specs.declared.serving.Serving.{Serving}
 
 -- ---- the document
@@ -35,6 +36,16 @@ pub record OfDocument (IsFile : (path : List ℕ) → (content : Option (List �
   pub is : IsDocument IsFile objects document
   pub says : Says document
 
+-- a document is followed where that is told, and there is one
+abbrev pub is_followed : Serving → (objects : Option (List ℕ)) → Bool
+is_followed serving None = false
+is_followed serving (Some path) = serving.follow
+
+-- what a keeper lies over in the end: what it lay over at first; where a document was followed, what that was last
+abbrev pub LiesOver : {B : Type 0} → (followed : Bool) → (first last : B) → Type 0
+LiesOver false first last = last ≡ first
+LiesOver true first last = ⊤
+
 -- ---- the database
 
 -- a database that was opened, over a document: as long as it is honest, it was so at first, it has committed what makes the store, and nothing waits for a commit
@@ -46,65 +57,85 @@ pub record HasStore {D : Type 0} (view : D → View) (opened : D) (document stor
   pub noted : IsClean (view database) → overlay (cells_of (view database).trees) document ≡ store
 
 -- a database that the machine opened at a path, and that is so in the end: as long as it is honest, it was so at first, the first store is what it had
--- committed over the document, and the next start, over that document, finds the last one, whatever a power cut leaves
+-- committed over the document, and the next start, over that document or what it was last, finds the last one, whatever a power cut leaves
 pub record OnDatabase {D : Type 0} (IsDatabase : (path : List ℕ) → (is_new : Bool) → D → Type 0) (view : D → View) (recovers : D → Trees → Type 0)
-    (path : List ℕ) (is_new : Bool) (document first last : Store) : Type 0 where
+    (followed : Bool) (path : List ℕ) (is_new : Bool) (document first last : Store) : Type 0 where
   pub opened : D
   pub made : IsDatabase path is_new opened
   pub ended : D
   pub honest : IsClean (view ended) → IsClean (view opened)
   pub found : IsClean (view ended) → first ≡ overlay (cells_of (view opened).committed) document
-  pub kept : IsClean (view ended) → (s : Store) → MayFind recovers ended document s → s ≡ last
+  pub over : Store
+  pub is_over : LiesOver followed document over
+  pub kept : IsClean (view ended) → (s : Store) → MayFind recovers ended over s → s ≡ last
 
 -- What follows takes such a relation.
 abbrev pub Databases : Type 1
-Databases = (path : List ℕ) → (is_new : Bool) → (document first last : Store) → Type 0
+Databases = (followed : Bool) → (path : List ℕ) → (is_new : Bool) → (document first last : Store) → Type 0
 
 -- ---- serving
 
--- a keeper, which began as that one, keeps a store, over what it lay over at first; if one is given back, it is this one
-pub record EndsWith {K B : Type 0} (IsHonest IsOpen : K → Type 0) (kept noted : K → Store) (base : K → B) (first : K) (back : Option K) (store : Store) : Type 0 where
+-- a keeper, which began as that one, keeps a store, over what it lay over at first, or over a document that was followed; if one is given back, it is this one
+pub record EndsWith {K B : Type 0} (IsHonest IsOpen : K → Type 0) (kept noted : K → Store) (base : K → B) (followed : Bool) (first : K) (back : Option K)
+    (store : Store) : Type 0 where
   pub last : K
   pub same : IfSome back (λ k. k ≡ last)
   pub honest : IsHonest last → IsHonest first
-  pub same_base : base last ≡ base first
+  pub is_over : LiesOver followed (base first) (base last)
   pub all : AllIsKept IsHonest IsOpen kept noted last store
 
--- a node with a store served in rounds from a moment on, how many requests it performed was printed, and this is so of its store in the end
-pub record ServesStore (store : Store) (IsOn : Links) (IsClock : Clocks) (serving : Serving) (Ends : Store → Type 0) (old new : Option (List ℕ)) : Type 0 where
-  pub start : ℕ
-  pub before : Timed
+-- it took rounds from a moment on, and how many requests it performed was printed
+abbrev pub RunsInRounds : Serving → (start : ℕ) → (before : Timed) → (old new : Option (List ℕ)) → (after : Timed) → Type 0
+RunsInRounds serving start before old new after = RoundsText (patience_of serving start) (turns_of serving.turns) before after old new
+
+-- so it did, in stretches of rounds up to a stop; between them it may have changed its own store, which was kept then
+abbrev pub RunsInStretches : Stop → (before : Timed) → (old new : Option (List ℕ)) → (after : Timed) → Type 0
+RunsInStretches stop before old new after = PrintsStretches ServesInRounds stop before after old new
+
+-- in stretches where a document is followed
+abbrev pub Runs : (followed : Bool) → Serving → (start : ℕ) → (before : Timed) → (old new : Option (List ℕ)) → (after : Timed) → Type 0
+Runs false serving start before old new after = RunsInRounds serving start before old new after
+Runs true serving start before old new after = RunsInStretches (stop_of serving start) before old new after
+
+-- it ran so, and this is so of its store in the end
+pub record RunsTo (Text : (after : Timed) → Type 0) (Ends : Store → Type 0) : Type 0 where
   pub after : Timed
-  pub node :
-      IsAt IsOn serving.host serving.port (λ address. server_node serving.slots (restart_of serving.restarted start) address store) serving.rules
-      before.bound_node
-  pub clock : HasTold IsClock start before.told
-  pub text : RoundsText (patience_of serving start) (turns_of serving.turns) before after old new
+  pub text : Text after
   pub ends : Ends after.bound_node.node.store
 
-abbrev pub IsServedInRounds : Store → Links → Clocks → Status → Serving → (Ends : Store → Type 0) → (old new : Option (List ℕ)) → Type 0
-IsServedInRounds store IsOn IsClock s serving Ends old new = ByStatus s (ServesStore store IsOn IsClock serving Ends old new) ⊥ (Keeps old new)
+-- a node with a store served from a moment on, how many requests it performed was printed, and this is so of its store in the end
+pub record ServesStore (followed : Bool) (store : Store) (IsOn : Links) (IsClock : Clocks) (serving : Serving) (Ends : Store → Type 0)
+    (old new : Option (List ℕ)) : Type 0 where
+  pub start : ℕ
+  pub before : Timed
+  pub server : IsServer IsOn IsClock serving store start before
+  pub run : RunsTo (Runs followed serving start before old new) Ends
+
+abbrev pub IsServedStore : (followed : Bool) → Store → Links → Clocks → Status → Serving → (Ends : Store → Type 0) → (old new : Option (List ℕ)) → Type 0
+IsServedStore followed store IsOn IsClock s serving Ends old new =
+    ByStatus s (ServesStore followed store IsOn IsClock serving Ends old new) ⊥ (Keeps old new)
 
 -- a server whose database is not new restarts
 abbrev pub restarted_by : (is_new : Bool) → Serving → Serving
 restarted_by is_new serving = record serving { restarted = serving.restarted || not is_new }
 
 -- over the document a node served with the store that a database at the path keeps
-pub record ServesKept (IsOnDatabase : Databases) (IsOn : Links) (IsClock : Clocks) (serving : Serving) (path : List ℕ) (old new : Option (List ℕ))
-    (document : Store) : Type 0 where
+pub record ServesKept (followed : Bool) (IsOnDatabase : Databases) (IsOn : Links) (IsClock : Clocks) (serving : Serving) (path : List ℕ)
+    (old new : Option (List ℕ)) (document : Store) : Type 0 where
   pub is_new : Bool
   pub first : Store
-  pub serves : ServesStore first IsOn IsClock (restarted_by is_new serving) (IsOnDatabase path is_new document first) old new
+  pub serves : ServesStore followed first IsOn IsClock (restarted_by is_new serving) (IsOnDatabase followed path is_new document first) old new
 
 -- where the command line is refused, nothing was printed
-abbrev pub IsServedOver : Databases → Links → Clocks → Status → Serving → (path : List ℕ) → (document : Store) → (old new : Option (List ℕ)) → Type 0
-IsServedOver IsOnDatabase IsOn IsClock s serving path document old new =
-    ByStatus s (ServesKept IsOnDatabase IsOn IsClock serving path old new document) ⊥ (Keeps old new)
+abbrev pub IsServedOver : (followed : Bool) → Databases → Links → Clocks → Status → Serving → (path : List ℕ) → (document : Store)
+    → (old new : Option (List ℕ)) → Type 0
+IsServedOver followed IsOnDatabase IsOn IsClock s serving path document old new =
+    ByStatus s (ServesKept followed IsOnDatabase IsOn IsClock serving path old new document) ⊥ (Keeps old new)
 
 abbrev pub IsServedKept : (IsFile : (path : List ℕ) → (content : Option (List ℕ)) → Type 0) → (objects : Option (List ℕ)) → Databases → Links → Clocks
     → Status → Serving → (path : List ℕ) → (old new : Option (List ℕ)) → Type 0
 IsServedKept IsFile objects IsOnDatabase IsOn IsClock s serving path old new =
-    ByStatus s (OfDocument IsFile objects (ServesKept IsOnDatabase IsOn IsClock serving path old new)) ⊥ (Keeps old new)
+    ByStatus s (OfDocument IsFile objects (ServesKept (is_followed serving objects) IsOnDatabase IsOn IsClock serving path old new)) ⊥ (Keeps old new)
 
 -- ---- listing: what is printed stands in Listing
 

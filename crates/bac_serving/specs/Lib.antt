@@ -6,6 +6,7 @@ pub mod GivenServing
 pub mod Looking
 pub mod Online
 pub mod Stores
+pub mod Stretches
 pub mod Forgetting
 pub mod Keeping
 pub mod Listing

@@ -21,6 +21,13 @@ pub record HasTold (IsClock : Clocks) (moment : ℕ) (told : Told) : Type 0 wher
   pub made : IsClock before
   pub is : told ≡ with_moment before moment
 
+-- a node with that store, on a link that was bound, beside a clock that was made and told that moment
+pub record IsServer (IsOn : Links) (IsClock : Clocks) (serving : Serving) (store : Store) (start : ℕ) (server : Timed) : Type 0 where
+  pub node :
+      IsAt IsOn serving.host serving.port (λ address. server_node serving.slots (restart_of serving.restarted start) address store) serving.rules
+      server.bound_node
+  pub clock : HasTold IsClock start server.told
+
 -- a node with a store served from a moment on, and how many requests it performed was printed
 pub record Serves (store : Store) (IsOn : Links) (IsClock : Clocks) (serving : Serving) (old new : Option (List ℕ)) : Type 0 where
   pub start : ℕ

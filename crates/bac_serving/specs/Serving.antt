@@ -1,5 +1,7 @@
 -- How a node is to serve.
-use Rattle.std.specs.Prelude.{ℕ, ◌*◌, min, Bool, true, false, not, Option, Some, None}
+use Rattle.std.specs.Prelude.{ℕ, ◌*◌, min, Bool, true, false, not, ◌&&◌, List, Option, Some, None}
+use Rattle.bac_guard.specs.Sources.{is_heard}
+use Rattle.bac_guard.specs.Views.{blocks_of}
 use Rattle.bac_driver.specs.Waits.{MOST}
 use Rattle.bac_driver.specs.declared.wait_limit.WaitLimit.{WaitLimit}
 use Rattle.bac_transaction.specs.Given.{ANEW, STRICTLY}
@@ -34,3 +36,7 @@ rules_by false seconds memory = record STRICTLY { memory = Some memory }
 abbrev pub follow_limit_of : (mebibytes : Option ℕ) → ℕ
 follow_limit_of None = 8388608
 follow_limit_of (Some mebibytes) = min (mebibytes * 1048576) MOST
+
+-- nobody named the sources that it hears, and its own address is none of them
+abbrev pub is_remote : Serving → (link : List ℕ) → Bool
+is_remote serving link = not serving.names_peers && not (is_heard (blocks_of serving.guard.sources) link)

@@ -1,22 +1,21 @@
 //! A document that a server follows: it is read again, step by step, and where it changed the node gets the values that it changed.
-ghost use Rattle.bac_serving.specs.Looking.{IsChanged};
+ghost use Rattle.std.specs.Prelude.{◌≡◌, IfErr, OnOk};
+ghost use Rattle.bac_text.specs.Statuses.{IsFailure};
+ghost use Rattle.bac_serving.specs.Stretches.{IsChanged};
 
+use crate::changing::DocumentNews;
 use crate::extent::{KEY_LIMIT, has_too_many_keys, marks_in};
 use crate::fault_lines::{FaultTime, print_fault_objects};
-use crate::listing::kept_words;
 use crate::part_words::print_about;
 use crate::reading::Reading;
 use crate::reasons::print_document_fault;
 use crate::regular_files::RegularFiles;
+use crate::stretching::Stretching;
 use bac_commands::{LevelLog, LogFormat};
-use bac_driver::{BoundNode, Clock, Link};
-use bac_environment::Station;
 use bac_follow::{Documents, FollowFault, changes_between};
-use bac_keep_json::KeptPart;
-use bac_log_json::LogEvent;
 use bac_objects::{DocumentFault, DocumentSteps, ReadDocument, read_object_list, read_objects};
 use bac_store::{Change, ChangeFault, Object, Store};
-use bac_text::no_memory;
+use bac_text::{Status, no_memory};
 use bac_value::NoMemory;
 use std::alloc::Global;
 use std::io;
@@ -99,6 +98,17 @@ struct News {
     store: Store,
     objects: Vec<Object>,
     changes: Vec<Change>,
+}
+
+/// What the node did with a document.
+#[derive(Drop)]
+enum Taken {
+    /// It made all changes.
+    All,
+    /// Memory was refused: it is tried again at the next look.
+    Later,
+    /// It does not follow it, for that reason.
+    Refused(Refusal),
 }
 
 /// The objects that a document lists which means a store.
@@ -283,48 +293,6 @@ pub(crate) fn print_unread_words<E: Write>(at: FollowedPath<'_>, error: &io::Err
     };
 }
 
-/// What the document gave to a property or a file.
-fn part_of(change: &Change) -> KeptPart<'_> {
-    match change {
-        Change::Value {
-            object,
-            property,
-            octets,
-        } => KeptPart::Values {
-            object: *object,
-            property: *property,
-            octets: octets.as_slice(),
-        },
-        Change::File { object, octets } => KeptPart::File {
-            object: *object,
-            length: octets.len() as u64,
-        },
-    }
-}
-
-/// The node makes a change, and the log tells it.
-fn make<L: Link, E: Write>(
-    alloc: Global,
-    moment: u64,
-    bound_node: &mut BoundNode<L>,
-    change: &Change,
-    log: &mut LevelLog,
-    err: &mut E,
-) -> Result<(), ChangeFault>
-    ensures { IsChanged bound_node.old bound_node.new }
-{
-    let part = part_of(change);
-    let words = if log.is_on() {
-        kept_words(alloc, part)?
-    } else {
-        Vec::new(alloc)
-    };
-    bound_node.change(change)?;
-    let words = words.as_slice();
-    log.write_event(moment, LogEvent::Document { part, words }, err);
-    Ok(())
-}
-
 impl<'p, R: Read + Drop> Followed<'p, R> {
     /// The document at a path, whose octets mean that store.
     pub(crate) fn new(
@@ -359,111 +327,129 @@ impl<'p, R: Read + Drop> Followed<'p, R> {
         }
     }
 
-    /// The node makes the changes of the document, in order. At a fault the rest is left for the next look.
-    fn make_all<L: Link, C: Clock, E: Write>(
+    /// The node makes the changes of the document, in order. Returns whether all were made: otherwise they are left for the next look.
+    fn make<S: Stretching, E: Write>(
         &mut self,
-        station: &mut Station<L, C>,
+        server: &mut S,
         news: News,
         log: &mut LevelLog,
         err: &mut E,
-    ) -> Result<(), ChangeFault>
-        ensures { IsChanged station.old.bound_node station.new.bound_node }
+    ) -> Result<bool, Status>
+        ensures changed { OnOk result (IsChanged (S.state server.old).bound_node (S.state server.new).bound_node) }
+        ensures sound { OnOk result (S.IsSound server.old → S.IsSound server.new) }
+        ensures honest { OnOk result (S.IsHonest server.new → S.IsHonest server.old) }
+        ensures failed { IfErr result IsFailure }
     {
         let News {
             store,
             objects,
             changes,
         } = news;
-        let moment = station.clock.now();
-        for change in &changes {
-            make(
-                station.alloc,
-                moment,
-                &mut station.bound_node,
-                change,
-                log,
-                err,
-            )?;
+        let news = DocumentNews {
+            document: &store,
+            changes: &changes,
+        };
+        let is_made = server.follow(news, log, err)?;
+        if is_made {
+            self.store = store;
+            self.objects = objects;
         }
-        self.store = store;
-        self.objects = objects;
-        Ok(())
+        Ok(is_made)
     }
 
     /// Tells why the document, whose octets those are, is not followed now: in the form of the log.
-    fn tell<C: Clock, E: Write>(
+    fn tell<S: Stretching, E: Write>(
         &self,
-        clock: &mut C,
+        server: &mut S,
         octets: &[u8],
         refusal: Refusal,
         format: LogFormat,
         err: &mut E,
-    ) {
+    )
+        ensures same { (S.state server.new).bound_node ≡ (S.state server.old).bound_node }
+        ensures sound { S.IsSound server.old → S.IsSound server.new }
+        ensures honest { S.IsHonest server.new → S.IsHonest server.old }
+    {
         match format {
             LogFormat::Lines => print_refusal(self.alloc, self.at.path, octets, refusal, err),
             LogFormat::Objects { epoch } => {
                 let mut text = Vec::new(self.alloc);
                 print_refusal(self.alloc, self.at.path, octets, refusal, &mut text);
-                let moment = clock.now();
+                let moment = server.now();
                 print_fault_objects(self.alloc, FaultTime { moment, epoch }, &text, err);
             }
         }
     }
 
-    /// The node makes the changes of a document that was read. Returns why it does not follow it, if so. An Err is out of memory.
-    fn take<L: Link, C: Clock, E: Write>(
+    /// The node makes the changes of a document that was read, if it follows it. The status says why it cannot serve on.
+    fn take<S: Stretching, E: Write>(
         &mut self,
-        station: &mut Station<L, C>,
+        server: &mut S,
         read: Result<ReadDocument, Refusal>,
         log: &mut LevelLog,
         err: &mut E,
-    ) -> Result<Option<Refusal>, NoMemory>
-        ensures { IsChanged station.old.bound_node station.new.bound_node }
+    ) -> Result<Taken, Status>
+        ensures changed { OnOk result (IsChanged (S.state server.old).bound_node (S.state server.new).bound_node) }
+        ensures sound { OnOk result (S.IsSound server.old → S.IsSound server.new) }
+        ensures honest { OnOk result (S.IsHonest server.new → S.IsHonest server.old) }
+        ensures failed { IfErr result IsFailure }
     {
         let read = match read {
             Ok(read) => read,
-            Err(Refusal::Wrong(DocumentFault::NoMemory)) => return Err(NoMemory),
-            Err(refusal) => return Ok(Some(refusal)),
+            Err(Refusal::Wrong(DocumentFault::NoMemory)) => return Ok(Taken::Later),
+            Err(refusal) => return Ok(Taken::Refused(refusal)),
         };
-        match news_in(station.alloc, &self.store, &self.objects, read)? {
-            Ok(news) => match self.make_all(station, news, log, err) {
-                Ok(()) => Ok(None),
-                Err(_) => Err(NoMemory),
-            },
-            Err(refusal) => Ok(Some(refusal)),
+        let news = match news_in(self.alloc, &self.store, &self.objects, read) {
+            Ok(Ok(news)) => news,
+            Ok(Err(refusal)) => return Ok(Taken::Refused(refusal)),
+            Err(_) => return Ok(Taken::Later),
+        };
+        if self.make(server, news, log, err)? {
+            Ok(Taken::All)
+        } else {
+            Ok(Taken::Later)
         }
     }
 
     /// Takes a document that was read, or tells why not. If memory is refused, it is tried again at the next look.
-    fn end<L: Link, C: Clock, E: Write>(
+    fn end<S: Stretching, E: Write>(
         &mut self,
         outcome: Outcome,
-        station: &mut Station<L, C>,
+        server: &mut S,
         format: LogFormat,
         log: &mut LevelLog,
         err: &mut E,
-    )
-        ensures { IsChanged station.old.bound_node station.new.bound_node }
+    ) -> Result<(), Status>
+        ensures changed { OnOk result (IsChanged (S.state server.old).bound_node (S.state server.new).bound_node) }
+        ensures sound { OnOk result (S.IsSound server.old → S.IsSound server.new) }
+        ensures honest { OnOk result (S.IsHonest server.new → S.IsHonest server.old) }
+        ensures failed { IfErr result IsFailure }
     {
         let Outcome { octets, read } = outcome;
-        let Ok(refusal) = self.take(station, read, log, err) else {
-            let _ = no_memory(err);
-            return;
-        };
-        if let Some(refusal) = refusal {
-            self.tell(&mut station.clock, &octets, refusal, format, err);
+        match self.take(server, read, log, err)? {
+            Taken::All => {}
+            Taken::Later => {
+                let _ = no_memory(err);
+                return Ok(());
+            }
+            Taken::Refused(refusal) => self.tell(server, &octets, refusal, format, err),
         }
         self.octets = Some(octets);
+        Ok(())
     }
 
     /// Tells that the file cannot be read: in the form of the log.
-    fn tell_unread<C: Clock, E: Write>(
+    fn tell_unread<S: Stretching, E: Write>(
         &self,
-        clock: &mut C,
+        server: &mut S,
         error: &io::Error,
         format: LogFormat,
         err: &mut E,
-    ) {
+    )
+        ensures same { (S.state server.new).bound_node ≡ (S.state server.old).bound_node }
+        ensures sound { S.IsSound server.old → S.IsSound server.new }
+        ensures honest { S.IsHonest server.new → S.IsHonest server.old }
+    {
         match format {
             LogFormat::Lines => {
                 // if that fails, nothing is printed
@@ -473,26 +459,30 @@ impl<'p, R: Read + Drop> Followed<'p, R> {
             LogFormat::Objects { epoch } => {
                 let mut text = Vec::new(self.alloc);
                 print_unread_words(self.at, error, &mut text);
-                let moment = clock.now();
+                let moment = server.now();
                 print_fault_objects(self.alloc, FaultTime { moment, epoch }, &text, err);
             }
         }
     }
 
     /// Tells once that the file cannot be read.
-    fn print_unread<C: Clock, E: Write>(
+    fn print_unread<S: Stretching, E: Write>(
         &mut self,
-        clock: &mut C,
+        server: &mut S,
         error: &io::Error,
         format: LogFormat,
         err: &mut E,
-    ) {
+    )
+        ensures same { (S.state server.new).bound_node ≡ (S.state server.old).bound_node }
+        ensures sound { S.IsSound server.old → S.IsSound server.new }
+        ensures honest { S.IsHonest server.new → S.IsHonest server.old }
+    {
         if error.kind() == ErrorKind::OutOfMemory {
             let _ = no_memory(err);
             return;
         }
         if self.octets.is_some() {
-            self.tell_unread(clock, error, format, err);
+            self.tell_unread(server, error, format, err);
         }
         self.octets = None;
     }
@@ -519,50 +509,63 @@ impl<'p, R: Read + Drop> Followed<'p, R> {
     }
 
     /// Looks at the octets of the document. If it had others before, the node makes its changes: those of a short one at once, of others after some steps.
-    fn look_at<L: Link, C: Clock, E: Write>(
+    fn look_at<S: Stretching, E: Write>(
         &mut self,
         octets: Vec<u8>,
-        station: &mut Station<L, C>,
+        server: &mut S,
         format: LogFormat,
         log: &mut LevelLog,
         err: &mut E,
-    )
-        ensures { IsChanged station.old.bound_node station.new.bound_node }
+    ) -> Result<(), Status>
+        ensures changed { OnOk result (IsChanged (S.state server.old).bound_node (S.state server.new).bound_node) }
+        ensures sound { OnOk result (S.IsSound server.old → S.IsSound server.new) }
+        ensures honest { OnOk result (S.IsHonest server.new → S.IsHonest server.old) }
+        ensures failed { IfErr result IsFailure }
     {
         if self.has_read(&octets) {
-            return;
+            return Ok(());
         }
         if octets.len() > AT_ONCE || marks_in(&octets) > KEYS_AT_ONCE {
             self.taking = Some(Taking::new(self.alloc, octets));
-            return;
+            return Ok(());
         }
         let read = read_at_once(self.alloc, &octets);
-        self.end(Outcome { octets, read }, station, format, log, err);
+        self.end(Outcome { octets, read }, server, format, log, err)
     }
 
     /// Reads the document on by a step. Once it is read, and has other octets than before, the node makes its changes; a document that is wrong is told once, and
     /// nothing changes.
-    pub(crate) fn look<F: RegularFiles<File = R>, L: Link, C: Clock, E: Write>(
+    ///
+    /// The status says why the node cannot serve on.
+    pub(crate) fn look<F: RegularFiles<File = R>, S: Stretching, E: Write>(
         &mut self,
         files: &F,
-        station: &mut Station<L, C>,
+        server: &mut S,
         format: LogFormat,
         log: &mut LevelLog,
         err: &mut E,
-    )
-        ensures { IsChanged station.old.bound_node station.new.bound_node }
+    ) -> Result<(), Status>
+        ensures changed { OnOk result (IsChanged (S.state server.old).bound_node (S.state server.new).bound_node) }
+        ensures sound { OnOk result (S.IsSound server.old → S.IsSound server.new) }
+        ensures honest { OnOk result (S.IsHonest server.new → S.IsHonest server.old) }
+        ensures failed { IfErr result IsFailure }
     {
         if let Some(taking) = self.taking.take() {
-            match taking.step() {
-                Stepped::GoesOn(taking) => self.taking = Some(taking),
-                Stepped::Ended(outcome) => self.end(outcome, station, format, log, err),
-            }
-            return;
+            return match taking.step() {
+                Stepped::GoesOn(taking) => {
+                    self.taking = Some(taking);
+                    Ok(())
+                }
+                Stepped::Ended(outcome) => self.end(outcome, server, format, log, err),
+            };
         }
         match self.read_on(files) {
-            Ok(Some(octets)) => self.look_at(octets, station, format, log, err),
-            Ok(None) => {}
-            Err(error) => self.print_unread(&mut station.clock, &error, format, err),
+            Ok(Some(octets)) => self.look_at(octets, server, format, log, err),
+            Ok(None) => Ok(()),
+            Err(error) => {
+                self.print_unread(server, &error, format, err);
+                Ok(())
+            }
         }
     }
 }

@@ -6,7 +6,8 @@ ghost use Rattle.bac_serving.specs.Forgetting.{IsForgotten, Names, OnForgotten};
 ghost use Rattle.bac_serving.specs.Keeping.{IsListed, IsThere, IsToldOf};
 
 use crate::databases::Databases;
-use crate::keeping::{open_kept, print_keep_fault, print_not_kept};
+use crate::keep_faults::print_keep_fault;
+use crate::keeping::{open_kept, print_not_kept};
 use crate::listing::{ListForm, print_cells, refuse_missing};
 use crate::part_words::print_about;
 use bac_commands::CommandError;

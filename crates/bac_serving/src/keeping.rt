@@ -1,29 +1,35 @@
 //! `serve --keep`: a node whose store a database keeps.
-ghost use Rattle.std.specs.Prelude.{◌≡◌, ◌⊎◌, ◌≤◌, IfErr, IfOk, IfSome, OnOk};
+ghost use Rattle.std.specs.Prelude.{◌≡◌, ◌⊎◌, ◌≤◌, true, false, is_some, IfErr, IfOk, IfSome, OnOk};
 ghost use Rattle.std.specs.Option.{option_map};
+ghost use Rattle.bac_commands.specs.Statuses.{ByStatus};
 ghost use Rattle.bac_driver.specs.Kept.{keeper_of as keeper_in};
 ghost use Rattle.bac_driver.specs.Rounds.{IsKept};
+ghost use Rattle.bac_driver.specs.Runs.{timed};
 ghost use Rattle.sqlite_trees.specs.View.{IsClean, doubt};
 ghost use Rattle.bac_keep_file.specs.Steps.{IsReady, NoMore};
 ghost use Rattle.bac_text.specs.Statuses.{IsFailure, IsStop};
 ghost use Rattle.bac_environment.specs.Files.{OnFile};
-ghost use Rattle.bac_serving.specs.Keeping.{EndsWith, HasStore, IsServedInRounds, IsServedKept, IsServedOver, OnDatabase};
+ghost use Rattle.bac_serving.specs.Keeping.{EndsWith, HasStore, IsServedKept, IsServedOver, IsServedStore, OnDatabase, RunsInRounds, RunsInStretches, RunsTo};
 ghost use Rattle.bac_environment.specs.Sockets.{OnClock, OnPort};
 
 use crate::databases::Databases;
 use crate::dropping::Dropping;
-use crate::objects::document_of;
+use crate::following_keeper::FollowingKeeper;
+use crate::input::StandardInput;
+use crate::keep_faults::print_keep_fault;
+use crate::kept_station::KeptStation;
+use crate::looking::{Looker, Served, serve_with, served_document, station_of};
 use crate::part_words::print_about;
-use crate::serving::{Serving, Start, epoch_of, print_listening, print_not_bound, serve_kept_from};
+use crate::regular_files::RegularFiles;
+use crate::serving::{Serving, Start, print_not_bound, serve_kept_from};
 use crate::standard_error::StandardError;
-use bac_commands::{CommandError, KeptServer, bound_server, clock_unread};
+use bac_commands::{CommandError, KeptServer};
 use bac_driver::{Clock, Link, Round};
-use bac_environment::{Environment, OpenFiles, Sockets};
+use bac_environment::{Environment, Sockets, Station};
 use bac_keep::{KeepFault, Keeper, Part};
 use bac_keep_file::{CellKeeper, Loss, OpenFault};
-use bac_node::NewNodeFault;
 use bac_store::Store as Objects;
-use bac_text::{Status, complain, no_memory};
+use bac_text::{Status, no_memory};
 use sqlite_trees::store::Store;
 use std::alloc::Global;
 use std::io::Write;
@@ -116,14 +122,6 @@ pub(crate) fn print_not_kept<E: Write>(
     Status::CommandLine
 }
 
-/// Tells behind `keep fault` which file it is about, and why.
-pub(crate) fn print_keep_fault<E: Write>(path: &str, fault: Option<KeepFault>, err: &mut E) {
-    if let Some(fault) = fault {
-        // if that fails too, only the status is left
-        let _ = writeln!(err, "{path}: {fault}");
-    }
-}
-
 /// Prints what is kept and has no effect.
 fn print_idle<E: Write>(alloc: Global, path: &str, idle: &[Part], err: &mut E) {
     for part in idle {
@@ -206,57 +204,119 @@ fn keeper_left<L: Link + Drop, C: Clock + Drop, K: Keeper>(server: KeptServer<L,
     }
 }
 
-/// A node with a store, which a keeper keeps in the file at a path, serves. Returns the keeper too where the node has served and the keeper has not failed.
-fn serve_round<M: Sockets + StandardError, K: Keeper, O: Write, E: Write>(
+/// A node whose store is kept serves in rounds from a moment on. Returns the keeper too where it has not failed.
+fn in_rounds<M: Sockets + StandardError, K: Keeper, O: Write, E: Write>(
     environment: (Global, &M, &str),
     serving: &Serving,
-    round: Round<K>,
-    store: Objects,
+    start: Start,
+    server: KeptServer<M::Link, M::Timer, K>,
     out: &mut O,
     err: &mut E,
 ) -> (Status, Option<K>)
-    requires { K.IsHonest (keeper_in round) → IsKept K.IsOpen K.kept K.noted (keeper_in round) store }
-    ensures { IsServedInRounds store (OnPort M.is_bound M.Link.failures M.Link.calls) (OnClock M.is_made M.Timer.told) result.0 serving.now
-        (EndsWith K.IsHonest K.IsOpen K.kept K.noted K.base (keeper_in round) result.1) (O.contents out.old) (O.contents out.new) }
+    requires { K.IsHonest (keeper_in server.round) → IsKept K.IsOpen K.kept K.noted (keeper_in server.round) server.bound_node.node.store }
+    ensures { ByStatus result.0 (RunsTo (RunsInRounds serving.now start.moment (timed server.bound_node (M.Timer.told server.clock))
+        (O.contents out.old) (O.contents out.new)) (EndsWith K.IsHonest K.IsOpen K.kept K.noted K.base false (keeper_in server.round) result.1)) ⊥ ⊥ }
 {
     let (alloc, machine, path) = environment;
-    let (link, address) = match machine.bind(serving.host, serving.port, &serving.guard) {
-        Ok(bound) => bound,
-        Err(error) => return (print_not_bound(serving, &error, err), None),
-    };
-    let Some(mut timer) = machine.timer() else {
-        return (clock_unread(err), None);
-    };
-    let start = timer.now();
-    let objects = store.object_count();
-    let restart = serving.restart(start);
-    let mut bound_node = match bound_server(alloc, link, address, store, serving.slots, restart) {
-        Ok(bound_node) => bound_node,
-        Err(NewNodeFault::BadSlots) => {
-            return (complain(err, "bad slots", Status::CommandLine), None);
-        }
-        Err(_) => return (no_memory(err), None),
-    };
-    serving.set(&mut bound_node);
-    let began = Start {
-        moment: start,
-        epoch: epoch_of(start, machine.time_of_day()),
-    };
-    print_listening(alloc, serving, address, objects, began, err);
-    let mut server = KeptServer {
-        bound_node,
-        clock: timer,
-        round,
-        fault: None,
-    };
-    let format = serving.log_format(began);
+    let mut server = server;
+    let format = serving.log_format(start);
     // from here on standard error must not make the server wait
     let mut err = Dropping::new(alloc, machine, machine.timer(), format, err);
-    let status = serve_kept_from(alloc, serving, began, &mut server, out, &mut err);
+    let status = serve_kept_from(alloc, serving, start, &mut server, out, &mut err);
     print_keep_fault(path, server.fault, &mut err);
     err.end();
     let keeper = keeper_left(server);
     (status, keeper)
+}
+
+/// A node whose store is kept serves in stretches, with what it looks at between them. Returns the keeper too where it has not failed.
+fn in_stretches<
+    F: RegularFiles,
+    M: Sockets + StandardInput + StandardError,
+    K: FollowingKeeper,
+    O: Write,
+    E: Write,
+>(
+    environment: &Environment<'_, F, M>,
+    looker: Looker<'_, F::File>,
+    station: Station<M::Link, M::Timer>,
+    round: Round<K>,
+    out: &mut O,
+    err: &mut E,
+) -> (Status, Option<K>)
+    requires { K.IsHonest (keeper_in round) → IsKept K.IsOpen K.kept K.noted (keeper_in round) station.bound_node.node.store }
+    ensures { ByStatus result.0 (RunsTo (RunsInStretches looker.entry.stop (timed station.bound_node (M.Timer.told station.clock))
+        (O.contents out.old) (O.contents out.new)) (EndsWith K.IsHonest K.IsOpen K.kept K.noted K.base true (keeper_in round) result.1)) ⊥ ⊥ }
+{
+    let Station {
+        alloc,
+        bound_node,
+        clock,
+    } = station;
+    let mut station = KeptStation {
+        alloc,
+        bound_node,
+        clock,
+        round: Some(round),
+        fault: None,
+    };
+    let served = serve_with(environment, looker, &mut station, out, err);
+    let keeper = station.into_keeper();
+    match served {
+        Ok(()) => (Status::Done, keeper),
+        Err(status) => (status, keeper),
+    }
+}
+
+/// A node with a store, which a keeper keeps in the file at a path, serves; if its document is followed, in stretches. Returns the keeper too where the node has
+/// served and the keeper has not failed.
+fn serve_round<
+    F: RegularFiles,
+    M: Sockets + StandardInput + StandardError,
+    K: FollowingKeeper,
+    O: Write,
+    E: Write,
+>(
+    environment: (&Environment<'_, F, M>, &str),
+    serving: &Serving,
+    round: Round<K>,
+    served: Served<'_, F::File>,
+    out: &mut O,
+    err: &mut E,
+) -> (Status, Option<K>)
+    requires { K.IsHonest (keeper_in round) → IsKept K.IsOpen K.kept K.noted (keeper_in round) served.store }
+    ensures { IsServedStore (is_some served.entry.followed) served.entry.store (OnPort M.is_bound M.Link.failures M.Link.calls) (OnClock M.is_made M.Timer.told)
+        result.0 serving.now (EndsWith K.IsHonest K.IsOpen K.kept K.noted K.base (is_some served.entry.followed) (keeper_in round) result.1)
+        (O.contents out.old) (O.contents out.new) }
+{
+    let (environment, path) = environment;
+    let Served { store, followed } = served;
+    let (station, start) = match station_of(environment, serving, store, err) {
+        Ok(station) => station,
+        Err(status) => return (status, None),
+    };
+    let alloc = environment.alloc;
+    match followed {
+        None => {
+            let Station {
+                alloc: _,
+                bound_node,
+                clock,
+            } = station;
+            let server = KeptServer {
+                bound_node,
+                clock,
+                round,
+                fault: None,
+            };
+            let environment = (alloc, environment.machine, path);
+            in_rounds(environment, serving, start, server, out, err)
+        }
+        Some(followed) => {
+            let looker = Looker::new(alloc, serving, start, Some(followed), Some(path));
+            in_stretches(environment, looker, station, round, out, err)
+        }
+    }
 }
 
 /// Closes a database at a path. Where that fails, `err` says why, and the status is `Output`, unless the one before was bad.
@@ -286,18 +346,25 @@ fn close_kept<M: Databases, E: Write>(
 }
 
 /// A node serves with the store that a database, which may be new, makes over a document.
-fn serve_database<M: Sockets + Databases + StandardError, O: Write, E: Write>(
-    environment: (Global, &M),
+fn serve_database<
+    F: RegularFiles,
+    M: Sockets + Databases + StandardInput + StandardError,
+    O: Write,
+    E: Write,
+>(
+    environment: &Environment<'_, F, M>,
     serving: &Serving,
     path: &str,
-    document: Objects,
+    served: Served<'_, F::File>,
     out: &mut O,
     err: &mut E,
 ) -> Status
-    ensures { IsServedOver (OnDatabase M.is_database M.Database.view M.Database.recovers) (OnPort M.is_bound M.Link.failures M.Link.calls)
-        (OnClock M.is_made M.Timer.told) result serving.now path.now document (O.contents out.old) (O.contents out.new) }
+    ensures { IsServedOver (is_some served.entry.followed) (OnDatabase M.is_database M.Database.view M.Database.recovers)
+        (OnPort M.is_bound M.Link.failures M.Link.calls) (OnClock M.is_made M.Timer.told) result serving.now path.now served.entry.store
+        (O.contents out.old) (O.contents out.new) }
 {
-    let (alloc, machine) = environment;
+    let alloc = environment.alloc;
+    let machine = environment.machine;
     // (a port that is taken is told before the file is made: a server that finds its file there begins as one that was restarted)
     if let Err(error) = machine.bind(serving.host, serving.port, &serving.guard) {
         return print_not_bound(serving, &error, err);
@@ -306,6 +373,10 @@ fn serve_database<M: Sockets + Databases + StandardError, O: Write, E: Write>(
         Ok(opened) => opened,
         Err(status) => return status,
     };
+    let Served {
+        store: document,
+        followed,
+    } = served;
     let (keeper, store) = match keeper_over(alloc, path, database, document, err) {
         Ok(opened) => opened,
         Err(status) => return status,
@@ -314,8 +385,9 @@ fn serve_database<M: Sockets + Databases + StandardError, O: Write, E: Write>(
         return no_memory(err);
     };
     let serving = serving.restarted_by(is_new);
-    let environment = (alloc, machine, path);
-    let (status, keeper) = serve_round(environment, &serving, round, store, out, err);
+    let served = Served { store, followed };
+    let environment = (environment, path);
+    let (status, keeper) = serve_round(environment, &serving, round, served, out, err);
     let Some(keeper) = keeper else {
         return status;
     };
@@ -324,10 +396,16 @@ fn serve_database<M: Sockets + Databases + StandardError, O: Write, E: Write>(
 }
 
 /// Serves a node whose store the file at a path keeps, over the objects of a document, or the house if there is no document. If the file is not new, the node
-/// restarts.
+/// restarts. If the document is followed, what it changes while the node serves is kept too.
 ///
 /// If the file cannot be opened, is damaged or in use, or keeps values that the document cannot have, prints the path and why on `err`. Then nothing has changed.
-pub fn serve_kept<F: OpenFiles, M: Sockets + Databases + StandardError, O: Write, E: Write>(
+/// So it does if the document cannot be read or is invalid, or is to be followed and too large or no regular file.
+pub fn serve_kept<
+    F: RegularFiles,
+    M: Sockets + Databases + StandardInput + StandardError,
+    O: Write,
+    E: Write,
+>(
     environment: &Environment<'_, F, M>,
     serving: &Serving,
     objects: Option<&str>,
@@ -339,10 +417,8 @@ pub fn serve_kept<F: OpenFiles, M: Sockets + Databases + StandardError, O: Write
         (OnDatabase M.is_database M.Database.view M.Database.recovers) (OnPort M.is_bound M.Link.failures M.Link.calls) (OnClock M.is_made M.Timer.told) result
         serving.now path.now (O.contents out.old) (O.contents out.new) }
 {
-    let document = match document_of(environment, objects, err) {
-        Ok(document) => document,
-        Err(status) => return status,
-    };
-    let machine = (environment.alloc, environment.machine);
-    serve_database(machine, serving, path, document, out, err)
+    match served_document(environment, serving, objects, err) {
+        Ok(served) => serve_database(environment, serving, path, served, out, err),
+        Err(status) => status,
+    }
 }

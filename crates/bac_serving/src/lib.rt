@@ -1,16 +1,20 @@
 //! What `serve`, `answer` and `keep` do: nodes with a store, on any links, and the databases that keep their stores.
 #![tactic(auto)]
 
+mod changing;
 mod databases;
 mod dropping;
 mod extent;
 mod fault_lines;
 mod followed;
+mod following_keeper;
 mod forgetting;
 mod gap;
 mod guard_words;
 mod input;
+mod keep_faults;
 mod keeping;
+mod kept_station;
 mod listing;
 mod looking;
 mod objects;
@@ -22,6 +26,7 @@ mod regular_files;
 mod serving;
 mod serving_words;
 mod standard_error;
+mod stretching;
 
 pub use databases::Databases;
 pub use forgetting::{Forgetting, forget_kept};

@@ -1,5 +1,5 @@
 //! `serve --follow` and `serve --until-eof`: serving in stretches of at most a second, between which a server looks at its document and at standard input.
-ghost use Rattle.std.specs.Prelude.{◌≡◌, ◌≤◌, true, IfErr, IfOk, IfSome, IsTrue, MatchBool, MatchOption};
+ghost use Rattle.std.specs.Prelude.{◌≡◌, ◌≤◌, true, is_some, IfErr, IfOk, IfSome, MatchBool, MatchOption, OnOk};
 ghost use Rattle.std.specs.Option.{option_map};
 ghost use Rattle.bac_commands.specs.Statuses.{ByStatus};
 ghost use Rattle.std.specs.Io.KnownBytes.{Keeps};
@@ -8,9 +8,11 @@ ghost use Rattle.bac_driver.specs.Serving.{IsBefore, IsOver};
 ghost use Rattle.bac_driver.specs.Waits.{MOST};
 ghost use Rattle.bac_text.specs.Statuses.{IsFailure, IsStop};
 ghost use Rattle.bac_environment.specs.Files.{OfFile, OnFile};
-ghost use Rattle.bac_serving.specs.Keeping.{IsDocument};
-ghost use Rattle.bac_serving.specs.Looking.{IsChanged, IsServedLooking, IsServer, PrintsStretches, ServesLooking, TakesStretch, TakesStretches, stop_limit, stop_of, stretch_limit};
-ghost use Rattle.bac_serving.specs.Looking.{STRETCH as stretch_most};
+ghost use Rattle.bac_serving.specs.Keeping.{IsDocument, is_followed};
+ghost use Rattle.bac_serving.specs.Looking.{IsServedLooking, ServesLooking};
+ghost use Rattle.bac_serving.specs.Online.{IsServer};
+ghost use Rattle.bac_serving.specs.Stretches.{IsChanged, PrintsStretches, TakesStretch, TakesStretches, stop_limit, stop_of, stretch_limit};
+ghost use Rattle.bac_serving.specs.Stretches.{STRETCH as stretch_most};
 ghost use Rattle.bac_environment.specs.Sockets.{OnClock, OnPort};
 ghost use Rattle.bac_serving.specs.Stores.{MeansStore};
 
@@ -18,11 +20,13 @@ use crate::dropping::Dropping;
 use crate::extent::has_too_many_keys;
 use crate::followed::{Followed, FollowedPath, print_too_many_keys, print_unread_words};
 use crate::input::StandardInput;
+use crate::keep_faults::print_keep_fault;
 use crate::objects::{document_of, store_in};
 use crate::regular_files::RegularFiles;
 use crate::serving::{Serving, Start, epoch_of, print_listening, print_not_bound};
 use crate::standard_error::StandardError;
-use bac_commands::{LevelLog, LogFormat, bound_server, clock_unread, print_served, serve_stretch};
+use crate::stretching::Stretching;
+use bac_commands::{LevelLog, LogFormat, bound_server, clock_unread, print_served};
 use bac_driver::{Clock, RunLimit, WaitLimit};
 use bac_environment::{Environment, OpenFiles, Sockets, Station, octets_of};
 use bac_node::NewNodeFault;
@@ -40,18 +44,18 @@ const READING: u64 = 4;
 
 /// The store that a node serves, and its document if it is followed, from files of that type.
 #[derive(Drop)]
-struct Served<'p, R> {
-    store: Store,
-    followed: Option<Followed<'p, R>>,
+pub(crate) struct Served<'p, R> {
+    pub store: Store,
+    pub followed: Option<Followed<'p, R>>,
 }
 
 /// When a server stops.
 #[derive(Clone, Copy)]
-struct Stop {
+pub(crate) struct Stop {
     /// At this moment, if there is one.
-    at: Option<u64>,
+    pub at: Option<u64>,
     /// When standard input ends.
-    with_input: bool,
+    pub with_input: bool,
 }
 
 /// What came of a stretch.
@@ -63,16 +67,38 @@ struct Stretch {
     is_last: bool,
 }
 
-/// What a server looks at between stretches, and where it tells of it.
+/// What a server looks at between stretches, until when, and where it tells of it.
 #[derive(Drop)]
-struct Looker<'p, R> {
+pub(crate) struct Looker<'p, R> {
+    pub stop: Stop,
     followed: Option<Followed<'p, R>>,
+    /// The file that keeps its store, if one does.
+    kept_in: Option<&'p str>,
     /// The form of what is told.
     format: LogFormat,
     log: LevelLog,
 }
 
-impl<R: Read + Drop> Looker<'_, R> {
+impl<'p, R: Read + Drop> Looker<'p, R> {
+    /// What a server looks at that began then, whose store a file keeps, if that is so.
+    pub(crate) fn new(
+        alloc: Global,
+        serving: &Serving,
+        start: Start,
+        followed: Option<Followed<'p, R>>,
+        kept_in: Option<&'p str>,
+    ) -> Looker<'p, R>
+        ensures { result.stop ≡ stop_of serving.now start.moment }
+    {
+        Looker {
+            stop: Stop::of(serving, start.moment),
+            followed,
+            kept_in,
+            format: serving.log_format(start),
+            log: serving.log_from(alloc, start),
+        }
+    }
+
     /// How long the next stretch is at the most, in milliseconds.
     fn longest(&self) -> u64
         ensures { result ≤ stretch_most }
@@ -142,6 +168,7 @@ fn followed_from<'p, R: Read + Drop, E: Write>(
     err: &mut E,
 ) -> Result<Served<'p, R>, Status>
     ensures store { IfOk result (λ s. MeansStore (R.remaining file) s.store) }
+    ensures followed { IfOk result (λ s. is_some s.followed ≡ true) }
     ensures told { IfErr result IsStop }
 {
     let octets = octets_of(alloc, at.path, file, err)?;
@@ -177,6 +204,7 @@ fn followed_document<'p, F: RegularFiles, M: Sockets, E: Write>(
     err: &mut E,
 ) -> Result<Served<'p, F::File>, Status>
     ensures store { IfOk result (λ s. OfFile (OnFile F.is_file F.File.remaining) at.entry.path.now (λ content. MeansStore content s.store)) }
+    ensures followed { IfOk result (λ s. is_some s.followed ≡ true) }
     ensures told { IfErr result IsStop }
 {
     match environment.files.open_regular(at.path, at.most) {
@@ -186,13 +214,14 @@ fn followed_document<'p, F: RegularFiles, M: Sockets, E: Write>(
 }
 
 /// The store of a document, which is followed where that is wanted.
-fn served_document<'p, F: RegularFiles, M: Sockets, E: Write>(
+pub(crate) fn served_document<'p, F: RegularFiles, M: Sockets, E: Write>(
     environment: &Environment<'_, F, M>,
     serving: &Serving,
     objects: Option<&'p str>,
     err: &mut E,
 ) -> Result<Served<'p, F::File>, Status>
     ensures document { IfOk result (λ s. IsDocument (OnFile F.is_file F.File.remaining) (option_map (λ p. p.now) objects.entry) s.store) }
+    ensures followed { IfOk result (λ s. is_some s.followed ≡ is_followed serving.now (option_map (λ p. p.now) objects.entry)) }
     ensures told { IfErr result IsStop }
 {
     match objects {
@@ -208,7 +237,7 @@ fn served_document<'p, F: RegularFiles, M: Sockets, E: Write>(
 }
 
 /// A node with a store on its link, and when it begins.
-fn station_of<F: OpenFiles, M: Sockets, E: Write>(
+pub(crate) fn station_of<F: OpenFiles, M: Sockets, E: Write>(
     environment: &Environment<'_, F, M>,
     serving: &Serving,
     store: Store,
@@ -252,74 +281,75 @@ fn station_of<F: OpenFiles, M: Sockets, E: Write>(
     Ok((station, began))
 }
 
-/// Looks at what a server looks at. Returns whether it stops with standard input, which has ended.
-fn look<F: RegularFiles, M: Sockets + StandardInput, E: Write>(
+/// Looks at what a server looks at. Returns whether it stops with standard input, which has ended. The status says why it cannot serve on.
+fn look<F: RegularFiles, M: StandardInput, S: Stretching, E: Write>(
     environment: &Environment<'_, F, M>,
     stop: Stop,
     looker: &mut Looker<'_, F::File>,
-    station: &mut Station<M::Link, M::Timer>,
+    server: &mut S,
     err: &mut E,
-) -> bool
-    ensures changed { IsChanged station.old.bound_node station.new.bound_node }
-    ensures input { IsTrue result → stop.with_input ≡ true }
+) -> Result<bool, Status>
+    ensures changed { OnOk result (IsChanged (S.state server.old).bound_node (S.state server.new).bound_node) }
+    ensures sound { OnOk result (S.IsSound server.old → S.IsSound server.new) }
+    ensures honest { OnOk result (S.IsHonest server.new → S.IsHonest server.old) }
+    ensures input { IfOk result (λ is_last. is_last ≡ true → stop.with_input ≡ true) }
+    ensures failed { IfErr result IsFailure }
 {
     if stop.with_input && environment.machine.has_input_ended() {
-        return true;
+        return Ok(true);
     }
     let format = looker.format;
     if let Some(followed) = &mut looker.followed {
-        followed.look(environment.files, station, format, &mut looker.log, err);
+        followed.look(environment.files, server, format, &mut looker.log, err)?;
     }
-    false
+    Ok(false)
 }
 
 /// A node serves a stretch, and looks. None where it is over.
-fn take_stretch<F: RegularFiles, M: Sockets + StandardInput, E: Write>(
+fn take_stretch<F: RegularFiles, M: StandardInput, S: Stretching, E: Write>(
     environment: &Environment<'_, F, M>,
     stop: Stop,
     looker: &mut Looker<'_, F::File>,
-    station: &mut Station<M::Link, M::Timer>,
+    server: &mut S,
     err: &mut E,
 ) -> Result<Option<Stretch>, Status>
-    ensures taken { IfOk result (λ s. MatchOption s
-        (IsOver (stop_limit stop.at) (timed station.old.bound_node (M.Timer.told station.old.clock)) (timed station.new.bound_node (M.Timer.told station.new.clock)))
-        (λ stretch. TakesStretch stop.at (timed station.old.bound_node (M.Timer.told station.old.clock)) stretch.effects
-        (timed station.new.bound_node (M.Timer.told station.new.clock)))) }
+    requires { S.IsSound server.old }
+    ensures taken { IfOk result (λ s. MatchOption s (IsOver (stop_limit stop.at) (S.state server.old) (S.state server.new))
+        (λ stretch. TakesStretch S.serves stop.at (S.state server.old) stretch.effects (S.state server.new))) }
     ensures input { IfOk result (λ s. IfSome s (λ stretch. stretch.is_last ≡ true → stop.with_input ≡ true)) }
+    ensures sound { OnOk result (S.IsSound server.new) }
+    ensures honest { OnOk result (S.IsHonest server.new → S.IsHonest server.old) }
     ensures failed { IfErr result IsFailure }
 {
-    let now = station.clock.now();
+    let now = server.now();
     if is_over(now, stop.at) {
         return Ok(None);
     }
     let longest = looker.longest();
-    let effects = serve_stretch(
-        &mut station.bound_node,
-        &mut station.clock,
-        &stretch_from(now, longest, stop.at),
-        &mut looker.log,
-        err,
-    )?;
-    let is_last = look(environment, stop, looker, station, err);
+    let limit = stretch_from(now, longest, stop.at);
+    let effects = server.serve_stretch(&limit, &mut looker.log, err)?;
+    let is_last = look(environment, stop, looker, server, err)?;
     Ok(Some(Stretch { effects, is_last }))
 }
 
 /// A node serves in stretches until it stops. Returns how many requests it performed, at most 2^64 - 1.
-fn serve_stretches<F: RegularFiles, M: Sockets + StandardInput, E: Write>(
+fn serve_stretches<F: RegularFiles, M: StandardInput, S: Stretching, E: Write>(
     environment: &Environment<'_, F, M>,
     stop: Stop,
     looker: &mut Looker<'_, F::File>,
-    station: &mut Station<M::Link, M::Timer>,
+    server: &mut S,
     err: &mut E,
 ) -> Result<u64, Status>
-    ensures taken { IfOk result (λ effects. TakesStretches stop effects (timed station.old.bound_node (M.Timer.told station.old.clock))
-        (timed station.new.bound_node (M.Timer.told station.new.clock))) }
+    requires { S.IsSound server.old }
+    ensures taken { IfOk result (λ effects. TakesStretches S.serves stop effects (S.state server.old) (S.state server.new)) }
+    ensures sound { OnOk result (S.IsSound server.new) }
+    ensures honest { OnOk result (S.IsHonest server.new → S.IsHonest server.old) }
     ensures failed { IfErr result IsFailure }
 {
     let mut effects = 0u64;
     // no run has so many stretches
     for _count in 0..u64::MAX {
-        let Some(stretch) = take_stretch(environment, stop, looker, station, err)? else {
+        let Some(stretch) = take_stretch(environment, stop, looker, server, err)? else {
             return Ok(effects);
         };
         effects = effects.saturating_add(stretch.effects);
@@ -331,20 +361,63 @@ fn serve_stretches<F: RegularFiles, M: Sockets + StandardInput, E: Write>(
 }
 
 /// A node serves in stretches until it stops, and how many requests it performed is printed.
-fn print_stretches<F: RegularFiles, M: Sockets + StandardInput, O: Write, E: Write>(
+fn print_stretches<F: RegularFiles, M: StandardInput, S: Stretching, O: Write, E: Write>(
     environment: &Environment<'_, F, M>,
     stop: Stop,
     looker: &mut Looker<'_, F::File>,
-    station: &mut Station<M::Link, M::Timer>,
+    server: &mut S,
     out: &mut O,
     err: &mut E,
 ) -> Result<(), Status>
-    ensures printed { IfOk result (λ _. PrintsStretches stop (timed station.old.bound_node (M.Timer.told station.old.clock))
-        (timed station.new.bound_node (M.Timer.told station.new.clock)) (O.contents out.old) (O.contents out.new)) }
+    requires { S.IsSound server.old }
+    ensures printed { IfOk result (λ _. PrintsStretches S.serves stop (S.state server.old) (S.state server.new) (O.contents out.old) (O.contents out.new)) }
+    ensures sound { OnOk result (S.IsSound server.new) }
+    ensures honest { OnOk result (S.IsHonest server.new → S.IsHonest server.old) }
     ensures failed { IfErr result IsFailure }
 {
-    let effects = serve_stretches(environment, stop, looker, station, err)?;
+    let effects = serve_stretches(environment, stop, looker, server, err)?;
     print_served(effects, out, err)
+}
+
+/// A node serves in stretches until it stops, with what it looks at between them, and how many requests it performed is printed.
+pub(crate) fn serve_with<
+    F: RegularFiles,
+    M: Sockets + StandardInput + StandardError,
+    S: Stretching,
+    O: Write,
+    E: Write,
+>(
+    environment: &Environment<'_, F, M>,
+    looker: Looker<'_, F::File>,
+    server: &mut S,
+    out: &mut O,
+    err: &mut E,
+) -> Result<(), Status>
+    requires { S.IsSound server.old }
+    ensures printed { IfOk result (λ _. PrintsStretches S.serves looker.entry.stop (S.state server.old) (S.state server.new) (O.contents out.old) (O.contents out.new)) }
+    ensures sound { OnOk result (S.IsSound server.new) }
+    ensures honest { OnOk result (S.IsHonest server.new → S.IsHonest server.old) }
+    ensures failed { IfErr result IsFailure }
+{
+    let mut looker = looker;
+    let stop = looker.stop;
+    let timer = environment.machine.timer();
+    // from here on standard error must not make the server wait
+    let mut err = Dropping::new(
+        environment.alloc,
+        environment.machine,
+        timer,
+        looker.format,
+        err,
+    );
+    let printed = print_stretches(environment, stop, &mut looker, server, out, &mut err);
+    if let Some(path) = looker.kept_in {
+        print_keep_fault(path, server.fault(), &mut err);
+    }
+    printed?;
+    looker.log.end(&mut err);
+    err.end();
+    Ok(())
 }
 
 /// A node serves with a store, and how many requests it performed is printed.
@@ -361,25 +434,8 @@ fn serve_store<F: RegularFiles, M: Sockets + StandardInput + StandardError, O: W
 {
     let Served { store, followed } = served;
     let (mut station, start) = station_of(environment, serving, store, err)?;
-    let mut looker = Looker {
-        followed,
-        format: serving.log_format(start),
-        log: serving.log_from(environment.alloc, start),
-    };
-    let stop = Stop::of(serving, start.moment);
-    let timer = environment.machine.timer();
-    // from here on standard error must not make the server wait
-    let mut err = Dropping::new(
-        environment.alloc,
-        environment.machine,
-        timer,
-        looker.format,
-        err,
-    );
-    print_stretches(environment, stop, &mut looker, &mut station, out, &mut err)?;
-    looker.log.end(&mut err);
-    err.end();
-    Ok(())
+    let looker = Looker::new(environment.alloc, serving, start, followed, None);
+    serve_with(environment, looker, &mut station, out, err)
 }
 
 /// Serves a node over the objects of a document, or the house if there is no document. At least once a second it looks at the document, if it follows it, and at

@@ -8,7 +8,7 @@ ghost use Rattle.bac_text.specs.declared.status.Status.TheVariants as status;
 ghost use Rattle.bac_commands.specs.Kept.{EndsKept, IsKeptByStatus, RoundsText, Unseen, unwatched};
 ghost use Rattle.bac_commands.specs.Statuses.{ByStatus};
 ghost use Rattle.bac_serving.specs.Keeping.{restarted_by};
-ghost use Rattle.bac_serving.specs.Serving.{follow_limit_of, patience_of, restart_of};
+ghost use Rattle.bac_serving.specs.Serving.{follow_limit_of, is_remote, patience_of, restart_of};
 ghost use Rattle.bac_environment.specs.Limits.{turns_of};
 
 use crate::followed::MEBIBYTE;
@@ -53,6 +53,8 @@ pub struct Serving {
     pub rules: Rules,
     /// Which sources it hears, and how much it sends to one address.
     pub guard: Guard,
+    /// Whether the sources that it hears were named; otherwise it hears private ones.
+    pub names_peers: bool,
     /// Whether its turns are logged, all of them.
     pub log: bool,
     /// Which of its turns are logged, with long octets by their first ones.
@@ -127,6 +129,13 @@ impl Serving {
         }
     }
 
+    /// Whether it does not hear its own address, and nobody named the sources that it hears: it may be deaf to those who ask it.
+    fn is_remote(&self, link: LinkAddress) -> bool
+        ensures { result ≡ is_remote self.now link }
+    {
+        !self.names_peers && !self.guard.sources.hears(link)
+    }
+
     /// A bound node is set as it says.
     pub(crate) fn set<L: Link>(&self, bound_node: &mut BoundNode<L>)
         ensures { bound_node.new ≡ record bound_node.old { rules = self.now.rules } }
@@ -195,8 +204,8 @@ pub(crate) fn print_not_bound<E: Write>(serving: &Serving, error: &io::Error, er
     Status::Output
 }
 
-/// Prints on `err` whether a node that begins then hears every address, where it listens, and how many objects and slots it has. Where it restarted,
-/// the last line says from when on it serves.
+/// Prints on `err` whether a node that begins then hears every address, or private ones alone and not its own. Then it prints where the node listens, and how many
+/// objects and slots it has. Where it restarted, the last line says from when on it serves.
 pub(crate) fn print_listening<E: Write>(
     alloc: Global,
     serving: &Serving,
@@ -210,6 +219,10 @@ pub(crate) fn print_listening<E: Write>(
     let slots = serving.slots;
     if serving.guard.sources.hears_all() {
         let words = format!(in alloc; "hears every address");
+        print_started(alloc, serving, start, words, err);
+    }
+    if serving.is_remote(link) {
+        let words = format!(in alloc; "hears only private addresses; --peers names others");
         print_started(alloc, serving, start, words, err);
     }
     if serving.turns.is_none() {

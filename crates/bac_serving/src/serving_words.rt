@@ -240,6 +240,7 @@ pub fn serving_of(given: &ArgMatches<'_>) -> Option<Serving>
         restarted: flag_of(given, "restarted"),
         rules,
         guard,
+        names_peers: given.get_str("peers").is_some(),
         log: flag_of(given, "log"),
         level: level_of(given),
         json: flag_of(given, "json"),

@@ -5,9 +5,9 @@ use crate::words::{Grammar, Need, Word, WordForm};
 const PORT: Word = Word {
     name: "port",
     form: WordForm::Number("P", 65_535),
-    need: Need::One(&["port", "to"]),
+    need: Need::Never,
     against: &[],
-    help: "The UDP port of the node to ask, on 127.0.0.1; 1 to 65535",
+    help: "The UDP port of the node to ask, on 127.0.0.1; 1 to 65535, 47808 by default",
 };
 
 /// Its address.
@@ -16,7 +16,7 @@ const TO: Word = Word {
     form: WordForm::Text("A.B.C.D[:P]"),
     need: Need::Never,
     against: &["port"],
-    help: "The IPv4 address of the node to ask, and its UDP port, 47808 by default",
+    help: "The IPv4 address of the node to ask, and its UDP port, 47808 by default; without it, a node at 127.0.0.1",
 };
 
 /// The way on from there.
@@ -86,13 +86,13 @@ const BACKUPS: &[Grammar] = &[
     Grammar {
         name: "backup",
         about: "Saves files of a device in a folder, with their digests",
-        after: "Example: bac backup --port 47808 --device 100 --folder saved\nExample: bac backup --to 192.168.1.20 --folder saved file:1 file:2",
+        after: "Example: bac backup --device 100 --folder saved\nExample: bac backup --to 192.168.1.20 --folder saved file:1 file:2",
         words: BACKUP,
     },
     Grammar {
         name: "restore",
         about: "Restores files that `bac backup` saved, reads them back from the device, and compares their digests",
-        after: "Example: bac restore --port 47808 --folder saved\nExample: bac restore --to 192.168.1.20 --folder saved",
+        after: "Example: bac restore --folder saved\nExample: bac restore --to 192.168.1.20 --folder saved",
         words: RESTORE,
     },
 ];

@@ -2,6 +2,7 @@
 use crate::backup_words::backups;
 use crate::help_words::{about, of_clients, of_servers, offline};
 use crate::people_words::people;
+use crate::unexpected::clearer;
 use crate::words::{Grammar, Need, Word, WordForm};
 use clap::builder::ValueParser;
 use clap::{Arg, ArgAction, ArgGroup, ArgMatches, Command};
@@ -78,7 +79,8 @@ fn grouped<'a>(
     Ok(command.group(group)?)
 }
 
-fn command_of<'a>(alloc: Global, grammar: &Grammar) -> Result<Command<'a>, clap::Error> {
+/// A command with its words.
+pub(crate) fn command_of<'a>(alloc: Global, grammar: &Grammar) -> Result<Command<'a>, clap::Error> {
     let mut command = titled(alloc, grammar);
     for word in grammar.words {
         command = command.arg(argument(alloc, word)?)?;
@@ -134,11 +136,23 @@ fn commands<'a>(alloc: Global) -> Result<Command<'a>, clap::Error> {
     with_commands(alloc, with_backups(alloc)?, about())
 }
 
+/// The error, or a clearer one in its place where one word was meant to be another.
+fn advised(alloc: Global, words: &[String], error: clap::Error) -> clap::Error {
+    match clearer(alloc, words, &error) {
+        Ok(Some(clearer)) => clearer,
+        Ok(None) => error,
+        Err(failed) => failed,
+    }
+}
+
 /// What the words of a command line give: the first is the program's name, the next a command's, and behind it stand words of that command, each as its table
 /// says. The words that it gives are borrowed of the line.
 ///
 /// An Err whose kind is `OutOfMemory` says that memory was refused. Any other has the text for who wrote the line: its words have no such form, or one is
-/// `--help`.
+/// `--help`. Where a word is not taken that is meant to be an option or its text, as `-to` or an address, it says which.
 pub fn matches<'a>(alloc: Global, words: &'a [String]) -> Result<ArgMatches<'a>, clap::Error> {
-    commands(alloc)?.try_get_matches_from(words)
+    match commands(alloc)?.try_get_matches_from(words) {
+        Ok(matches) => Ok(matches),
+        Err(error) => Err(advised(alloc, words, error)),
+    }
 }

@@ -11,6 +11,7 @@ mod manual;
 mod nearest;
 mod people_words;
 mod shells;
+mod unexpected;
 mod value_names;
 mod words;
 mod wrapping;

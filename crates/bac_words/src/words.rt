@@ -288,8 +288,8 @@ const SERVE: &[Word] = &[
         name: "follow",
         form: WordForm::Flag,
         need: Need::Beside("objects"),
-        against: &["keep", "turns"],
-        help: "Reads the document of --objects, a regular file, again when it changes, at most once a second, and gives the objects the values that changed in it; other values that clients wrote stay",
+        against: &["turns"],
+        help: "Reads the document of --objects, a regular file, again when it changes, at most once a second, and gives the objects the values that changed in it, which --keep keeps too; other values that clients wrote stay",
     },
     Word {
         name: "follow-limit",

@@ -1,27 +1,14 @@
--- The bound node is on a link that was bound, with its setting, the clock was made, and it printed when serving began.
-use Rattle.std.proofs.Common.{refl, ap, ◌∙◌}
-use Rattle.bac_driver.specs.BoundNodes.{BoundNode}
+-- It serves in rounds; in stretches, where the document is followed.
 use Rattle.bac_environment.specs.Sockets.{OnClock, OnPort}
 use Rattle.bac_serving.proofs.KeptServed.{served_so}
 use Rattle.bac_serving.proofs.keeping.serve_round.Goals as goal
 
-pub returns : goal.returns
-returns g c =
-    let set = c.set.ensures in
-    served_so g.K.Keeper.IsHonest g.K.Keeper.IsOpen g.K.Keeper.kept g.K.Keeper.noted g.K.Keeper.base _ _ c.keeper_left-keeper.result
-    (OnPort g.M.Sockets.is_bound g.M.Link.Link.failures g.M.Link.Link.calls) (OnClock g.M.Sockets.is_made g.M.Timer.Clock.told) _ _ c.now-start.result
-    c.restart-restart.result c.in-Ok.bound.1 _ _ _ _ c.serve_kept_from-status.result c.restart-restart.ensures
-    (ap (λ (b : BoundNode). b.node) set ∙ c.in-Ok-bound_server.ensures.node)
-    (record {
-      link = c.in-Ok.bound.0;
-      bound = c.in-Ok.ensures;
-      failed = ap (λ (b : BoundNode). b.failures) set ∙ c.in-Ok-bound_server.ensures.failures;
-      made = ap (λ (b : BoundNode). b.calls) set ∙ c.in-Ok-bound_server.ensures.calls;
-    })
-    (record {
-      before = g.M.Timer.Clock.told c.in-Some.timer;
-      made = record { timer = c.in-Some.timer; made = c.in-Some.ensures; is = refl };
-      is = c.now-start.ensures.tells;
-    })
-    (ap (λ (b : BoundNode). b.rules) set) c.serve_kept_from-status.ensures.printed c.serve_kept_from-status.ensures.all c.serve_kept_from-status.ensures.honest
-    c.serve_kept_from-status.ensures.base c.keeper_left-keeper.ensures
+pub returns-in-None : goal.returns-in-None
+returns-in-None g c =
+    rw c.in-None.is (served_so _ (OnPort g.M.Sockets.is_bound g.M.Link.Link.failures g.M.Link.Link.calls) (OnClock g.M.Sockets.is_made g.M.Timer.Clock.told)
+    _ c.args.serving.now _ _ _ _ _ c.in_rounds.result.0 c.in-Ok.ensures.server c.in_rounds.ensures)
+
+pub returns-in-Some : goal.returns-in-Some
+returns-in-Some g c =
+    rw c.in-Some.is (served_so _ (OnPort g.M.Sockets.is_bound g.M.Link.Link.failures g.M.Link.Link.calls) (OnClock g.M.Sockets.is_made g.M.Timer.Clock.told)
+    _ c.args.serving.now _ _ _ _ _ c.in_stretches.result.0 c.in-Ok.ensures.server (rw c.new-looker.ensures at c.in_stretches.ensures))

@@ -1,6 +1,6 @@
 -- One change after the other.
 use Rattle.bac_serving.proofs.Changed.{changed_again, changed_none}
-use Rattle.bac_serving.proofs.followed.Followed.make_all.Goals as goal
+use Rattle.bac_serving.proofs.changing.make_all.Goals as goal
 
 pub loop-change-init : goal.loop-change-init
 loop-change-init g c = changed_none _
