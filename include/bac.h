@@ -1,28 +1,28 @@
 /* bac.h: a proved BACnet/IP node (ReadProperty, WriteProperty, AtomicReadFile, AtomicWriteFile, with segmentation in both directions; ANSI/ASHRAE 135) inside
- * a program of your own. Your program owns the socket and the clock. The node has a copy of the objects; it answers requests, and sends its own. docs/C.md
- * explains the words, and leads to a first program.
+ * your own program. Your program owns the socket and the clock. The node has a copy of the objects; it answers requests, and sends its own. docs/C.md explains
+ * the words, and has a first program.
  *
  * Link libbac_c.a and a heap (examples/c/heap.c), or the archive of `make -C include install`, which has one. C99 and C++, on x86-64 (x86-64-v2 or later) and
- * aarch64 Linux. The library has no target of 32 bits.
+ * aarch64 Linux. 32-bit targets are not supported.
  *
  * Rules of every call
- * - A bac_node begins as BAC_NODE_EMPTY, is never copied, and its members are never touched. Used before bac_open, opened twice, used after bac_close or closed
- *   twice, it does no harm: a call with a status returns BAC_NOT_OPEN or BAC_ALREADY_OPEN, any other 0 or false (bac_next_due: UINT64_MAX).
- * - After a status that is not BAC_OK the node is as it was, and no ticket or length is written to its place. After BAC_NO_MEMORY the same call may be made
- *   again: wait before that, as what was due stays due, and bac_next_due stays in the past. A datagram that was refused so is lost, and its sender repeats it.
- * - A call whose node is const leaves the node as it was. Even so, no other call of that node may run beside it.
+ * - A bac_node begins as BAC_NODE_EMPTY, is never copied, and its members are never touched. If it is used before bac_open, opened twice, used after bac_close
+ *   or closed twice, no harm is done: a call with a status returns BAC_NOT_OPEN or BAC_ALREADY_OPEN, any other 0 or false (bac_next_due: UINT64_MAX).
+ * - After a status that is not BAC_OK the node is unchanged, and no ticket or length is written to its place. After BAC_NO_MEMORY the same call may be made
+ *   again. Wait before that: what was due stays due, and bac_next_due stays in the past. A datagram that was refused so is lost, and its sender repeats it.
+ * - A call whose node is const leaves the node unchanged. Even so, no other call of that node may run at the same time.
  * - Moments are milliseconds of one clock that never goes back, from any start.
  * - A link is four octets of IPv4 address and two of UDP port, the high one first, as sockaddr_in has them.
- * - Octets are given by address and number, and stay the caller's. A call that copies octets out tells how many there are, by what it returns or, where it
- *   returns a status, in *len. If they are more than there is room for, it copies none.
- * - What came of a call (bac_sends to bac_cause) is there to be read until the next bac_on, bac_tick, bac_ask_.., bac_start.. or bac_close that succeeds. So
- *   read all of it after each.
+ * - Octets are given by address and number, and stay the caller's. A call that copies octets out tells how many there are: it returns the number or, if it
+ *   returns a status, writes it to *len. If there are more than there is room for, it copies none.
+ * - The results of a call (bac_sends to bac_cause) can be read until the next bac_on, bac_tick, bac_ask_.., bac_start.. or bac_close that succeeds. So read all
+ *   of them after each call.
  *
  * What the program promises (nothing checks it)
- * - Each pointer is valid for the call, never null (but that of bac_close), also where the number is 0, and no two of one call overlap. A bool is 0 or 1.
+ * - Each pointer is valid for the call, never null (except that of bac_close), also if the number is 0, and no two of one call overlap. A bool is 0 or 1.
  * - One call at a time for a node: from any thread, under one lock, and none from a signal handler. Two nodes share nothing but the heap.
- * - That nothing is performed twice also needs these: the moment of bac_on is read after the datagram came, with its true sender; each datagram of a call is
- *   sent once, at once, and never again; none is given to bac_on long after it came, not even again after BAC_NO_MEMORY. docs/C.md says more.
+ * - That nothing is performed twice also needs these: the moment of bac_on is read after the datagram came, and its sender is the true one; each datagram of a
+ *   call is sent once, at once, and never again; none is given to bac_on long after it came, not even again after BAC_NO_MEMORY. docs/C.md says more.
  */
 #ifndef BAC_H
 #define BAC_H
@@ -43,7 +43,7 @@ extern "C" {
 /* The version of the library that is linked. */
 uint32_t bac_version(void);
 
-/* A node. Its memory is the library's from bac_open to bac_close. */
+/* A node. The library owns its memory from bac_open to bac_close. */
 typedef struct bac_node {
     bool held;
     void *at;
@@ -75,7 +75,7 @@ typedef enum bac_status {
     BAC_BAD_VALUE = 18        /* a value that the property cannot have, or a kept cell that does not fit */
 } bac_status;
 
-/* What a node is made of. Set it by BAC_SETTINGS, and then the members that are to be others. */
+/* The settings of a node. Initialize them with BAC_SETTINGS, then change the members that you need. */
 typedef struct bac_settings {
     size_t size;           /* sizeof(bac_settings), 48 in each version from 1.1 on: a library refuses settings of another size (BAC_BAD_SETTINGS) */
     uint8_t link[6];       /* its own link */
@@ -110,7 +110,7 @@ typedef struct bac_settings {
     { sizeof(bac_settings), { (uint8_t)(a), (uint8_t)(b), (uint8_t)(c), (uint8_t)(d), (uint8_t)(port_high), (uint8_t)(port_low) }, \
       5, true, 7, 32, 64, 64, false, { 0 }, 0 }
 
-/* To whom a client request goes, and what that device takes; codes as in bac_settings. It has no network number: none goes behind a router. */
+/* The device to which a client request goes, and what it takes; codes as in bac_settings. It has no network number: no request goes behind a router. */
 typedef struct bac_target {
     uint8_t link[6];
     uint8_t max_apdu;
@@ -215,7 +215,7 @@ bac_status bac_open(bac_node *node);
 /* Frees all that the node has. */
 void bac_release(bac_node *node);
 
-/* The same, and nothing where there is no node (NULL). */
+/* The same; does nothing if there is no node (NULL). */
 static inline void bac_close(bac_node *node)
 {
     if (node != NULL) {
@@ -225,52 +225,54 @@ static inline void bac_close(bac_node *node)
 
 /* ---- objects: between bac_open and bac_start */
 
-/* Lists an object: its type (bac_start takes 0 analog-input, 2 analog-value, 5 binary-value, 8 device, 10 file and 128 to 1,023, bac_start_described all),
- * its instance, 0 to 4,194,302, and its name in UTF-8.
- * BAC_BAD_OBJECT exactly where the type is above 1,023, the instance above 4,194,303, or the name no UTF-8; all else is looked at by bac_start: so instance
- * 4,194,303, the wildcard, is listed, and each start refuses it.
+/* Lists an object: its type (bac_start takes 0 analog-input, 2 analog-value, 5 binary-value, 8 device, 10 file and 128 to 1,023, bac_start_described all), its
+ * instance, 0 to 4,194,302, and its name in UTF-8.
+ * BAC_BAD_OBJECT exactly if the type is above 1,023, the instance above 4,194,303, or the name is not UTF-8. bac_start checks all else: so instance 4,194,303,
+ * the wildcard, can be listed, and each start refuses it.
  * BAC_NOT_OPEN, BAC_ALREADY_STARTED, BAC_NO_MEMORY. */
 bac_status bac_add_object(bac_node *node, uint16_t object_type, uint32_t instance, const uint8_t *name, size_t name_len);
 
 /* Lists a property of the object that was listed last: its values as octets of data (clause 20.2), and whether the network may write them. Number 28 is a
- * description, a CharacterString; 85 a present-value, a Real of the analog types, Enumerated 0 or 1 of a binary-value, any values of the others; 512 to
- * 4,194,303 are a vendor's own, with any values. bac_start takes these alone; for bac_start_described see there. An object's identifier, name and type, and a
- * file's size and access method, come of themselves.
- * BAC_BAD_OBJECT exactly where no object is listed, or the octets are no data; all else is looked at by bac_start. Otherwise as bac_add_object. */
+ * description, a CharacterString. Number 85 is a present-value: a Real of the analog types, Enumerated 0 or 1 of a binary-value, any values of the others. 512
+ * to 4,194,303 are a vendor's own, with any values. bac_start takes these alone; for bac_start_described see there. The node computes an object's identifier,
+ * name and type, and a file's size and access method.
+ * BAC_BAD_OBJECT exactly if no object is listed, or the octets are no data; bac_start checks all else. Otherwise as bac_add_object. */
 bac_status bac_add_property(bac_node *node, uint32_t number, const uint8_t *octets, size_t len, bool writable);
 
-/* Gives the property that was listed last limits, for what the network writes: the least and the greatest value, as octets of data, of the kind of its values
- * (Real, Unsigned, Signed or Enumerated). A write outside is answered by Error 2:37, value-out-of-range, and changes nothing; bac_set_value has no limits.
- * BAC_BAD_OBJECT exactly where the object that was listed last has no property, or the octets are no data; whether the limits fit the values is looked at by
- * bac_start. Otherwise as bac_add_object. */
+/* Gives the property that was listed last limits for writes from the network: the least and the greatest value, as octets of data, of the kind of its values
+ * (Real, Unsigned, Signed or Enumerated). A write outside them gets Error 2:37, value-out-of-range, and changes nothing; the limits do not apply to
+ * bac_set_value.
+ * BAC_BAD_OBJECT exactly if the object that was listed last has no property, or the octets are no data; bac_start checks whether the limits fit the values.
+ * Otherwise as bac_add_object. */
 bac_status bac_limit(bac_node *node, const uint8_t *least, size_t least_len, const uint8_t *greatest, size_t greatest_len);
 
-/* Adds one value, as octets of data of the kind of its values, to the list of those that the network may write to the property that was listed last; the first
- * one begins the list, and takes the place of limits. A write of octets that the list does not have is answered by Error 2:37, and changes nothing. The first
- * values of the property have to be in its list. BAC_BAD_OBJECT exactly where the object that was listed last has no property, or the octets are no data.
- * Otherwise as bac_limit. */
+/* Adds one value, as octets of data of the kind of its values, to the list of those that the network may write to the property that was listed last. The first
+ * one begins the list, and replaces limits. A write of octets that are not in the list gets Error 2:37, and changes nothing. The first values of the property
+ * have to be in its list. BAC_BAD_OBJECT exactly if the object that was listed last has no property, or the octets are no data. Otherwise as bac_limit. */
 bac_status bac_allow(bac_node *node, const uint8_t *octets, size_t len);
 
-/* Gives the object that was listed last, a file, its octets. BAC_BAD_OBJECT exactly where no object is listed. Otherwise as bac_add_object. */
+/* Gives the object that was listed last, a file, its octets, and says whether the network may write them. If it may, and the object lists read-only (99, which
+ * only bac_start_described takes), it may also write the file-size, 0 to 60,000: this cuts the file or appends zeros. BAC_BAD_OBJECT exactly if no object is
+ * listed. Otherwise as bac_add_object. */
 bac_status bac_add_file(bac_node *node, const uint8_t *octets, size_t len, bool writable);
 
 /* Starts the node with the objects that are listed; if it refuses, they stay listed. For a node that never ran at this link before; at each later start call
  * bac_start_restarted, or bac_start_kept.
- * BAC_NOT_OPEN; BAC_ALREADY_STARTED; BAC_BAD_SETTINGS; BAC_NO_MEMORY; BAC_DUPLICATE; BAC_BAD_OBJECT where an object has a type, instance, property or value
- * that none can have, a property twice, a name of more than 4,091 octets, values of more than 4,096, a file of more than 60,000, or is a file without octets
- * or octets without a file. The first that holds comes, and memory may be refused before the objects are looked at. bac_start_problem says which object it
- * is, and why. */
+ * BAC_NOT_OPEN; BAC_ALREADY_STARTED; BAC_BAD_SETTINGS; BAC_NO_MEMORY; BAC_DUPLICATE; BAC_BAD_OBJECT. The last is returned if an object has a type, instance,
+ * property or value that none can have, a property twice, a name of more than 4,091 octets, values of more than 4,096 or a file of more than 60,000, or is a
+ * file without octets or has octets without being a file. The first that holds is returned, and memory may be refused before the objects are checked.
+ * bac_start_problem says which object it is, and why. */
 bac_status bac_start(bac_node *node, const bac_settings *settings);
 
-/* The same at a moment, for a node that ran before, at this link, and lost what it remembered: its program or its host was started anew. List the objects as
- * they are now. For 65,000 ms each new request is turned away (Abort, reason 0), so that none of the earlier run is performed twice; but with
- * reuse_invoke_ids a read whose response is one APDU is performed. For 75,000 ms each client request is refused (BAC_NO_INVOKE_ID). */
+/* The same at a moment, for a node that ran before at this link and lost what it remembered: its program or its host was restarted. List the objects as they
+ * are now. For 65,000 ms each new request is refused (Abort, reason 0), so that none of the earlier run is performed twice; but with reuse_invoke_ids a read
+ * whose response is one APDU is performed. For 75,000 ms each client request is refused (BAC_NO_INVOKE_ID). */
 bac_status bac_start_restarted(bac_node *node, const bac_settings *settings, uint64_t now);
 
-/* Writes to refused the first object that bac_start refuses, and why; BAC_FLAW_NONE exactly where it takes all that are listed. Not for
- * bac_start_described, which has other rules: see bac_problem. The first of these flaws that the object has comes: BAC_FLAW_TYPE, _INSTANCE, _NAME, _FILE,
- * _SAME_IDENTIFIER, and then of its first property that has one _NUMBER, _TWICE, _VALUES, _LIMITS. So BAC_DUPLICATE is _SAME_IDENTIFIER here, at the later one
- * of the two, unless another flaw comes first. The node stays as it was. BAC_NOT_OPEN; BAC_ALREADY_STARTED; BAC_NO_MEMORY. */
+/* Writes to refused the first object that bac_start refuses, and why; BAC_FLAW_NONE exactly if it takes all that are listed. Not for bac_start_described, which
+ * has other rules: see bac_problem. The object's first flaw in this order is given: BAC_FLAW_TYPE, _INSTANCE, _NAME, _FILE, _SAME_IDENTIFIER, and then of its
+ * first property that has one _NUMBER, _TWICE, _VALUES, _LIMITS. So BAC_DUPLICATE is _SAME_IDENTIFIER here, at the later one of the two, unless another flaw
+ * comes first. The node is unchanged. BAC_NOT_OPEN; BAC_ALREADY_STARTED; BAC_NO_MEMORY. */
 bac_status bac_start_problem(const bac_node *node, bac_refused *refused);
 
 /* Starts the node as bac_start does, with objects of any type and any properties: those that a document (docs/OBJECTS.md) with `described = true` has. The
@@ -283,19 +285,19 @@ bac_status bac_start_described(bac_node *node, const bac_settings *settings);
 /* The same for a node that ran before, as bac_start_restarted. */
 bac_status bac_start_described_restarted(bac_node *node, const bac_settings *settings, uint64_t now);
 
-/* Writes to refused the first object that bac_start_described refuses, and why; BAC_FLAW_NONE where it takes all that are listed. Not for bac_start: see
- * bac_start_problem. The node stays as it was. BAC_NOT_OPEN; BAC_ALREADY_STARTED; BAC_NO_MEMORY. */
+/* Writes to refused the first object that bac_start_described refuses, and why; BAC_FLAW_NONE if it takes all that are listed. Not for bac_start: see
+ * bac_start_problem. The node is unchanged. BAC_NOT_OPEN; BAC_ALREADY_STARTED; BAC_NO_MEMORY. */
 bac_status bac_problem(const bac_node *node, bac_refused *refused);
 
 /* ---- through a power cut: what the network may write, kept by the program in cells. docs/C.md, "Through a power cut", has the order of the calls.
  *
  * A cell is octets at a place. A place is a number below 2^55 that stands for a property, or for a part of a file, in each run of the node and in each version
- * of the library: `bac serve --keep` has the same. A property has one cell. A file has one for each 1,024 octets, or what is left of them, and then one for how
- * many those are. What the network may not write has none: list it as it is. */
+ * of the library: `bac serve --keep` has the same. A property has one cell. A file has one for each 1,024 octets, or what is left of them, and then one for the
+ * number of those cells. What the network may not write has none: list it as it is. */
 
-/* Lists a cell that was kept, in any order, and instead of an earlier one of that place. BAC_BAD_OBJECT where the number is a place of no type, instance,
- * property or part of a file, whichever the objects are; all else is looked at by bac_start_kept. BAC_NOT_OPEN, BAC_ALREADY_STARTED, BAC_NO_MEMORY. The starts
- * that are not _kept ignore these cells. */
+/* Lists a cell that was kept, in any order; it replaces an earlier one of that place. BAC_BAD_OBJECT if the number is a place of no type, instance, property or
+ * part of a file, whichever the objects are; bac_start_kept checks all else. BAC_NOT_OPEN, BAC_ALREADY_STARTED, BAC_NO_MEMORY. The starts that are not _kept
+ * ignore these cells. */
 bac_status bac_add_kept(bac_node *node, uint64_t place, const uint8_t *octets, size_t len);
 
 /* Starts the node as bac_start_restarted does. Then each property and file that the network may write, and of which cells are listed, has what they hold;
@@ -309,29 +311,29 @@ bac_status bac_start_kept(bac_node *node, const bac_settings *settings, uint64_t
 /* The same with objects of any type, as bac_start_described_restarted. */
 bac_status bac_start_described_kept(bac_node *node, const bac_settings *settings, uint64_t now, uint64_t *place);
 
-/* Starts it with the house of `bac serve` instead: device 1, analog-input 5, analog-value 1, binary-value 1, file 1. BAC_NOT_OPEN, BAC_ALREADY_STARTED,
+/* Starts the node with the house of `bac serve` instead: device 1, analog-input 5, analog-value 1, binary-value 1, file 1. BAC_NOT_OPEN, BAC_ALREADY_STARTED,
  * BAC_BAD_SETTINGS, BAC_NO_MEMORY. */
 bac_status bac_start_house(bac_node *node, const bac_settings *settings);
 
 /* ---- datagrams and time */
 
-/* A datagram came: its whole UDP payload, from the octet 0x81 (BVLC) on. BAC_NOT_OPEN, BAC_NOT_STARTED, BAC_CLOCK_BACK; BAC_NO_MEMORY, never where the
- * datagram is dropped. */
+/* Gives the node a datagram that came: its whole UDP payload, from the octet 0x81 (BVLC) on. BAC_NOT_OPEN, BAC_NOT_STARTED, BAC_CLOCK_BACK; BAC_NO_MEMORY,
+ * never if the datagram is dropped. */
 bac_status bac_on(bac_node *node, uint64_t now, const uint8_t from[6], const uint8_t *octets, size_t len);
 
 /* Does all that is due, or nothing: repeats, and client requests that end. BAC_NOT_OPEN, BAC_NOT_STARTED, BAC_CLOCK_BACK, BAC_NO_MEMORY: then wait, as all
  * stays due. */
 bac_status bac_tick(bac_node *node, uint64_t now);
 
-/* The first moment at which bac_tick does anything; UINT64_MAX: none, or no node that is started. It stays in the past while ticks are refused memory: a loop
- * that waits until then has to wait some milliseconds more after BAC_NO_MEMORY, or it spins. */
+/* The first moment at which bac_tick does anything; UINT64_MAX: none, or no node that is started. It stays in the past while ticks are refused memory: after
+ * BAC_NO_MEMORY a loop that waits until then has to wait some milliseconds more, or it spins. */
 uint64_t bac_next_due(const bac_node *node);
 
-/* ---- client requests, to another device. Each has a ticket, which bac_end names later; send what bac_send has, as after bac_on
+/* ---- client requests, to another device. Each has a ticket, which bac_end names later; after each call send what bac_send has, as after bac_on
  *
- * BAC_NOT_OPEN; BAC_NOT_STARTED; BAC_BAD_REQUEST exactly where a number is outside its range or the octets to be written are no data. Then the first of
+ * BAC_NOT_OPEN; BAC_NOT_STARTED; BAC_BAD_REQUEST exactly if a number is outside its range or the octets to be written are no data. Then the first of
  * BAC_CLOCK_BACK, BAC_SELF_PEER, BAC_TOO_LONG, BAC_NEEDS_SEGMENTS, BAC_NO_INVOKE_ID and BAC_NO_SLOT that holds, or BAC_NO_MEMORY: memory may be refused before
- * these are looked at. The ticket is written with BAC_OK alone. */
+ * these are checked. The ticket is written with BAC_OK alone. */
 
 /* Reads a property, or one element of it. */
 bac_status bac_ask_read(bac_node *node, uint64_t now, const bac_target *target, const bac_reference *reference, uint64_t *ticket);
@@ -355,20 +357,20 @@ static inline bac_status bac_ask_append(bac_node *node, uint64_t now, const bac_
 /* Gets at most count octets of a file, from the position on. */
 bac_status bac_ask_get(bac_node *node, uint64_t now, const bac_target *target, uint32_t file, int64_t position, uint64_t count, uint64_t *ticket);
 
-/* ---- what came of the last call */
+/* ---- results of the last call */
 
 /* How many datagrams are to be sent, and each, in order: where it goes, and its octets (at most 1,514). If the index is not below what bac_sends returns,
  * bac_send returns 0 and writes nothing. */
 size_t bac_sends(const bac_node *node);
 size_t bac_send(const bac_node *node, size_t index, uint8_t to[6], uint8_t *out, size_t room);
 
-/* How many client requests have ended, and how each did, with the octets that came (at most 65,535): look after each bac_on and each bac_tick. At an index that
- * is not below bac_ends 0, and nothing is written. */
+/* How many client requests have ended, and how each did, with the octets that came (at most 65,535): check after each bac_on and each bac_tick. If the index is
+ * not below what bac_ends returns, bac_end returns 0 and writes nothing. */
 size_t bac_ends(const bac_node *node);
 size_t bac_end(const bac_node *node, size_t index, bac_ending *ending, uint8_t *out, size_t room);
 
-/* The request that was performed, with the octets that it asks to write (at most 65,535; where act->done holds, at most 4,096 of a property, 60,000 of a
- * file). Where act->service is 7 or 15 and act->done holds, they were written: act on it. */
+/* The request that was performed, with the octets that it asks to write (at most 65,535; if act->done is true, at most 4,096 of a property, 60,000 of a file).
+ * If act->service is 7 or 15 and act->done is true, they were written: act on it. */
 size_t bac_performed(const bac_node *node, bac_act *act, uint8_t *out, size_t room);
 
 /* Whether that request wrote something; if so, written says what: a property, or, with BAC_WHOLE in place of its number, the octets of a file, which a
@@ -379,27 +381,27 @@ bool bac_written(const bac_node *node, bac_reference *written);
  * network message, 5 no APDU, 6 from the node's own link. */
 uint32_t bac_cause(const bac_node *node);
 
-/* ---- the node's own store: a change and a read have no moment among their arguments, send nothing, and leave what is there to be read of the last call
+/* ---- the node's own store: these calls take no moment, send nothing, and leave the results of the last call to be read
  *
- * BAC_NOT_OPEN; BAC_NOT_STARTED; BAC_BAD_REQUEST exactly where a type is above 1,023 or an instance above 4,194,303; then what each call names.
- * BAC_NO_MEMORY only where there are octets to copy. */
+ * BAC_NOT_OPEN; BAC_NOT_STARTED; BAC_BAD_REQUEST exactly if a type is above 1,023 or an instance above 4,194,303; then what each call names. BAC_NO_MEMORY only
+ * if there are octets to copy. */
 
 /* Sets the values of a listed property, whether or not the network may write it. The first of BAC_NO_SUCH_OBJECT, BAC_NO_SUCH_PROPERTY (also a computed one),
- * BAC_BAD_VALUE (no data, of another kind than the property was listed with, no state of a binary type, or 0 of a multi-state type) and BAC_TOO_LONG (more
- * than 4,096 octets). The limits and lists of bac_limit and bac_allow do not hold here: they are for writes of the network. */
+ * BAC_BAD_VALUE (no data, another kind than the property was listed with, no state of a binary type, or 0 of a multi-state type) and BAC_TOO_LONG (more than
+ * 4,096 octets). The limits and lists of bac_limit and bac_allow do not apply here: they are for writes from the network. */
 bac_status bac_set_value(bac_node *node, uint16_t object_type, uint32_t instance, uint32_t property, const uint8_t *octets, size_t len);
 
-/* Copies out what a ReadProperty would get: the values of a property, computed ones too, or one element of an array; their number of octets is written to len.
- * BAC_NO_SUCH_OBJECT; BAC_NO_SUCH_PROPERTY, also where there is no such element. */
+/* Copies out what a ReadProperty would get: the values of a property, computed ones too, or one element of an array. Their number of octets is written to len.
+ * BAC_NO_SUCH_OBJECT; BAC_NO_SUCH_PROPERTY, also if there is no such element. */
 bac_status bac_get_value(const bac_node *node, const bac_reference *reference, uint8_t *out, size_t room, size_t *len);
 
-/* Sets all octets of a file, whether or not the network may write it. BAC_NO_SUCH_OBJECT, also where the object is no file; BAC_TOO_LONG (more than 60,000). */
+/* Sets all octets of a file, whether or not the network may write it. BAC_NO_SUCH_OBJECT, also if the object is not a file; BAC_TOO_LONG (more than 60,000). */
 bac_status bac_set_file(bac_node *node, uint32_t file, const uint8_t *octets, size_t len);
 
-/* Copies all octets of a file out; how many they are is written to len. BAC_NO_SUCH_OBJECT, also where the object is no file. */
+/* Copies all octets of a file out; their number is written to len. BAC_NO_SUCH_OBJECT, also if the object is not a file. */
 bac_status bac_get_file(const bac_node *node, uint32_t file, uint8_t *out, size_t room, size_t *len);
 
-/* Adds octets to the end of a file, by way of memory that has room for all its octets and these: BAC_TOO_LONG where the room is less, or as bac_set_file. */
+/* Adds octets to the end of a file. scratch needs room for all its octets and these: BAC_TOO_LONG if there is less, or as bac_set_file. */
 static inline bac_status bac_append_file(bac_node *node, uint32_t file, const uint8_t *octets, size_t len, uint8_t *scratch, size_t room)
 {
     size_t old = 0;
@@ -414,14 +416,14 @@ static inline bac_status bac_append_file(bac_node *node, uint32_t file, const ui
     return bac_set_file(node, file, scratch, old + len);
 }
 
-/* How many cells there are to keep of a property, or, with BAC_WHOLE in place of its number, of the octets of a file; the index is not looked at. 0 where the
- * network may not write it, where there is none, and where no node is started. */
+/* How many cells there are to keep of a property, or, with BAC_WHOLE in place of its number, of the octets of a file; the index is ignored. 0 if the network
+ * may not write it, if it does not exist, and if no node is started. */
 size_t bac_cells(const bac_node *node, const bac_reference *what);
 
-/* Each of them, as it is now: its place, and its octets (at most 4,096). At an index that is not below bac_cells 0, and nothing is written. */
+/* Each of them, as it is now: its place, and its octets (at most 4,096). If the index is not below what bac_cells returns, returns 0 and writes nothing. */
 size_t bac_cell(const bac_node *node, const bac_reference *what, size_t index, uint64_t *place, uint8_t *out, size_t room);
 
-/* ---- how full the node is, at a moment: client slots that are held, and requests that are remembered */
+/* ---- how full the node is, at a moment: the client slots that are held, and the requests that are remembered */
 
 size_t bac_held(const bac_node *node, uint64_t now);
 size_t bac_live(const bac_node *node, uint64_t now);
@@ -438,14 +440,14 @@ typedef enum bac_kind {
     BAC_ABORT_REASON = 5
 } bac_kind;
 
-/* Copies the name of a number out, as `present-value`, without a zero at its end: how many octets it has, at most 64; 0 where the standard has no such
- * number. */
+/* Copies the name of a number out, such as `present-value`, without a terminating zero. Returns how many octets it has, at most 64; 0 if the standard has no
+ * such number. */
 size_t bac_name(uint32_t kind, uint32_t number, uint8_t *out, size_t room);
 
-/* The number of the name of an object type or a property; BAC_WHOLE where the standard has none. */
+/* The number of an object type or a property, by its name; BAC_WHOLE if the standard has no such name. */
 uint32_t bac_number(uint32_t kind, const uint8_t *name, size_t name_len);
 
-/* The name, or else the decimal number, with a zero at its end; it is cut off where the room, at least 1, is too small. It returns out. */
+/* The name, otherwise the decimal number, with a terminating zero; it is cut off if the room, at least 1, is too small. Returns out. */
 static inline char *bac_name_text(bac_kind kind, uint32_t number, char *out, size_t room)
 {
     uint8_t name[64];
@@ -579,7 +581,7 @@ static inline bool bac_take_float(const uint8_t *octets, size_t len, float *valu
     return true;
 }
 
-/* Gives the property that was listed last limits, where its value is a Real: as bac_limit. */
+/* Gives the property that was listed last limits, if its value is a Real: as bac_limit. */
 static inline bac_status bac_limit_float(bac_node *node, float least, float greatest)
 {
     uint8_t from[5], to[5];
