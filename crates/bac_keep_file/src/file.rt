@@ -70,7 +70,7 @@ fn options(rt: &HostRuntime) -> Result<Options, OpenFault>
 
 /// Opens the file at a path, or makes it, and makes it whole: a copy of it alone has all that is kept. Returns the database, and whether it is new: the file
 /// was missing, or it had no tables. While it is open no other process can open it. Nothing is kept in a new one. A refused open leaves no file that was not
-/// there.
+/// there, except one that was being made when the disk or memory failed: the next open goes on with that.
 ///
 /// Returns `Locked` if another process has it open; `Damaged` if it is no database, or a damaged one; `LogMissing`, `LogCut`, `LogDamaged` or `FileMissing` if
 /// the file or its log lost some of what was kept, and that is to be refused; `Foreign` if its first table is not that of cells; `CannotOpen` if it can't be
@@ -91,7 +91,7 @@ pub fn open(rt: &HostRuntime, path: &str, loss: Loss) -> Result<(KeptFile, bool)
         Ok((store, true)) => Ok((store, true)),
         Ok((store, false)) => Ok((marked(store)?, false)),
         Err(fault) => {
-            traces.remove(rt, path);
+            traces.remove(rt, path, fault);
             Err(fault)
         }
     }

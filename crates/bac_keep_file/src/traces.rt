@@ -1,4 +1,5 @@
-//! What an open that is refused leaves behind: no file that was not there.
+//! What an open that is refused leaves behind: no file that was not there, but for one that was being made when the disk failed.
+use crate::fault::OpenFault;
 use crate::whole::EMPTY;
 use std::alloc::AllocError;
 use std::fs;
@@ -48,15 +49,21 @@ impl Traces {
         }
     }
 
-    /// Removes what was not there, and has no content: an empty file, and a log without frames.
-    pub(crate) fn remove(self, rt: &HostRuntime, path: &str) {
-        if !self.had_log {
-            if let Ok(log) = log_path(rt, path) {
-                remove_short(rt, log.as_str(), EMPTY as u64);
-            }
-        }
+    /// Removes what was not there before an open that was refused for that fault, and has no content: an empty file, and a log without frames. If the disk or
+    /// memory failed while the file was written, its log stays: the next open goes on with the two, as after a power cut.
+    pub(crate) fn remove(self, rt: &HostRuntime, path: &str, fault: OpenFault) {
         if !self.had_file {
             remove_short(rt, path, 0);
+        }
+        let may_need_log = match fault {
+            OpenFault::Disk | OpenFault::NoMemory | OpenFault::Database(_) => is_there(rt, path),
+            _ => false,
+        };
+        if self.had_log || may_need_log {
+            return;
+        }
+        if let Ok(log) = log_path(rt, path) {
+            remove_short(rt, log.as_str(), EMPTY as u64);
         }
     }
 }
