@@ -65,8 +65,8 @@ pub record Twice : Type 0 where
 abbrev pub ticks_apart : (node : ℕ) → ℕ
 ticks_apart node = if nat_eq node 1 then 9999 else 0
 
--- the same with clocks that go on by ticks: the client's shows its DEADLINE for all but a part of a tick more, and the server's has shown more than KEEP
--- for all but a part of a tick less than that
+-- the same with clocks that go on by ticks: the client's still shows its DEADLINE a part before its next tick, and the server's shows more than KEEP a part
+-- after KEEP has passed
 abbrev pub late_in_tick : (life : ℕ) → List Event
 late_in_tick life = at_once ++ passes 60009999 60009999 60009999 ∷ client_tick ∷ passes life life life ∷ Deliver 2 true ∷ []
 
