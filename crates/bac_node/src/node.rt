@@ -20,7 +20,7 @@ ghost use Rattle.bac_transaction.specs.Ends.{key_of, is_slot_held, is_slot_live,
 ghost use Rattle.bac_transaction.specs.Tables.{AreLive, IsOrderlyClient, IsOrderlyServer};
 ghost use Rattle.bac_transaction.specs.Views.{peer_key_view, rules_view, settings_view};
 ghost use Rattle.bac_protocol.specs.Context.{Settings as Set};
-ghost use Rattle.bac_protocol.specs.Serving.{STRICT};
+ghost use Rattle.bac_transaction.specs.Sharing.{STRICT};
 ghost use Rattle.bac_protocol.specs.Wire.{is_from_client};
 ghost use Rattle.bac_requester.specs.Reactions.{HasNoneOpen};
 ghost use Rattle.bac_requester.specs.Short.{AreRepliesShort};

@@ -215,7 +215,8 @@ impl<S: SlotTable<PeerKey, ServerTransaction> + Drop> Responder<S> {
     ///
     /// A new request is performed, or begins to be received, where a slot is free. A copy of one with a live entry is answered from the entry, and
     /// not performed again. A live entry is never evicted. Where no slot is free, or while the end waits after a restart, a new request is turned
-    /// away, with an Abort of reason 0.
+    /// away, with an Abort of reason 0. So it is where slots are shared and the IP address of the peer has no share: it holds more than 15 live entries
+    /// for each slot that would stay free. A request that ends an entry takes its slot in any case.
     ///
     /// Where reads are performed anew, the entry of a read that came without segments ends with its reply in segments. The SegmentACK that finishes
     /// the reply ends it, and an Abort of its client. Another entry is over once its reply of one APDU was sent, its reply in segments was
