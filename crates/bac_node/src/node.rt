@@ -329,7 +329,7 @@ impl Node {
     /// it and is performed.
     ///
     /// A new request that finds no free slot, or comes while the node waits after a restart, is turned away with an Abort of reason 0; `turned_away` of the outcome
-    /// says so.
+    /// says so. Where slots are shared, so is one of an IP address that has no share: it holds more than 15 live entries for each slot that would stay free.
     ///
     /// The faults are those of `on`. `NoMemory` also where an APDU might make the server's end keep more than `memory` octets of service data. A
     /// request is taken to need room for its own, and for the longest reply and the place of a segment, 65,539 octets. With less than that, only what

@@ -64,7 +64,7 @@ fn is_share(held: usize, free: usize) -> bool
 
 /// Whether the address of a link has a share in the slots: it holds at most 15 live entries for each slot that stays free once one more begins. While fewer than
 /// 15/16 of the slots are in use, no slot is looked at.
-#[tactic(auto, using(crate::proofs::Sharing::surely_shares, crate::proofs::Sharing::shares_as_counted))]
+#[tactic(auto, using(crate::proofs::Shares::surely_shares, crate::proofs::Shares::shares_as_counted))]
 pub(crate) fn has_share<S: SlotTable<PeerKey, ServerTransaction>>(
     aged: &AgedTable<ServerAging, S>,
     now: u64,
