@@ -1,5 +1,5 @@
 -- How many slots an address holds, and whether it has a share, in code and in the end.
-use Rattle.std.proofs.Common.{◌≡◌, ℕ, ◌+◌, ◌-◌, ◌*◌, ◌<◌, ◌≤◌, Bool, true, false, List, [], ◌∷◌, Option, cond, count_by, length, nat_le}
+use Rattle.std.proofs.Common.{◌≡◌, ℕ, ◌+◌, ◌-◌, ◌*◌, ◌<◌, ◌≤◌, Bool, true, false, ◌&&◌, ◌||◌, not, List, [], ◌∷◌, Option, Some, cond, count_by, length, nat_le, slice_get, zero, suc}
 use Rattle.std.proofs.Common.{refl, ap, sym, ◌∙◌, arith}
 use Rattle.std.proofs.lemmas.Bool.Decides.{nat_tests}
 use Rattle.std.proofs.lemmas.List.Sums.{count_by-le-length, sum_by-cons}
@@ -15,6 +15,28 @@ use Rattle.bac_responder.specs.Views.{end_of}
 
 abbrev Slots : Type 0
 Slots = List (Slot PeerKey ServerTransaction)
+
+-- Whether an entry may begin.
+
+pub asked : (share has : Bool) → share ≡ true → has ≡ (not share || (false || has))
+asked true has is = refl
+asked false has is = absurd cc
+
+pub not_asked : (share has : Bool) → share ≡ false → true ≡ (not share || (false || has))
+not_asked true has is = absurd cc
+not_asked false has is = refl
+
+pub in_turn : (begins share free : Bool) → ((begins && free) && share) ≡ (begins && (share && free))
+in_turn false share free = refl
+in_turn true true true = refl
+in_turn true true false = refl
+in_turn true false true = refl
+in_turn true false false = refl
+
+pub slot_there : (n : ℕ) (slots : Slots) → n < length slots → (s : Slot PeerKey ServerTransaction) × (slice_get slots n ≡ Some s)
+slot_there n [] l = absurd (omega (arith, l))
+slot_there zero (s ∷ slots) l = (s, refl)
+slot_there (suc n) (s ∷ slots) l = slot_there n slots (omega (arith, l))
 
 module _ (now : ℕ) (link : List ℕ) where
   held_viewed : (slots : Slots) → count_by (is_held_at now (address_of link)) (slots_view slots) ≡ count_by (is_held now link) slots

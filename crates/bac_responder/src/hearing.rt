@@ -1,11 +1,12 @@
 //! An APDU comes for one transaction, by the rules of its end: its entry goes on, or ends, or none is live. `Responder::on` calls `on_apdu`.
-ghost use Rattle.std.specs.Prelude.{◌≡◌, ◌&&◌, true, false, None};
+ghost use Rattle.std.specs.Prelude.{◌≡◌, ◌&&◌, ◌||◌, not, true, false, None};
 ghost use Rattle.bac_apdu.specs.Views.{apdu_view};
 ghost use Rattle.bac_slots.specs.Slots.{value_at};
 ghost use Rattle.bac_slots.specs.Ages.{IsKnownBy};
 ghost use Rattle.bac_protocol.specs.Server.{is_none_live, live_on_apdu};
 ghost use Rattle.bac_protocol.specs.Serving.{begins_request, ends_entry, entry_left};
-ghost use Rattle.bac_transaction.specs.Sharing.{may_begin};
+ghost use Rattle.bac_transaction.specs.Ends.{is_free};
+ghost use Rattle.bac_transaction.specs.Sharing.{address_of, has_share, may_begin};
 ghost use Rattle.bac_transaction.specs.Views.{code_same_key, context_view, peer_key_view, peer_of, rules_view, settings_view};
 ghost use Rattle.bac_transaction.specs.Services.{service_of};
 ghost use Rattle.bac_responder.specs.Aging.{AreAged};
@@ -81,8 +82,37 @@ impl ServerTransaction {
     }
 }
 
-/// Whether an APDU begins a request, a slot has no live entry, and the end does not wait after a restart. Where slots are shared, the address of the key has to
-/// have a share, too. For any other APDU no entry is looked at.
+/// Whether an APDU begins a request, a slot has no live entry, and the end does not wait after a restart. For any other APDU no entry is looked at.
+fn has_slot<S: SlotTable<PeerKey, ServerTransaction>>(
+    aged: &AgedTable<ServerAging, S>,
+    restart: Option<u64>,
+    now: u64,
+    apdu: &Apdu<'_>,
+) -> bool
+    requires { AreAged aged.now.ages (S.slots aged.now.table) }
+    ensures { result ≡ (begins_request (apdu_view apdu.now) && is_free now (end_of (S.slots aged.now.table) (S.capacity aged.now.table) restart)) }
+{
+    begins_request(apdu) && has_room(aged, now) && !is_waiting(restart, KEEP, now)
+}
+
+/// Whether slots are not shared, or the address of the key has a share.
+#[tactic(auto, using(crate::proofs::Shares::asked, crate::proofs::Shares::not_asked))]
+fn has_share_if_shared<S: SlotTable<PeerKey, ServerTransaction>>(
+    aged: &AgedTable<ServerAging, S>,
+    told: &Told,
+) -> bool
+    ensures { result ≡ (not (rules_view told.now.rules).share || (false || has_share told.now.context.moment (address_of (peer_key_view told.now.context.key).peer.link)
+        (end_of (S.slots aged.now.table) (S.capacity aged.now.table) told.now.restart))) }
+{
+    if told.rules.shares() {
+        has_share(aged, told.context.moment, &told.context.key.peer.link)
+    } else {
+        true
+    }
+}
+
+/// Whether an APDU begins a request that finds a free slot, as `has_slot` says, and where slots are shared, the address of the key has a share.
+#[tactic(auto, using(crate::proofs::Shares::in_turn))]
 fn has_place<S: SlotTable<PeerKey, ServerTransaction>>(
     aged: &AgedTable<ServerAging, S>,
     told: &Told,
@@ -92,11 +122,8 @@ fn has_place<S: SlotTable<PeerKey, ServerTransaction>>(
     ensures { result ≡ (begins_request (apdu_view apdu.now) && may_begin (rules_view told.now.rules).share false told.now.context.moment
         (peer_key_view told.now.context.key) (end_of (S.slots aged.now.table) (S.capacity aged.now.table) told.now.restart)) }
 {
-    let now = told.context.moment;
-    begins_request(apdu)
-        && has_room(aged, now)
-        && !is_waiting(told.restart, KEEP, now)
-        && (!told.rules.shares() || has_share(aged, now, &told.context.key.peer.link))
+    let is_there = has_slot(aged, told.restart, told.context.moment, apdu);
+    is_there && has_share_if_shared(aged, told)
 }
 
 /// Whether an APDU begins a request that finds a place, as `has_place` says. If the entry of its key ends, its own slot becomes free for it.
