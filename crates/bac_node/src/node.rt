@@ -20,7 +20,7 @@ ghost use Rattle.bac_transaction.specs.Ends.{key_of, is_slot_held, is_slot_live,
 ghost use Rattle.bac_transaction.specs.Tables.{AreLive, IsOrderlyClient, IsOrderlyServer};
 ghost use Rattle.bac_transaction.specs.Views.{peer_key_view, rules_view, settings_view};
 ghost use Rattle.bac_protocol.specs.Context.{Settings as Set};
-ghost use Rattle.bac_transaction.specs.Sharing.{STRICT};
+ghost use Rattle.bac_transaction.specs.Sharing.{STRICT, address_of, has_share};
 ghost use Rattle.bac_protocol.specs.Wire.{is_from_client};
 ghost use Rattle.bac_requester.specs.Reactions.{HasNoneOpen};
 ghost use Rattle.bac_requester.specs.Short.{AreRepliesShort};
@@ -254,6 +254,13 @@ impl Node {
         ensures free { result < LAST_MOMENT → count_by (is_slot_live result) self.now.servers.slots < self.now.servers.capacity }
     {
         self.servers.next_free(from)
+    }
+
+    /// Whether the IP address of a link has a share in the slots of its reply table, as `Responder::has_share` says.
+    pub fn has_share(&self, now: u64, link: &LinkAddress) -> bool
+        ensures { result ≡ has_share now (address_of link.now) self.now.servers }
+    {
+        self.servers.has_share(now, link)
     }
 
     /// When the entry of its reply table for a request began, in milliseconds, by the peer that asked and the invoke ID; None where it keeps none for them. Call

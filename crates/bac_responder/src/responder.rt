@@ -14,6 +14,7 @@ ghost use Rattle.bac_transaction.specs.Views.{peer_key_view, rules_view, setting
 ghost use Rattle.bac_responder.specs.Timers.{LAST_MOMENT};
 ghost use Rattle.bac_responder.specs.Short.{AreRequestsShort};
 ghost use Rattle.bac_transaction.specs.Services.{service_of};
+ghost use Rattle.bac_transaction.specs.Sharing.{address_of, has_share};
 ghost use Rattle.bac_responder.specs.Hearing.{Hears};
 ghost use Rattle.bac_responder.specs.Kept.{IsWithin, NeedsRoom, StaysWithin, growth, kept_octets};
 
@@ -26,9 +27,10 @@ use crate::keeping::{
 };
 use crate::moments::{first_end, first_timer};
 use crate::served::Served;
+use crate::sharing::has_share;
 use crate::ticking::{nothing_due, prepare};
 use bac_apdu::Apdu;
-use bac_npdu::Peer;
+use bac_npdu::{LinkAddress, Peer};
 use bac_slots::{
     AgedTable, SlotTable, count_alive, each_slot, empty_table, remove_dead, same_tables, seek, tick,
 };
@@ -126,6 +128,14 @@ impl<S: SlotTable<PeerKey, ServerTransaction> + Drop> Responder<S> {
             return from;
         }
         from.max(first_dead(&self.aged.table))
+    }
+
+    /// Whether the IP address of a link has a share in the slots: it holds at most 15 live entries for each slot that stays free once one more begins. Where slots
+    /// are shared, a new request that finds a free slot is turned away if it has none, unless it ends an entry.
+    pub fn has_share(&self, now: u64, link: &LinkAddress) -> bool
+        ensures { result ≡ has_share now (address_of link.now) self.now }
+    {
+        has_share(&self.aged, now, link)
     }
 
     /// How many slots it was made with.
