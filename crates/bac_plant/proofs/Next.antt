@@ -19,7 +19,7 @@ use Rattle.bac_world.specs.World.{ending_fact, is_away, link_at, peer_at, told, 
 use Rattle.bac_journal.specs.Entering.{AreOfPeer, AreOfPeerSo, CanBeCopied, CanEnterSo, CanGoOnSo, CanLeave, Every, IsNoted, IsOfClient, IsOfStranger}
 use Rattle.bac_journal.proofs.GoingOn.{runs_can_go_on_long, runs_can_go_on_so}
 use Rattle.bac_journal.proofs.Lists.{get_set}
-use Rattle.bac_transaction.specs.Views.{read_rule_view, rules_view}
+use Rattle.bac_transaction.specs.Views.{read_rule_view, rules_view, share_view}
 use Rattle.bac_transaction.specs.declared.rules.Rules.{Rules}
 use Rattle.bac_transaction.specs.declared.rules.ReadRule as rule
 use Rattle.bac_transaction.specs.declared.rules.ReadRule.TheVariants as rule_case
