@@ -122,19 +122,20 @@ fn write_bare<O: Write>(out: &mut O, word: &Word) -> io::Result<()> {
 fn write_case<O: Write>(out: &mut O, grammar: &Grammar) -> io::Result<()> {
     let name = grammar.name;
     write!(out, "            {name})\n                words=\"--help")?;
-    for word in grammar.words {
-        if has_hyphens(word) {
+    for line in grammar.words.lines() {
+        let word = Word::of(line);
+        if has_hyphens(&word) {
             let name = word.name;
             write!(out, " --{name}")?;
         }
     }
     out.writeln("\"")?;
     out.writeln("                case \"$before\" in")?;
-    for word in grammar.words {
-        write_behind(out, word)?;
+    for line in grammar.words.lines() {
+        write_behind(out, &Word::of(line))?;
     }
-    for word in grammar.words {
-        write_bare(out, word)?;
+    for line in grammar.words.lines() {
+        write_bare(out, &Word::of(line))?;
     }
     out.writeln("                esac ;;")
 }

@@ -6,7 +6,7 @@ use crate::unexpected::clearer;
 use crate::words::{Grammar, Need, Word, WordForm};
 use clap::builder::ValueParser;
 use clap::{Arg, ArgAction, ArgGroup, ArgMatches, Command};
-use std::alloc::Global;
+use std::alloc::{AllocError, Global};
 
 /// An argument that has a text behind its name.
 fn text<'a>(arg: Arg<'a>, name: &'a str, value: &'a str) -> Arg<'a> {
@@ -52,9 +52,15 @@ fn needed<'a>(arg: Arg<'a>, need: Need) -> Result<Arg<'a>, clap::Error> {
     }
 }
 
+/// The words of a text with spaces between.
+fn words_in(alloc: Global, text: &'static str) -> Result<Vec<&'static str>, AllocError> {
+    text.split_whitespace().collect(alloc)
+}
+
 fn argument<'a>(alloc: Global, word: &Word) -> Result<Arg<'a>, clap::Error> {
+    let against = words_in(alloc, word.against)?;
     let arg = Arg::new(alloc, word.name).help(word.help);
-    let arg = arg.conflicts_with_all(word.against)?;
+    let arg = arg.conflicts_with_all(&against)?;
     needed(formed(arg, word.name, word.form), word.need)
 }
 
@@ -74,16 +80,18 @@ fn grouped<'a>(
     let Need::One(names) = need else {
         return Ok(command);
     };
+    let names = words_in(alloc, names)?;
     let group = ArgGroup::new(alloc, "the node");
-    let group = group.args(names)?.multiple(true).required(true);
+    let group = group.args(&names)?.multiple(true).required(true);
     Ok(command.group(group)?)
 }
 
 /// A command with its words.
 pub(crate) fn command_of<'a>(alloc: Global, grammar: &Grammar) -> Result<Command<'a>, clap::Error> {
     let mut command = titled(alloc, grammar);
-    for word in grammar.words {
-        command = command.arg(argument(alloc, word)?)?;
+    for line in grammar.words.lines() {
+        let word = Word::of(line);
+        command = command.arg(argument(alloc, &word)?)?;
         command = grouped(alloc, command, word.need)?;
     }
     Ok(command)

@@ -46,7 +46,7 @@ What reads the output has ended.
 /// Writes a word and what it means.
 fn write_word<O: Write>(out: &mut O, word: &Word) -> io::Result<()> {
     out.write_all(b".TP\n.B ")?;
-    write_form(out, "\\-\\-", word)?;
+    write_form(out, FILLED, word)?;
     out.write_all(b"\n")?;
     write_wrapped(out, FILLED, 0, word.help)
 }
@@ -56,8 +56,8 @@ fn write_command<O: Write>(out: &mut O, grammar: &Grammar) -> io::Result<()> {
     let name = grammar.name;
     writeln!(out, ".SS bac {name}")?;
     write_wrapped(out, FILLED, 0, grammar.about)?;
-    for word in grammar.words {
-        write_word(out, word)?;
+    for line in grammar.words.lines() {
+        write_word(out, &Word::of(line))?;
     }
     out.write_all(b".PP\n.nf\n")?;
     write_lines(out, SHOWN, grammar.after)?;

@@ -62,8 +62,9 @@ complete -c bac -n __fish_use_subcommand -f
 fn write_zsh_case<O: Write>(out: &mut O, grammar: &Grammar) -> io::Result<()> {
     let name = grammar.name;
     write!(out, "            {name}) compadd -- --help")?;
-    for word in grammar.words {
-        if has_hyphens(word) {
+    for line in grammar.words.lines() {
+        let word = Word::of(line);
+        if has_hyphens(&word) {
             let name = word.name;
             write!(out, " --{name}")?;
         }
@@ -111,14 +112,15 @@ fn write_fish_text<O: Write>(out: &mut O, word: &Word) -> io::Result<()> {
 fn write_fish_command<O: Write>(out: &mut O, grammar: &Grammar) -> io::Result<()> {
     let command = grammar.name;
     writeln!(out, "complete -c bac -n __fish_use_subcommand -a {command}")?;
-    for word in grammar.words {
-        if has_hyphens(word) {
+    for line in grammar.words.lines() {
+        let word = Word::of(line);
+        if has_hyphens(&word) {
             let name = word.name;
             write!(
                 out,
                 "complete -c bac -n '__fish_seen_subcommand_from {command}' -l {name}"
             )?;
-            write_fish_text(out, word)?;
+            write_fish_text(out, &word)?;
         }
     }
     Ok(())
