@@ -1,8 +1,7 @@
 //! What `backup` and `restore` take.
-use crate::words::Grammar;
 
 /// What `backup` takes.
-const BACKUP: &str = "\
+pub(crate) const BACKUP: &str = "\
 port|number P 65535|never||The UDP port of the node to ask, on 127.0.0.1; 1 to 65535, 47808 by default
 to|text A.B.C.D[:P]|never|port|The IPv4 address of the node to ask, and its UDP port, 47808 by default; without it, a node at 127.0.0.1
 route|text NET:MAC|never||The node to ask is behind the router at that address: its network number, 1 to 65534, and its address there, 1 to 8 octets in hexadecimal
@@ -12,30 +11,9 @@ device|index N 4194302|never|OBJECTS|Saves all files in the object-list of the d
 OBJECTS|several|never||The files to save, such as file:1, each by type and instance; by default all files in the device's object-list";
 
 /// What `restore` takes.
-const RESTORE: &str = "\
+pub(crate) const RESTORE: &str = "\
 port|number P 65535|never||The UDP port of the node to ask, on 127.0.0.1; 1 to 65535, 47808 by default
 to|text A.B.C.D[:P]|never|port|The IPv4 address of the node to ask, and its UDP port, 47808 by default; without it, a node at 127.0.0.1
 route|text NET:MAC|never||The node to ask is behind the router at that address: its network number, 1 to 65534, and its address there, 1 to 8 octets in hexadecimal
 timeout|number S 60|never||Stops waiting for an answer after S whole seconds, 1 to 60; a request ends by itself after at most 60 seconds
 folder|text DIR|always||The folder that `bac backup` created; the files that its `manifest` lists are written back";
-
-/// The commands that keep whole files of a device in a folder.
-const BACKUPS: &[Grammar] = &[
-    Grammar {
-        name: "backup",
-        about: "Saves files of a device in a folder, with their digests",
-        after: "Example: bac backup --device 100 --folder saved\nExample: bac backup --to 192.168.1.20 --folder saved file:1 file:2",
-        words: BACKUP,
-    },
-    Grammar {
-        name: "restore",
-        about: "Restores files that `bac backup` saved, reads them back from the device, and compares their digests",
-        after: "Example: bac restore --folder saved\nExample: bac restore --to 192.168.1.20 --folder saved",
-        words: RESTORE,
-    },
-];
-
-/// Those commands.
-pub(crate) fn backups() -> &'static [Grammar] {
-    BACKUPS
-}

@@ -1,6 +1,5 @@
 //! Command lines, read by the table of commands.
-use crate::backup_words::backups;
-use crate::help_words::{about, of_clients, of_servers, offline};
+use crate::help_words::{about, others};
 use crate::people_words::people;
 use crate::unexpected::clearer;
 use crate::words::{Grammar, Need, Word, WordForm};
@@ -119,29 +118,14 @@ fn with_people<'a>(alloc: Global) -> Result<Command<'a>, clap::Error> {
     with_commands(alloc, bac, people())
 }
 
-/// The program with those and the commands that need no link.
-fn with_offline<'a>(alloc: Global) -> Result<Command<'a>, clap::Error> {
-    with_commands(alloc, with_people(alloc)?, offline())
-}
-
-/// The program with those and the commands of servers.
-fn with_servers<'a>(alloc: Global) -> Result<Command<'a>, clap::Error> {
-    with_commands(alloc, with_offline(alloc)?, of_servers())
-}
-
-/// The program with those and the commands that ask.
-fn with_clients<'a>(alloc: Global) -> Result<Command<'a>, clap::Error> {
-    with_commands(alloc, with_servers(alloc)?, of_clients())
-}
-
-/// The program with those, and the commands that keep whole files.
-fn with_backups<'a>(alloc: Global) -> Result<Command<'a>, clap::Error> {
-    with_commands(alloc, with_clients(alloc)?, backups())
+/// The program with those and the others that do what it is for.
+fn with_others<'a>(alloc: Global) -> Result<Command<'a>, clap::Error> {
+    with_commands(alloc, with_people(alloc)?, others())
 }
 
 /// The program with all of its commands: a table a function.
 fn commands<'a>(alloc: Global) -> Result<Command<'a>, clap::Error> {
-    with_commands(alloc, with_backups(alloc)?, about())
+    with_commands(alloc, with_others(alloc)?, about())
 }
 
 /// The error, or a clearer one in its place where one word was meant to be another.

@@ -2,9 +2,8 @@
 ghost use Rattle.std.specs.Prelude.{◌≡◌, false, IfOk};
 ghost use Rattle.std.specs.Io.KnownBytes.{Keeps};
 
-use crate::backup_words::backups;
 use crate::completion::has_hyphens;
-use crate::help_words::{about, command_named, more_example, of_clients, of_servers, offline};
+use crate::help_words::{about, command_named, more_example, others};
 use crate::manual::write_manual;
 use crate::people_words::people;
 use crate::shells::{Shell, write_script};
@@ -128,10 +127,7 @@ fn write_all_commands<O: Write>(out: &mut O) -> io::Result<()> {
     out.writeln("BACnet confirmed services: bac COMMAND ARGUMENTS..\n\nFor people:")?;
     write_names(out, people())?;
     out.writeln("\nOther commands:")?;
-    write_names(out, offline())?;
-    write_names(out, of_servers())?;
-    write_names(out, of_clients())?;
-    write_names(out, backups())?;
+    write_names(out, others())?;
     write_names(out, about())?;
     out.write_all(b"\n")?;
     out.writeln("Example: bac help serve")?;

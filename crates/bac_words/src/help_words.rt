@@ -1,7 +1,6 @@
 //! The commands that tell of the program itself, and more examples for help.
-use crate::backup_words::backups;
 use crate::people_words::people;
-use crate::words::{ASKING, Grammar, OFFLINE, SERVING};
+use crate::words::{Grammar, OTHERS};
 
 /// What `help` takes.
 const HELP: &str = "\
@@ -48,19 +47,9 @@ pub(crate) fn more_example(name: &str) -> Option<&'static str> {
     }
 }
 
-/// The commands that need no link. The prover writes out the tables that a function names, so only these functions name them.
-pub(crate) fn offline() -> &'static [Grammar] {
-    OFFLINE
-}
-
-/// The commands of servers.
-pub(crate) fn of_servers() -> &'static [Grammar] {
-    SERVING
-}
-
-/// The commands that ask.
-pub(crate) fn of_clients() -> &'static [Grammar] {
-    ASKING
+/// The commands that are neither for people nor tell of the program. The prover writes out the table that a function names, so only this function names it.
+pub(crate) fn others() -> &'static [Grammar] {
+    OTHERS
 }
 
 /// The commands that tell of the program.
@@ -78,16 +67,7 @@ pub(crate) fn command_named(name: &str) -> Option<&'static Grammar> {
     if let Some(found) = among(name, people()) {
         return Some(found);
     }
-    if let Some(found) = among(name, offline()) {
-        return Some(found);
-    }
-    if let Some(found) = among(name, of_servers()) {
-        return Some(found);
-    }
-    if let Some(found) = among(name, of_clients()) {
-        return Some(found);
-    }
-    if let Some(found) = among(name, backups()) {
+    if let Some(found) = among(name, others()) {
         return Some(found);
     }
     among(name, about())

@@ -1,7 +1,6 @@
 //! The page of the manual.
-use crate::backup_words::backups;
 use crate::help::write_form;
-use crate::help_words::{about, more_example, of_clients, of_servers, offline};
+use crate::help_words::{about, more_example, others};
 use crate::people_words::people;
 use crate::words::{Grammar, Word};
 use crate::wrapping::{FILLED, SHOWN, write_lines, write_wrapped};
@@ -79,10 +78,7 @@ fn write_commands<O: Write>(out: &mut O, grammars: &[Grammar]) -> io::Result<()>
 pub(crate) fn write_manual<O: Write>(out: &mut O) -> io::Result<()> {
     out.write_all(HEAD.as_bytes())?;
     write_commands(out, people())?;
-    write_commands(out, offline())?;
-    write_commands(out, of_servers())?;
-    write_commands(out, of_clients())?;
-    write_commands(out, backups())?;
+    write_commands(out, others())?;
     write_commands(out, about())?;
     out.write_all(TAIL.as_bytes())
 }

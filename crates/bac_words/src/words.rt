@@ -4,6 +4,7 @@
 //! FORM is `bare`, `several`, `flag`, `one-of` (one of those that [`names_of`] has for NAME), `text VALUE`, `number VALUE MOST` (from 1), `index VALUE MOST` (from 0)
 //! or `choice VALUE` (one of those names); VALUE is what help calls the text behind the name. NEED is `always`, `never`, `unless WORD`, `beside WORD` or, at the first of
 //! words of which one is required, `one WORD..`. AGAINST is the words that it conflicts with, with spaces between.
+use crate::backup_words::{BACKUP, RESTORE};
 use crate::capture_words::{
     CHECK, CHECK_EXAMPLES, DECODE, DECODE_EXAMPLES, EXPLAIN, EXPLAIN_EXAMPLES,
 };
@@ -272,8 +273,8 @@ every|text S|never||Repeats the requests in rounds: each begins S seconds, 0.001
 times|number N 1000000000|beside every||The number of rounds, 1 to 1000000000; by default it goes on until you stop it
 WORDS|several|unless lines||The request: `read T:I P`, `write T:I P VALUE..`, `append T:I HEX`, `put T:I POS HEX` or `get T:I POS COUNT`; for a whole file `get T:I` or `put T:I @FILE`";
 
-/// The commands that need no link, in the order in which help lists them.
-pub(crate) const OFFLINE: &[Grammar] = &[
+/// The commands that are neither for people nor tell of the program, in the order in which help lists them.
+pub(crate) const OTHERS: &[Grammar] = &[
     Grammar {
         name: "answer",
         about: "Prints what a server sends back for a datagram, one datagram per line, or `none`",
@@ -304,10 +305,6 @@ pub(crate) const OFFLINE: &[Grammar] = &[
         after: SIMULATE_EXAMPLES,
         words: SIMULATE,
     },
-];
-
-/// The commands of servers, which help lists after those.
-pub(crate) const SERVING: &[Grammar] = &[
     Grammar {
         name: "serve",
         about: "Serves a device over UDP, and prints how many requests it performed",
@@ -320,10 +317,6 @@ pub(crate) const SERVING: &[Grammar] = &[
         after: KEEP_EXAMPLES,
         words: KEEP,
     },
-];
-
-/// The commands of clients, which help lists next.
-pub(crate) const ASKING: &[Grammar] = &[
     Grammar {
         name: "ask",
         about: "Sends a request to a node, and prints how it ended",
@@ -335,5 +328,17 @@ pub(crate) const ASKING: &[Grammar] = &[
         about: "Runs two nodes on free UDP ports: one appends AABBCC to a file of the other, and then reads a value",
         after: "Example: bac pair",
         words: "",
+    },
+    Grammar {
+        name: "backup",
+        about: "Saves files of a device in a folder, with their digests",
+        after: "Example: bac backup --device 100 --folder saved\nExample: bac backup --to 192.168.1.20 --folder saved file:1 file:2",
+        words: BACKUP,
+    },
+    Grammar {
+        name: "restore",
+        about: "Restores files that `bac backup` saved, reads them back from the device, and compares their digests",
+        after: "Example: bac restore --folder saved\nExample: bac restore --to 192.168.1.20 --folder saved",
+        words: RESTORE,
     },
 ];
