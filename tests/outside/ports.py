@@ -40,6 +40,9 @@ class Device:
     def hear(self):
         while True:
             octets, (_, port) = self.socket.recvfrom(2048)
+            if len(octets) < 9 or octets[6] >> 4 != 0:
+                # no request: forger.py beside this one, say, sends answers to every port
+                continue
             self.asked[port].append((time.monotonic(), octets[8]))
             if not self.is_silent:
                 error = bytes([0x81, 0x0A, 0, 13, 1, 0, 0x50, octets[8], 12, 0x91, 1, 0x91, 31])

@@ -14,6 +14,7 @@ sys.dont_write_bytecode = True  # no __pycache__ beside the sources
 
 import bisect
 import random
+import re
 import subprocess
 import tempfile
 import time
@@ -27,6 +28,7 @@ from processes import ask
 
 WAYS = ['all', 'none', 'some', 'some', 'some']
 WORKERS = 4
+STARTS = re.compile(r'(serving from 65\d{3}\n)?')  # a busy machine opens the file some milliseconds later
 WAITS = 66  # seconds until a server that starts again has waited
 SECTOR, PAGE = 512, 4096
 MOST_OCTETS = 1 << 14  # a longer write is not torn octet by octet
@@ -152,7 +154,7 @@ def fault_of(program, run, wanted, image, folder):
         if octets is not None:
             Path(name).write_bytes(octets)
     status, said = opened_once(program, path, ('--objects', run.objects))
-    if status != 0 or said not in ('', 'serving from 65001\n'):
+    if status != 0 or not STARTS.fullmatch(said):
         return f'status {status}, {said!r}', None
     lines = kept_lines(program, path)
     found = [count for count in wanted if run.states[count].lines() == lines]
