@@ -53,7 +53,7 @@ pub(crate) fn is_full_to(shares: bool, turn: &Turn, node: &Node) -> bool
 {
     match turn.received {
         None => is_full(turn.at, node),
-        Some((link, _)) => is_full_for(shares, turn.at, &link, node),
+        Some(datagram) => is_full_for(shares, turn.at, &datagram.0, node),
     }
 }
 
