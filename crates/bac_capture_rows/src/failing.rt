@@ -1,7 +1,7 @@
 //! Rows of inputs that fail in the middle of a capture file, and of outputs that fail.
 use crate::printing::{Print, print_end, print_over, status_of};
-use crate::words::{first, number, octets_of};
-use std::alloc::Global;
+use crate::words::octets;
+use bac_rows::row::Row;
 use std::io;
 use std::io::{BufReader, ErrorKind, Read};
 
@@ -25,36 +25,41 @@ impl Read for Broken<'_> {
 }
 
 /// How an input fails.
-fn fault_of(word: &str) -> Option<ErrorKind> {
-    match word.as_bytes() {
-        b"denied" => Some(ErrorKind::PermissionDenied),
-        b"memory" => Some(ErrorKind::OutOfMemory),
-        _ => None,
+const FAULTS: &[(&str, ErrorKind)] = &[
+    ("denied", ErrorKind::PermissionDenied),
+    ("memory", ErrorKind::OutOfMemory),
+];
+
+fn print_broken(left: &[u8], fault: ErrorKind, row: &mut Row<'_>) {
+    match BufReader::new(row.alloc, Broken { left, fault }) {
+        Ok(mut input) => print_over(Print::Check, &mut input, row),
+        Err(_) => row.fail(),
     }
 }
 
-fn print_broken(alloc: Global, left: &[u8], fault: ErrorKind, out: &mut Vec<u8>) -> Option<()> {
-    let Ok(mut input) = BufReader::new(alloc, Broken { left, fault }) else {
-        return None;
-    };
-    print_over(alloc, Print::Check, &mut input, out)
+/// `FAULT HEX`: a file that gives these octets, and then fails so.
+pub(crate) fn input(row: &mut Row<'_>) {
+    match row.one_of(FAULTS) {
+        Some(fault) => print_broken(&octets(row), fault, row),
+        None => row.fail(),
+    }
 }
 
-/// `FAULT HEX`: a file that gives these octets, and then fails so.
-pub(crate) fn input(alloc: Global, words: &str, out: &mut Vec<u8>) -> Option<()> {
-    let (fault, digits) = first(words);
-    let fault = fault_of(fault)?;
-    print_broken(alloc, &octets_of(alloc, digits)?, fault, out)
+/// Prints how a file ends whose output has that room.
+fn print_short(print: Print, file: &[u8], mut room: &mut [u8], row: &mut Row<'_>) {
+    let mut input = file;
+    let mut err = Vec::new(row.alloc);
+    let code = status_of(row.alloc, print, &mut input, &mut room, &mut err);
+    print_end(code, &err, row);
 }
 
 /// `ROOM HEX`: an output that has room for so many octets, of 40 at most, without other functions by name or with them.
-pub(crate) fn output(alloc: Global, print: Print, words: &str, out: &mut Vec<u8>) -> Option<()> {
-    let (room, digits) = first(words);
-    let octets = octets_of(alloc, digits)?;
-    let mut input = octets.as_slice();
+pub(crate) fn output(print: Print, row: &mut Row<'_>) {
+    let room = row.number() as usize;
+    let file = octets(row);
     let mut room_for = [0u8; 40];
-    let mut short = room_for.get_mut(..number(room)? as usize)?;
-    let mut err = Vec::new(alloc);
-    let code = status_of(alloc, print, &mut input, &mut short, &mut err);
-    print_end(code, &err, out)
+    match room_for.get_mut(..room) {
+        Some(short) => print_short(print, &file, short, row),
+        None => row.fail(),
+    }
 }

@@ -1,10 +1,11 @@
 //! What is printed of capture files.
 use crate::seen::file_of;
-use crate::words::octets_of;
+use crate::words::octets;
 use bac_capture::{Ports, check_capture_over};
 use bac_explain_html::explain_html_over;
 use bac_explain_json::explain_json_over;
 use bac_explain_report::{ChartFormat, ChartOptions, ReportOptions, chart_over, explain_over};
+use bac_rows::row::Row;
 use std::alloc::Global;
 use std::io::{BufRead, BufReader, Write};
 
@@ -83,75 +84,74 @@ pub(crate) fn status_of<R: BufRead, O: Write>(
 }
 
 /// Prints what was complained of, and the status.
-pub(crate) fn print_end(code: u8, err: &[u8], out: &mut Vec<u8>) -> Option<()> {
+pub(crate) fn print_end(code: u8, err: &[u8], row: &mut Row<'_>) {
     if !err.is_empty() {
-        out.write_all(b"! ").ok()?;
-        out.write_all(err).ok()?;
+        row.say("! ");
+        row.put_all(err);
     }
     if code != 0 {
-        writeln!(out, "status {code}").ok()?;
+        row.tell("status #\n", &[u64::from(code)]);
     }
-    Some(())
 }
 
 /// Prints an input, and how it ends.
-pub(crate) fn print_over<R: BufRead>(
-    alloc: Global,
-    print: Print,
-    input: &mut R,
-    out: &mut Vec<u8>,
-) -> Option<()> {
-    let mut err = Vec::new(alloc);
-    let code = status_of(alloc, print, input, out, &mut err);
-    print_end(code, &err, out)
+pub(crate) fn print_over<R: BufRead>(print: Print, input: &mut R, row: &mut Row<'_>) {
+    let mut err = Vec::new(row.alloc);
+    let code = status_of(row.alloc, print, input, &mut row.told, &mut err);
+    print_end(code, &err, row);
 }
 
-/// What is printed of a file whose reader has that many octets at hand at a time.
-fn printed_by(alloc: Global, print: Print, file: &[u8], at_hand: usize) -> Option<Vec<u8>> {
-    let Ok(mut input) = BufReader::with_capacity(alloc, at_hand, file) else {
-        return None;
-    };
-    let mut out = Vec::new(alloc);
-    print_over(alloc, print, &mut input, &mut out)?;
-    Some(out)
+/// Prints a file whose reader has that many octets at hand at a time.
+fn print_by(print: Print, file: &[u8], at_hand: usize, row: &mut Row<'_>) {
+    match BufReader::with_capacity(row.alloc, at_hand, file) {
+        Ok(mut input) => print_over(print, &mut input, row),
+        Err(_) => row.fail(),
+    }
+}
+
+/// Notes whether something else is printed of a file than what was.
+fn compare(print: Print, file: &[u8], at_hand: usize, told: &[u8], row: &mut Row<'_>) {
+    let mut other = Row::new(row.alloc, "");
+    print_by(print, file, at_hand, &mut other);
+    row.needs(!other.has_failed);
+    if other.told.as_slice() != told {
+        row.say("otherwise by few octets\n");
+    }
 }
 
 /// Prints a file, and whether something else is printed where its reader has few octets at hand.
-fn print_file(alloc: Global, print: Print, file: &[u8], out: &mut Vec<u8>) -> Option<()> {
-    let told = printed_by(alloc, print, file, 8_192)?;
-    out.write_all(&told).ok()?;
-    if printed_by(alloc, print, file, 1)? != told || printed_by(alloc, print, file, 7)? != told {
-        out.write_all(b"otherwise by few octets\n").ok()?;
-    }
-    Some(())
+fn print_file(print: Print, file: &[u8], row: &mut Row<'_>) {
+    let mut told = Row::new(row.alloc, "");
+    print_by(print, file, 8_192, &mut told);
+    row.take(&told);
+    compare(print, file, 1, &told.told, row);
+    compare(print, file, 7, &told.told, row);
 }
 
 /// Prints a file of hexadecimal digits.
-pub(crate) fn print_octets(
-    alloc: Global,
-    print: Print,
-    digits: &str,
-    out: &mut Vec<u8>,
-) -> Option<()> {
-    print_file(alloc, print, &octets_of(alloc, digits)?, out)
+pub(crate) fn print_octets(print: Print, row: &mut Row<'_>) {
+    let file = octets(row);
+    print_file(print, &file, row);
 }
 
 /// Prints a file of datagrams.
-pub(crate) fn print_seen(
-    alloc: Global,
-    print: Print,
-    lines: &str,
-    out: &mut Vec<u8>,
-) -> Option<()> {
-    print_file(alloc, print, &file_of(alloc, lines)?, out)
+pub(crate) fn print_seen(print: Print, row: &mut Row<'_>) {
+    let file = file_of(row);
+    print_file(print, &file, row);
 }
 
 /// Prints how a chart of a file of datagrams ends, and not the chart.
-pub(crate) fn print_end_of_chart(alloc: Global, lines: &str, out: &mut Vec<u8>) -> Option<()> {
-    let file = file_of(alloc, lines)?;
+pub(crate) fn print_end_of_chart(row: &mut Row<'_>) {
+    let file = file_of(row);
+    let mut drawn = Row::new(row.alloc, "");
+    let mut err = Vec::new(row.alloc);
     let mut input = file.as_slice();
-    let mut drawn = Vec::new(alloc);
-    let mut err = Vec::new(alloc);
-    let code = status_of(alloc, Print::Chart(CHART), &mut input, &mut drawn, &mut err);
-    print_end(code, &err, out)
+    let code = status_of(
+        row.alloc,
+        Print::Chart(CHART),
+        &mut input,
+        &mut drawn.told,
+        &mut err,
+    );
+    print_end(code, &err, row);
 }

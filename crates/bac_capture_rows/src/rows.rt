@@ -4,11 +4,12 @@ use crate::printing::{
     print_octets, print_seen,
 };
 use crate::selected::{ALL, closed, options_of};
-use crate::words::first;
 use crate::{failing, frames, transactions, worlds};
+use bac_explain_report::ReportOptions;
+use bac_rows::row::Row;
 use std::alloc::Global;
 use std::io;
-use std::io::Write;
+use std::io::{ErrorKind, Write};
 
 /// What plays a row.
 #[derive(Clone, Copy)]
@@ -60,65 +61,60 @@ const KINDS: &[(&str, Kind)] = &[
     ("named-output", Kind::Output(Print::Named)),
 ];
 
-fn kind_of(word: &str) -> Option<Kind> {
-    for (name, kind) in KINDS {
-        if *name == word {
-            return Some(*kind);
-        }
-    }
-    None
+/// Reads a line of options; the lines behind it are left.
+fn options_in(row: &mut Row<'_>) -> ReportOptions {
+    let (options, lines) = row.words.split_once('\n').unwrap_or((row.words, ""));
+    row.words = options;
+    let options = options_of(row);
+    row.words = lines;
+    options
 }
 
-fn play_lines(alloc: Global, kind: Kind, lines: &str, out: &mut Vec<u8>) -> Option<()> {
+/// Plays the lines of a row.
+fn play_lines(kind: Kind, row: &mut Row<'_>) {
     match kind {
-        Kind::Frames => frames::play(alloc, lines, out),
-        Kind::Transaction => transactions::play(alloc, lines, out),
-        Kind::Worlds => worlds::play(alloc, lines, out),
-        Kind::Seen(print) => print_seen(alloc, print, lines, out),
-        Kind::Selected => {
-            let (options, lines) = lines.split_once('\n')?;
-            print_seen(alloc, Print::Explain(options_of(options)?), lines, out)
-        }
-        Kind::SelectedJson => {
-            let (options, lines) = lines.split_once('\n')?;
-            print_seen(
-                alloc,
-                Print::ExplainJson(closed(options_of(options)?)),
-                lines,
-                out,
-            )
-        }
-        Kind::SelectedHtml => {
-            let (options, lines) = lines.split_once('\n')?;
-            print_seen(
-                alloc,
-                Print::ExplainHtml(closed(options_of(options)?)),
-                lines,
-                out,
-            )
-        }
-        Kind::File(print) => print_octets(alloc, print, lines, out),
-        Kind::End => print_end_of_chart(alloc, lines, out),
-        Kind::Input => failing::input(alloc, lines, out),
-        Kind::Output(print) => failing::output(alloc, print, lines, out),
+        Kind::Frames => frames::play(row),
+        Kind::Transaction => transactions::play(row),
+        Kind::Worlds => worlds::play(row),
+        Kind::Seen(print) => print_seen(print, row),
+        Kind::Selected => print_seen(Print::Explain(options_in(row)), row),
+        Kind::SelectedJson => print_seen(Print::ExplainJson(closed(options_in(row))), row),
+        Kind::SelectedHtml => print_seen(Print::ExplainHtml(closed(options_in(row))), row),
+        Kind::File(print) => print_octets(print, row),
+        Kind::End => print_end_of_chart(row),
+        Kind::Input => failing::input(row),
+        Kind::Output(print) => failing::output(print, row),
+    }
+}
+
+/// Plays a row of a kind; `?` where a line has no meaning.
+fn play_kind(kind: Kind, lines: &str, out: &mut Row<'_>) {
+    let mut row = Row::new(out.alloc, lines);
+    play_lines(kind, &mut row);
+    out.put_all(&row.told);
+    if row.has_failed {
+        out.say("?\n");
     }
 }
 
 /// A row's title and its lines; the title's first word says what plays it.
-fn play(alloc: Global, row: &str, out: &mut Vec<u8>) -> Option<()> {
-    let row = row.trim_end_matches('\n');
-    let (title, lines) = row.split_once('\n').unwrap_or((row, ""));
-    writeln!(out, "\n={title}").ok()?;
-    play_lines(alloc, kind_of(first(title).0)?, lines, out)
+fn play(text: &str, out: &mut Row<'_>) {
+    let (title, lines) = text.split_once('\n').unwrap_or((text, ""));
+    out.tell_texts("\n=#\n", &[title]);
+    match Row::new(out.alloc, title).one_of(KINDS) {
+        Some(kind) => play_kind(kind, lines, out),
+        None => out.say("?\n"),
+    }
 }
 
 /// Plays each row of a text, and prints what comes of it. An Err is out of memory.
 pub fn play_all(alloc: Global, text: &str, out: &mut Vec<u8>) -> io::Result<()> {
-    let rows = text.strip_prefix('=').unwrap_or(text);
-    for row in rows.split("\n=") {
-        if play(alloc, row, out).is_none() {
-            out.write_all(b"?\n")?;
-        }
+    let mut told = Row::new(alloc, text);
+    for row in text.strip_prefix('=').unwrap_or(text).split("\n=") {
+        play(row.trim_end_matches('\n'), &mut told);
     }
-    Ok(())
+    if told.has_failed {
+        return Err(io::Error::from(ErrorKind::OutOfMemory));
+    }
+    out.write_all(&told.told)
 }

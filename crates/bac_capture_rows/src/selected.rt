@@ -1,6 +1,6 @@
 //! The line of options of a row: `unanswered`, `errors`, `repeated`, `findings`, `slower MS`, `peer HOST` or `peer HOST:PORT`, where HOST is the number of a host, `fail`, `frames` and `strict-ids`.
-use crate::words::{first, number};
 use bac_explain_report::{PeerFilter, ReportOptions, Selection};
+use bac_rows::row::Row;
 
 /// No option.
 pub(crate) const ALL: ReportOptions = ReportOptions {
@@ -20,92 +20,67 @@ pub(crate) fn closed(options: ReportOptions) -> ReportOptions {
     }
 }
 
-/// The address of the host of a number, and a port or any.
-fn filter_of(word: &str) -> Option<PeerFilter> {
-    let (host, port) = match word.split_once(':') {
-        Some((host, port)) => (host, Some(port.parse::<u16>().ok()?)),
-        None => (word, None),
-    };
-    let host = [10, 0, 0, host.parse::<u8>().ok()?];
-    Some(PeerFilter { host, port })
-}
-
-/// A selection with the filter of this name too, if that is one with no value behind it.
-fn with_flag(selection: Selection, name: &str) -> Option<Selection> {
-    match name {
-        "unanswered" => Some(Selection {
-            unanswered: true,
-            ..selection
-        }),
-        "errors" => Some(Selection {
-            errors: true,
-            ..selection
-        }),
-        "repeated" => Some(Selection {
-            repeated: true,
-            ..selection
-        }),
-        "findings" => Some(Selection {
-            findings: true,
-            ..selection
-        }),
-        _ => None,
+/// Reads the address of the host of a number, and a port or any.
+fn filter_of(row: &mut Row<'_>) -> PeerFilter {
+    let word = row.word();
+    let (host, digits) = word.split_once(':').unwrap_or((word, ""));
+    let host = (row.number_of(host) % 256) as u8;
+    PeerFilter {
+        host: [10, 0, 0, host],
+        port: digits.parse::<u16>().ok(),
     }
 }
 
-/// A selection with the option of this name too, and what follows that.
-fn with_filter<'a>(
-    selection: Selection,
-    name: &str,
-    rest: &'a str,
-) -> Option<(Selection, &'a str)> {
-    match name {
-        "slower" => {
-            let (limit, rest) = first(rest);
-            let slower = Some(number(limit)?);
-            Some((
-                Selection {
-                    slower,
-                    ..selection
-                },
-                rest,
-            ))
-        }
-        "peer" => {
-            let (peer, rest) = first(rest);
-            let peer = Some(filter_of(peer)?);
-            Some((Selection { peer, ..selection }, rest))
-        }
-        _ => Some((with_flag(selection, name)?, rest)),
+/// An option by its name.
+#[derive(Clone, Copy)]
+enum Name {
+    Unanswered,
+    Errors,
+    Repeated,
+    Findings,
+    Slower,
+    Peer,
+    Fail,
+    Frames,
+    StrictIds,
+}
+
+const NAMES: &[(&str, Name)] = &[
+    ("unanswered", Name::Unanswered),
+    ("errors", Name::Errors),
+    ("repeated", Name::Repeated),
+    ("findings", Name::Findings),
+    ("slower", Name::Slower),
+    ("peer", Name::Peer),
+    ("fail", Name::Fail),
+    ("frames", Name::Frames),
+    ("strict-ids", Name::StrictIds),
+];
+
+/// Reads an option.
+fn put_option(options: &mut ReportOptions, row: &mut Row<'_>) {
+    match row.one_of(NAMES) {
+        Some(Name::Unanswered) => options.selection.unanswered = true,
+        Some(Name::Errors) => options.selection.errors = true,
+        Some(Name::Repeated) => options.selection.repeated = true,
+        Some(Name::Findings) => options.selection.findings = true,
+        Some(Name::Slower) => options.selection.slower = Some(row.number()),
+        Some(Name::Peer) => options.selection.peer = Some(filter_of(row)),
+        Some(Name::Fail) => options.strict = true,
+        Some(Name::Frames) => options.frames = true,
+        Some(Name::StrictIds) => options.strict_ids = true,
+        None => row.fail(),
     }
 }
 
-/// The options of a line: at most nine.
-pub(crate) fn options_of(line: &str) -> Option<ReportOptions> {
+/// Reads the options of a line: at most nine.
+pub(crate) fn options_of(row: &mut Row<'_>) -> ReportOptions {
     let mut options = ALL;
-    let mut rest = line;
     for _ in 0..9 {
-        let (name, more) = first(rest);
-        match name {
-            "" => return Some(options),
-            "fail" => {
-                options.strict = true;
-                rest = more;
-            }
-            "frames" => {
-                options.frames = true;
-                rest = more;
-            }
-            "strict-ids" => {
-                options.strict_ids = true;
-                rest = more;
-            }
-            _ => {
-                let (selection, more) = with_filter(options.selection, name, more)?;
-                options.selection = selection;
-                rest = more;
-            }
+        if !row.words.is_empty() {
+            put_option(&mut options, row);
         }
     }
-    if rest.is_empty() { Some(options) } else { None }
+    row.needs(row.words.is_empty());
+    options
 }

@@ -9,28 +9,16 @@ mod counts;
 mod schedule;
 mod wrong;
 
-use std::alloc::Global;
-use std::io::Write;
-
-/// Explains the world of a number.
-fn explain(alloc: Global, requests: &[&str], line: &str, out: &mut Vec<u8>) -> Option<()> {
-    let Ok(seed) = line.parse::<u64>() else {
-        return writeln!(out, "? no number").ok();
-    };
-    match agreeing::explained(alloc, requests, seed) {
-        Ok(count) => writeln!(out, "{seed}: answered {count}").ok(),
-        Err(wrong) => writeln!(out, "{seed}: ? {}", wrong.text()).ok(),
-    }
-}
+use bac_rows::row::Row;
 
 /// Plays the lines of a row.
-pub(crate) fn play(alloc: Global, lines: &str, out: &mut Vec<u8>) -> Option<()> {
-    let mut requests = Vec::new(alloc);
+pub(crate) fn play(row: &mut Row<'_>) {
+    let mut requests = Vec::new(row.alloc);
+    let lines = row.words;
     for line in lines.lines() {
         match line.strip_prefix("ask ") {
-            Some(words) => requests.push(words).ok()?,
-            None => explain(alloc, &requests, line, out)?,
+            Some(words) => row.needs(requests.push(words).is_ok()),
+            None => agreeing::explain(&requests, line, row),
         }
     }
-    Some(())
 }

@@ -4,9 +4,10 @@
 //! `size CODE` and `segments CODE COUNT` print what fits. `keys PEER ID PEER ID` and `settings WINDOW WINDOW` print how two compare, and `id HEX` the
 //! invoke ID of an APDU.
 use crate::frames::peer_of;
-use crate::words::{first, number, octets_of, print_digits, print_octets, small};
+use crate::words::print_octets;
 use bac_apdu::{Apdu, Limits, Window, apdu_len, read};
-use bac_npdu::LinkAddress;
+use bac_npdu::{LinkAddress, Peer};
+use bac_rows::row::{Row, yes};
 use bac_segment::Step;
 use bac_slots::Same;
 use bac_transaction::{
@@ -14,8 +15,6 @@ use bac_transaction::{
     only_abort, only_apdu, step_acks, transfer_size,
 };
 use bac_value::NoMemory;
-use std::alloc::Global;
-use std::io::Write;
 
 /// The link of the peer.
 const LINK: LinkAddress = [10, 0, 0, 2, 0xBA, 0xC0];
@@ -30,14 +29,17 @@ const LIMITS: Limits = Limits {
 const WINDOW: Window = Window { size: 4 };
 
 /// What an end is told: a peer without a route, invoke ID 7, and moment 0.
-fn context(alloc: Global) -> Context {
+fn context() -> Context {
     Context {
         settings: Settings {
             limits: LIMITS,
             window: WINDOW,
         },
         key: PeerKey {
-            peer: peer_of(alloc, LINK, "near"),
+            peer: Peer {
+                link: LINK,
+                route: None,
+            },
             invoke_id: 7,
         },
         moment: 0,
@@ -45,151 +47,181 @@ fn context(alloc: Global) -> Context {
 }
 
 /// Prints to which link a datagram goes, and its octets.
-fn print_datagram(datagram: &Datagram, out: &mut Vec<u8>) -> Option<()> {
-    out.write_all(b"to ").ok()?;
-    print_digits(&datagram.to(), out)?;
-    out.write_all(b" ").ok()?;
-    print_octets(datagram.octets(), out)
+fn print_datagram(datagram: &Datagram, row: &mut Row<'_>) {
+    row.say("to ");
+    row.say_octets(&datagram.to());
+    row.put(b' ');
+    print_octets(datagram.octets(), row);
 }
 
-fn print_all(sends: &[Datagram], out: &mut Vec<u8>) -> Option<()> {
-    writeln!(out, "sends {}", sends.len()).ok()?;
-    for datagram in sends {
-        print_datagram(datagram, out)?;
-    }
-    Some(())
-}
-
-fn datagram(alloc: Global, words: &str, out: &mut Vec<u8>) -> Option<()> {
-    let (peer, digits) = first(words);
-    let octets = octets_of(alloc, digits)?;
-    let apdu = read(&octets).ok()?;
-    // no APDU is longer (clause 20.1.2.5)
-    if apdu_len(&apdu) > 1_476 {
-        return None;
-    }
-    let Ok(datagram) = datagram_of(alloc, &peer_of(alloc, LINK, peer), &apdu) else {
-        return None;
-    };
-    print_datagram(&datagram, out)?;
-    print_octets(&datagram.into_octets(), out)
-}
-
-fn print_sends(sends: Result<Vec<Datagram>, NoMemory>, out: &mut Vec<u8>) -> Option<()> {
+fn print_sends(sends: Result<Vec<Datagram>, NoMemory>, row: &mut Row<'_>) {
     match sends {
-        Ok(sends) => print_all(&sends, out),
-        Err(_) => None,
+        Ok(sends) => {
+            row.tell("sends #\n", &[sends.len() as u64]);
+            for datagram in sends.iter() {
+                print_datagram(datagram, row);
+            }
+        }
+        Err(_) => row.fail(),
+    }
+}
+
+fn print_made(datagram: Result<Datagram, NoMemory>, row: &mut Row<'_>) {
+    match datagram {
+        Ok(datagram) => {
+            print_datagram(&datagram, row);
+            print_octets(&datagram.into_octets(), row);
+        }
+        Err(_) => row.fail(),
+    }
+}
+
+fn datagram(row: &mut Row<'_>) {
+    let peer = peer_of(LINK, row);
+    let octets = row.octets();
+    match read(&octets) {
+        // no APDU is longer (clause 20.1.2.5)
+        Ok(apdu) if apdu_len(&apdu) <= 1_476 => {
+            print_made(datagram_of(row.alloc, &peer, &apdu), row);
+        }
+        _ => row.fail(),
     }
 }
 
 #[tactic(auto, using(bac_transaction::proofs::Short::short_abort))]
-fn abort(alloc: Global, reason: u8, out: &mut Vec<u8>) -> Option<()> {
-    let context = context(alloc);
-    print_sends(only_abort(alloc, &context, false, reason), out)?;
+fn abort(row: &mut Row<'_>) {
+    let context = context();
+    let reason = row.number8();
+    print_sends(only_abort(row.alloc, &context, false, reason), row);
     let apdu = Apdu::Abort {
         server: false,
         invoke_id: 7,
         reason,
     };
-    print_sends(only_apdu(alloc, &context, &apdu), out)
+    print_sends(only_apdu(row.alloc, &context, &apdu), row);
 }
 
-fn step_of(word: &str) -> Option<Step> {
-    match word.as_bytes() {
-        b"nak" => Some(Step::Nak),
-        b"whole" => Some(Step::Whole),
-        b"taken" => Some(Step::Taken { ack: false }),
-        b"acknowledged" => Some(Step::Taken { ack: true }),
-        _ => None,
+const STEPS: &[(&str, Step)] = &[
+    ("nak", Step::Nak),
+    ("whole", Step::Whole),
+    ("taken", Step::Taken { ack: false }),
+    ("acknowledged", Step::Taken { ack: true }),
+];
+
+fn ack(row: &mut Row<'_>) {
+    let is_server = row.word() == "server";
+    let segment = row.number8();
+    let taken = row.number() as usize;
+    let Some(step) = row.one_of(STEPS) else {
+        return row.fail();
+    };
+    let context = context();
+    let sends = step_acks(row.alloc, &context, is_server, segment, WINDOW, taken, step);
+    print_sends(sends, row);
+}
+
+fn size(row: &mut Row<'_>) {
+    let code = row.number8();
+    match Limits::new(code, true, 0) {
+        Some(limits) => {
+            let one = transfer_size(&limits, &LIMITS);
+            let other = transfer_size(&LIMITS, &limits);
+            row.tell(
+                "# # #\n",
+                &[apdu_size(code) as u64, one as u64, other as u64],
+            );
+        }
+        None => row.fail(),
     }
 }
 
-fn ack(alloc: Global, words: &str, out: &mut Vec<u8>) -> Option<()> {
-    let (side, words) = first(words);
-    let (segment, words) = first(words);
-    let (taken, step) = first(words);
-    let is_server = side == "server";
-    let segment = small(segment)?;
-    let taken = number(taken)? as usize;
-    let step = step_of(step)?;
-    let sends = step_acks(
-        alloc,
-        &context(alloc),
-        is_server,
-        segment,
-        WINDOW,
-        taken,
-        step,
+fn segments(row: &mut Row<'_>) {
+    let code = row.number8();
+    let count = row.number() as usize;
+    row.line(yes(allows_segments(code, count)));
+}
+
+fn key_of(row: &mut Row<'_>) -> PeerKey {
+    let peer = peer_of(LINK, row);
+    let invoke_id = row.number8();
+    PeerKey { peer, invoke_id }
+}
+
+fn keys(row: &mut Row<'_>) {
+    let (one, other) = row.words.split_once(", ").unwrap_or((row.words, ""));
+    row.words = one;
+    let one = key_of(row);
+    row.words = other;
+    let other = key_of(row);
+    row.tell_texts(
+        "less # equal # greater # same #\n",
+        &[
+            yes(one < other),
+            yes(one == other),
+            yes(one > other),
+            yes(one.same(&other)),
+        ],
     );
-    print_sends(sends, out)
 }
 
-fn size(words: &str, out: &mut Vec<u8>) -> Option<()> {
-    let code = small(words)?;
-    let limits = Limits::new(code, true, 0)?;
-    let (one, other) = (
-        transfer_size(&limits, &LIMITS),
-        transfer_size(&LIMITS, &limits),
-    );
-    writeln!(out, "{} {one} {other}", apdu_size(code)).ok()
-}
-
-fn segments(words: &str, out: &mut Vec<u8>) -> Option<()> {
-    let (code, count) = first(words);
-    let allows = allows_segments(small(code)?, number(count)? as usize);
-    writeln!(out, "{allows}").ok()
-}
-
-fn key_of(alloc: Global, words: &str) -> Option<PeerKey> {
-    let (peer, invoke_id) = first(words);
-    Some(PeerKey {
-        peer: peer_of(alloc, LINK, peer),
-        invoke_id: small(invoke_id)?,
-    })
-}
-
-fn keys(alloc: Global, words: &str, out: &mut Vec<u8>) -> Option<()> {
-    let (one, other) = words.split_once(", ")?;
-    let (one, other) = (key_of(alloc, one)?, key_of(alloc, other)?);
-    let (less, equal, greater) = (one < other, one == other, one > other);
-    let same = one.same(&other);
-    writeln!(
-        out,
-        "less {less} equal {equal} greater {greater} same {same}"
-    )
-    .ok()
-}
-
-fn settings(words: &str, out: &mut Vec<u8>) -> Option<()> {
-    let (one, other) = first(words);
-    let one = Settings {
+fn settings_of(row: &mut Row<'_>) -> Settings {
+    let window = Window::new(row.number8());
+    row.needs(window.is_some());
+    Settings {
         limits: LIMITS,
-        window: Window::new(small(one)?)?,
-    };
-    let other = Settings {
-        limits: LIMITS,
-        window: Window::new(small(other)?)?,
-    };
-    writeln!(out, "equal {}", one == other).ok()
+        window: window.unwrap_or(WINDOW),
+    }
 }
 
-fn id(alloc: Global, digits: &str, out: &mut Vec<u8>) -> Option<()> {
-    let octets = octets_of(alloc, digits)?;
-    let apdu = read(&octets).ok()?;
-    writeln!(out, "{}", invoke_id_of(&apdu)).ok()
+fn settings(row: &mut Row<'_>) {
+    let one = settings_of(row);
+    let other = settings_of(row);
+    row.tell_texts("equal #\n", &[yes(one == other)]);
 }
+
+fn id(row: &mut Row<'_>) {
+    let octets = row.octets();
+    match read(&octets) {
+        Ok(apdu) => row.tell("#\n", &[u64::from(invoke_id_of(&apdu))]),
+        Err(_) => row.fail(),
+    }
+}
+
+/// What a line says.
+#[derive(Clone, Copy)]
+enum Verb {
+    Datagram,
+    Abort,
+    Ack,
+    Size,
+    Segments,
+    Keys,
+    Settings,
+    Id,
+}
+
+const VERBS: &[(&str, Verb)] = &[
+    ("datagram", Verb::Datagram),
+    ("abort", Verb::Abort),
+    ("ack", Verb::Ack),
+    ("size", Verb::Size),
+    ("segments", Verb::Segments),
+    ("keys", Verb::Keys),
+    ("settings", Verb::Settings),
+    ("id", Verb::Id),
+];
 
 /// Shows what a line says.
-pub(crate) fn show(alloc: Global, verb: &str, text: &str, out: &mut Vec<u8>) -> Option<()> {
-    match verb.as_bytes() {
-        b"datagram" => datagram(alloc, text, out),
-        b"abort" => abort(alloc, small(text)?, out),
-        b"ack" => ack(alloc, text, out),
-        b"size" => size(text, out),
-        b"segments" => segments(text, out),
-        b"keys" => keys(alloc, text, out),
-        b"settings" => settings(text, out),
-        b"id" => id(alloc, text, out),
-        _ => None,
+pub(crate) fn show(row: &mut Row<'_>) {
+    match row.one_of(VERBS) {
+        Some(Verb::Datagram) => datagram(row),
+        Some(Verb::Abort) => abort(row),
+        Some(Verb::Ack) => ack(row),
+        Some(Verb::Size) => size(row),
+        Some(Verb::Segments) => segments(row),
+        Some(Verb::Keys) => keys(row),
+        Some(Verb::Settings) => settings(row),
+        Some(Verb::Id) => id(row),
+        None => row.fail(),
     }
 }

@@ -2,72 +2,113 @@
 //!
 //! `TYPE:INSTANCE/PART/..` is an object. A part is `NUMBER=HEX` for a property that can be written, `name=TEXT`, `file=HEX` for a file that can be
 //! written, and `log=HEX` for one that cannot. An object without a name is called `bare`.
-use crate::words::{number, octets_of, put};
+use bac_rows::row::Row;
 use bac_store::{Allowed, File, Object, Property};
-use bac_value::{ObjectIdentifier, read_data};
-use std::alloc::Global;
+use bac_value::{Data, ObjectIdentifier, read_data};
 
 /// The identifier `TYPE:INSTANCE`.
 pub(crate) fn identifier(word: &str) -> Option<ObjectIdentifier> {
     let (kind, instance) = word.split_once(':')?;
-    let kind = u16::try_from(number(kind)?).ok()?;
-    let instance = u32::try_from(number(instance)?).ok()?;
-    ObjectIdentifier::new(kind, instance)
+    ObjectIdentifier::new(kind.parse::<u16>().ok()?, instance.parse::<u32>().ok()?)
+}
+
+fn text_of(text: &str, row: &mut Row<'_>) -> String {
+    let mut out = String::new(row.alloc);
+    row.needs(out.push_str(text).is_ok());
+    out
 }
 
 /// An object with a name and nothing else.
-pub(crate) fn bare(alloc: Global, id: ObjectIdentifier) -> Option<Object> {
-    Some(Object {
+pub(crate) fn bare(id: ObjectIdentifier, row: &mut Row<'_>) -> Object {
+    Object {
         id,
-        name: String::from_str(alloc, "bare").ok()?,
-        properties: Vec::new(alloc),
+        name: text_of("bare", row),
+        properties: Vec::new(row.alloc),
         file: None,
-    })
-}
-
-fn property(alloc: Global, key: &str, digits: &str) -> Option<Property> {
-    let octets = octets_of(alloc, digits)?;
-    let (data, _) = read_data(&octets).ok()?;
-    Some(Property {
-        number: u32::try_from(number(key)?).ok()?,
-        values: data.to_owned(alloc).ok()?,
-        writable: true,
-        allowed: Allowed::Any,
-    })
-}
-
-fn file(alloc: Global, digits: &str, writable: bool) -> Option<File> {
-    Some(File {
-        octets: octets_of(alloc, digits)?,
-        writable,
-    })
-}
-
-fn put_part(alloc: Global, part: &str, object: &mut Object) -> Option<()> {
-    let (key, value) = part.split_once('=')?;
-    match key.as_bytes() {
-        b"name" => object.name = String::from_str(alloc, value).ok()?,
-        b"file" => object.file = Some(file(alloc, value, true)?),
-        b"log" => object.file = Some(file(alloc, value, false)?),
-        _ => put(&mut object.properties, property(alloc, key, value)?)?,
     }
-    Some(())
 }
 
-fn object_of(alloc: Global, word: &str) -> Option<Object> {
-    let mut parts = word.split('/');
-    let mut object = bare(alloc, identifier(parts.next()?)?)?;
-    for part in parts {
-        put_part(alloc, part, &mut object)?;
+fn put_values(number: u32, data: Data<'_>, object: &mut Object, row: &mut Row<'_>) {
+    match data.to_owned(row.alloc) {
+        Ok(values) => {
+            let property = Property {
+                number,
+                values,
+                writable: true,
+                allowed: Allowed::Any,
+            };
+            row.needs(object.properties.push(property).is_ok());
+        }
+        Err(_) => row.fail(),
     }
-    Some(object)
 }
 
-/// The objects of some words.
-pub(crate) fn objects_of(alloc: Global, words: &str) -> Option<Vec<Object>> {
-    let mut objects = Vec::new(alloc);
+fn put_property(number: u32, octets: &[u8], object: &mut Object, row: &mut Row<'_>) {
+    match read_data(octets) {
+        Ok((data, _)) => put_values(number, data, object, row),
+        Err(_) => row.fail(),
+    }
+}
+
+fn file(digits: &str, writable: bool, row: &mut Row<'_>) -> Option<File> {
+    let octets = row.octets_of(digits);
+    Some(File { octets, writable })
+}
+
+fn put_part(part: &str, object: &mut Object, row: &mut Row<'_>) {
+    let (key, value) = part.split_once('=').unwrap_or((part, ""));
+    match key {
+        "name" => object.name = text_of(value, row),
+        "file" => object.file = file(value, true, row),
+        "log" => object.file = file(value, false, row),
+        _ => {
+            let number = u32::try_from(row.number_of(key)).unwrap_or(0);
+            let octets = row.octets_of(value);
+            put_property(number, &octets, object, row);
+        }
+    }
+}
+
+fn object_of(id: ObjectIdentifier, word: &str, row: &mut Row<'_>) -> Object {
+    let mut object = bare(id, row);
+    for part in word.split('/').skip(1) {
+        put_part(part, &mut object, row);
+    }
+    object
+}
+
+/// Adds an object.
+fn put_object(word: &str, objects: &mut Vec<Object>, row: &mut Row<'_>) {
+    match identifier(word.split('/').next().unwrap_or("")) {
+        Some(id) => {
+            let object = object_of(id, word, row);
+            row.needs(objects.push(object).is_ok());
+        }
+        None => row.fail(),
+    }
+}
+
+/// The objects of the words of a line.
+pub(crate) fn objects_of(row: &mut Row<'_>) -> Vec<Object> {
+    let mut objects = Vec::new(row.alloc);
+    let words = row.words;
     for word in words.split(' ') {
-        put(&mut objects, object_of(alloc, word)?)?;
+        put_object(word, &mut objects, row);
     }
-    Some(objects)
+    objects
+}
+
+/// So many objects in descending order.
+pub(crate) fn descending(count: u32, row: &mut Row<'_>) -> Vec<Object> {
+    let mut objects = Vec::new(row.alloc);
+    for place in 0..count {
+        match ObjectIdentifier::new(0, count.saturating_sub(1).saturating_sub(place)) {
+            Some(id) => {
+                let object = bare(id, row);
+                row.needs(objects.push(object).is_ok());
+            }
+            None => row.fail(),
+        }
+    }
+    objects
 }

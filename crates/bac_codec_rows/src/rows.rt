@@ -1,11 +1,37 @@
 //! Rows one after the other.
-use crate::words::{first, spelled};
+use crate::words::spelled;
 use crate::{ends, frames, scripts, segments, services, slots, stores, texts, values};
+use bac_rows::row::{Row, first};
 use std::alloc::Global;
 use std::io;
-use std::io::Write;
+use std::io::{ErrorKind, Write};
 
-/// What plays the lines of a row, where no line depends on those before it.
+/// What plays the lines of a row.
+pub(crate) trait Stage {
+    /// Prints the result of a line.
+    fn hear(&mut self, row: &mut Row<'_>);
+}
+
+/// Prints a line and its result; `?` where it has no meaning.
+fn play_line<S: Stage>(stage: &mut S, line: &str, out: &mut Row<'_>) {
+    out.tell_texts("> #\n", &[line]);
+    let text = spelled(out.alloc, line);
+    let mut row = Row::new(out.alloc, text.text());
+    stage.hear(&mut row);
+    out.put_all(&row.told);
+    if text.has_failed || row.has_failed {
+        out.say("?\n");
+    }
+}
+
+/// Prints each line and its result.
+pub(crate) fn play_lines<S: Stage>(stage: &mut S, lines: &str, out: &mut Row<'_>) {
+    for line in lines.lines() {
+        play_line(stage, line, out);
+    }
+}
+
+/// What plays a row.
 #[derive(Clone, Copy)]
 enum Kind {
     Values,
@@ -14,61 +40,59 @@ enum Kind {
     Texts,
     Scripts,
     Ends,
+    Segments,
+    Slots,
+    Store,
 }
 
-fn kind_of(word: &str) -> Option<Kind> {
-    match word.as_bytes() {
-        b"values" => Some(Kind::Values),
-        b"frames" => Some(Kind::Frames),
-        b"services" => Some(Kind::Services),
-        b"texts" => Some(Kind::Texts),
-        b"scripts" => Some(Kind::Scripts),
-        b"ends" => Some(Kind::Ends),
-        _ => None,
-    }
-}
+const KINDS: &[(&str, Kind)] = &[
+    ("values", Kind::Values),
+    ("frames", Kind::Frames),
+    ("services", Kind::Services),
+    ("texts", Kind::Texts),
+    ("scripts", Kind::Scripts),
+    ("ends", Kind::Ends),
+    ("segments", Kind::Segments),
+    ("slots", Kind::Slots),
+    ("store", Kind::Store),
+];
 
-fn show(alloc: Global, kind: Kind, line: &str, out: &mut Vec<u8>) -> Option<()> {
-    let (verb, text) = first(line);
-    match kind {
-        Kind::Values => values::show(alloc, verb, text, out),
-        Kind::Frames => frames::show(alloc, verb, text, out),
-        Kind::Services => services::show(alloc, verb, text, out),
-        Kind::Texts => texts::show(alloc, verb, text, out),
-        Kind::Scripts => scripts::show(alloc, verb, text, out),
-        Kind::Ends => ends::show(alloc, verb, text, out),
+/// Plays lines of which none depends on those before it.
+impl Stage for Kind {
+    fn hear(&mut self, row: &mut Row<'_>) {
+        match *self {
+            Kind::Values => values::show(row),
+            Kind::Frames => frames::show(row),
+            Kind::Services => services::show(row),
+            Kind::Texts => texts::show(row),
+            Kind::Scripts => scripts::show(row),
+            Kind::Ends => ends::show(row),
+            Kind::Segments | Kind::Slots | Kind::Store => row.fail(),
+        }
     }
-}
-
-fn play_each(alloc: Global, kind: Kind, lines: &str, out: &mut Vec<u8>) -> Option<()> {
-    for line in lines.lines() {
-        writeln!(out, "> {line}").ok()?;
-        let line = spelled(alloc, line)?;
-        show(alloc, kind, &line, out)?;
-    }
-    Some(())
 }
 
 /// A row's title and its lines; the title's first word says what plays it.
-fn play(alloc: Global, row: &str, out: &mut Vec<u8>) -> Option<()> {
-    let (title, lines) = row.trim_end_matches('\n').split_once('\n')?;
-    writeln!(out, "\n={title}").ok()?;
-    let (word, _) = first(title);
-    match word.as_bytes() {
-        b"segments" => segments::play(alloc, lines, out),
-        b"slots" => slots::play(alloc, lines, out),
-        b"store" => stores::play(alloc, lines, out),
-        _ => play_each(alloc, kind_of(word)?, lines, out),
+fn play(text: &str, out: &mut Row<'_>) {
+    let (title, lines) = text.split_once('\n').unwrap_or((text, ""));
+    out.tell_texts("\n=#\n", &[title]);
+    match Row::new(out.alloc, title).one_of(KINDS) {
+        Some(Kind::Segments) => segments::play(lines, out),
+        Some(Kind::Slots) => slots::play(lines, out),
+        Some(Kind::Store) => stores::play(lines, out),
+        Some(mut kind) => play_lines(&mut kind, lines, out),
+        None => out.say("?\n"),
     }
 }
 
 /// Plays each row of a text, and prints what comes of it. An Err is out of memory.
 pub fn play_all(alloc: Global, text: &str, out: &mut Vec<u8>) -> io::Result<()> {
-    let rows = text.strip_prefix('=').unwrap_or(text);
-    for row in rows.split("\n=") {
-        if play(alloc, row, out).is_none() {
-            out.write_all(b"?\n")?;
-        }
+    let mut told = Row::new(alloc, text);
+    for row in text.strip_prefix('=').unwrap_or(text).split("\n=") {
+        play(row.trim_end_matches('\n'), &mut told);
     }
-    Ok(())
+    if told.has_failed {
+        return Err(io::Error::from(ErrorKind::OutOfMemory));
+    }
+    out.write_all(&told.told)
 }

@@ -7,45 +7,47 @@
 //! with how much room.
 ghost use Rattle.std.specs.Prelude.{◌≤◌, ◌<◌, length};
 
-use crate::words::{first, number, octets_of, small, spelled};
+use crate::rows::{Stage, play_lines};
 use bac_apdu::Window;
+use bac_rows::row::{Row, yes};
 use bac_segment::chunks::append;
 use bac_segment::{Incoming, Outgoing, Progress, SegmentFault, Step};
-use std::alloc::Global;
-use std::io::Write;
 
 const THIRTY_TWO: Window = Window { size: 32 };
 
 /// Both ends of a transfer.
 #[derive(Drop)]
 struct Both {
-    alloc: Global,
     sender: Outgoing,
     receiver: Incoming,
 }
 
-/// A sender of octets that name their places.
-fn sender(alloc: Global, len: u64, size: usize) -> Option<Outgoing>
-    requires { 1 ≤ size }
-{
-    let mut octets = Vec::new(alloc);
-    for place in 0..len {
+/// Octets that name their places.
+fn named_octets(row: &mut Row<'_>) -> Vec<u8> {
+    let mut octets = Vec::new(row.alloc);
+    for place in 0..row.number() {
         // modulo 251, so that pieces of 256 octets differ too
-        octets.push((place % 251) as u8).ok()?;
+        row.needs(octets.push((place % 251) as u8).is_ok());
     }
-    Some(Outgoing::new(octets, size))
+    octets
 }
 
-/// The sender of `OCTETS SIZE`, and the words after it.
-fn sender_of(alloc: Global, words: &str) -> Option<(Outgoing, &str)> {
-    let (len, words) = first(words);
-    let (size, words) = first(words);
+/// The sender of `OCTETS SIZE`.
+fn sender_of(row: &mut Row<'_>) -> Outgoing {
+    let octets = named_octets(row);
     // pieces of no octets would never end
-    let size = number(size)?.max(1) as usize;
-    Some((sender(alloc, number(len)?, size)?, words))
+    let size = (row.number() as usize).max(1);
+    Outgoing::new(octets, size)
 }
 
-/// Hands a piece to the receiver, as a segment.
+/// The window of a size; that of 32 where no window has that size.
+fn window_of(row: &mut Row<'_>) -> Window {
+    let window = Window::new(row.number8());
+    row.needs(window.is_some());
+    window.unwrap_or(THIRTY_TWO)
+}
+
+/// Hands a piece to the receiver, as a segment; None where there is no such piece.
 fn offer(
     sender: &Outgoing,
     receiver: &mut Incoming,
@@ -67,211 +69,232 @@ struct Sent {
     last: Option<u8>,
 }
 
-/// Sends the window once; None where a segment is not taken.
-fn send_window(sender: &Outgoing, receiver: &mut Incoming, sent: &mut Sent) -> Option<()> {
-    for n in sender.window() {
-        sent.segments = sent.segments.saturating_add(1);
-        match offer(sender, receiver, n)? {
-            Ok(Step::Taken { ack: false }) => {}
-            Ok(Step::Taken { ack: true } | Step::Whole) => {
-                sent.acks = sent.acks.saturating_add(1);
-                sent.last = Some((n % 256) as u8);
+impl Sent {
+    /// Notes what came of a segment.
+    fn note(&mut self, n: usize, came: Option<Result<Step, SegmentFault>>, row: &mut Row<'_>) {
+        self.segments = self.segments.saturating_add(1);
+        match came {
+            Some(Ok(Step::Taken { ack: false })) => {}
+            Some(Ok(Step::Taken { ack: true } | Step::Whole)) => {
+                self.acks = self.acks.saturating_add(1);
+                self.last = Some((n % 256) as u8);
             }
-            _ => return None,
+            _ => row.fail(),
         }
     }
-    Some(())
 }
 
-/// Sends each window once, in order, until all were acknowledged.
-fn send_all(sender: &mut Outgoing, receiver: &mut Incoming, own: Window) -> Option<Sent> {
-    let mut sent = Sent {
-        segments: 0,
-        acks: 0,
-        last: None,
-    };
-    // a bound on the windows, so that each row ends
-    for _ in 0..2_000 {
+impl Both {
+    /// Sends the window once.
+    fn send_window(&mut self, sent: &mut Sent, row: &mut Row<'_>) {
+        for n in self.sender.window() {
+            let came = offer(&self.sender, &mut self.receiver, n);
+            sent.note(n, came, row);
+        }
+    }
+
+    /// Sends the window once; whether more are to be sent.
+    fn sends_on(&mut self, own: Window, sent: &mut Sent, row: &mut Row<'_>) -> bool {
         sent.last = None;
-        send_window(sender, receiver, &mut sent)?;
-        match sender.on_ack(sent.last?, receiver.window(), own) {
-            Progress::Moved => {}
-            Progress::Finished => return Some(sent),
-            Progress::Ignored => return None,
-        }
+        self.send_window(sent, row);
+        let Some(last) = sent.last else {
+            row.fail();
+            return false;
+        };
+        let progress = self.sender.on_ack(last, self.receiver.window(), own);
+        row.needs(progress != Progress::Ignored);
+        progress == Progress::Moved
     }
-    None
-}
 
-fn transfer(alloc: Global, words: &str, out: &mut Vec<u8>) -> Option<()> {
-    let (mut sender, words) = sender_of(alloc, words)?;
-    let (own, other) = first(words);
-    let own = Window::new(small(own)?)?;
-    let mut receiver = Incoming::new(alloc, own, Window::new(small(other)?)?);
-    let sent = send_all(&mut sender, &mut receiver, own)?;
-    let taken = receiver.len();
-    writeln!(
-        out,
-        "segments {} acks {} octets {taken}",
-        sent.segments, sent.acks
-    )
-    .ok()
-}
+    /// Sends each window once, in order, until all were acknowledged.
+    fn send_all(&mut self, own: Window, row: &mut Row<'_>) -> Sent {
+        let mut sent = Sent {
+            segments: 0,
+            acks: 0,
+            last: None,
+        };
+        // a bound on the windows, so that each row ends
+        for _ in 0..2_000 {
+            if !self.sends_on(own, &mut sent, row) {
+                return sent;
+            }
+        }
+        row.fail();
+        sent
+    }
 
-fn print_taken(
-    receiver: &Incoming,
-    step: Result<Step, SegmentFault>,
-    out: &mut Vec<u8>,
-) -> Option<()> {
-    let (taken, len) = (receiver.taken(), receiver.len());
-    match step {
-        Ok(step) => writeln!(out, "{step:?}, {taken} taken, {len} octets").ok(),
-        Err(fault) => writeln!(out, "{fault:?}, {taken} taken, {len} octets").ok(),
+    /// The ends of `OCTETS SIZE WINDOW WINDOW` send all, which leaves those of the row as they are.
+    fn transfer(row: &mut Row<'_>) {
+        let sender = sender_of(row);
+        let own = window_of(row);
+        let receiver = Incoming::new(row.alloc, own, window_of(row));
+        let mut both = Both { sender, receiver };
+        let sent = both.send_all(own, row);
+        row.tell(
+            "segments # acks # octets #\n",
+            &[sent.segments, sent.acks, both.receiver.len() as u64],
+        );
+    }
+
+    fn print_taken(&self, step: Result<Step, SegmentFault>, row: &mut Row<'_>) {
+        match step {
+            Ok(step) => row.show(format_args!("{step:?}")),
+            Err(fault) => row.show(format_args!("{fault:?}")),
+        }
+        row.tell(
+            ", # taken, # octets\n",
+            &[self.receiver.taken() as u64, self.receiver.len() as u64],
+        );
     }
 }
 
 /// A receiver that has taken so many segments with these octets, and more follow.
-fn receiver(alloc: Global, count: u64, octets: &[u8]) -> Option<Incoming> {
-    let mut receiver = Incoming::new(alloc, THIRTY_TWO, THIRTY_TWO);
+fn receiver_of(row: &mut Row<'_>) -> Incoming {
+    let count = row.number();
+    let octets = row.octets();
+    let mut receiver = Incoming::new(row.alloc, THIRTY_TWO, THIRTY_TWO);
     for n in 0..count {
-        let step = receiver.on_segment((n % 256) as u8, true, octets);
-        if step != Ok(Step::Taken { ack: n % 32 == 0 }) {
-            return None;
-        }
+        let step = receiver.on_segment((n % 256) as u8, true, &octets);
+        row.needs(step == Ok(Step::Taken { ack: n % 32 == 0 }));
     }
-    Some(receiver)
-}
-
-fn receiver_of(alloc: Global, words: &str) -> Option<Incoming> {
-    let (count, digits) = first(words);
-    receiver(alloc, number(count)?, &octets_of(alloc, digits)?)
+    receiver
 }
 
 /// How many vectors such segments are kept in, and their room.
-fn print_room(chunks: &[Vec<u8>], out: &mut Vec<u8>) -> Option<()> {
+fn print_room(chunks: &[Vec<u8>], row: &mut Row<'_>) {
     let mut room = 0usize;
     for chunk in chunks {
         room = room.saturating_add(chunk.capacity());
     }
-    writeln!(out, "{} vectors, room {room}", chunks.len()).ok()
+    row.tell("# vectors, room #\n", &[chunks.len() as u64, room as u64]);
 }
 
-fn kept(alloc: Global, one: &[u8], other: &[u8], count: u64) -> Option<Vec<Vec<u8>>> {
-    let mut chunks = Vec::new(alloc);
-    for n in 0..count {
+fn kept(one: &[u8], other: &[u8], row: &mut Row<'_>) -> Vec<Vec<u8>> {
+    let mut chunks = Vec::new(row.alloc);
+    for n in 0..row.number() {
         let octets = if n % 2 == 0 { one } else { other };
-        append(alloc, &mut chunks, octets).ok()?;
+        row.needs(append(row.alloc, &mut chunks, octets).is_ok());
     }
-    Some(chunks)
+    chunks
 }
 
-fn octets_alike(alloc: Global, words: &str) -> Option<Vec<u8>> {
-    let len = number(words)? as usize;
-    let mut octets = Vec::new(alloc);
-    octets.resize(len, 7u8).ok()?;
-    Some(octets)
+fn octets_alike(row: &mut Row<'_>) -> Vec<u8> {
+    let mut octets = Vec::new(row.alloc);
+    let len = row.number() as usize;
+    row.needs(octets.resize(len, 7u8).is_ok());
+    octets
 }
 
-fn rooms(alloc: Global, words: &str, out: &mut Vec<u8>) -> Option<()> {
-    let (one, words) = first(words);
-    let (other, count) = first(words);
-    let one = octets_alike(alloc, one)?;
-    let other = octets_alike(alloc, other)?;
-    print_room(&kept(alloc, &one, &other, number(count)?)?, out)
+fn rooms(row: &mut Row<'_>) {
+    let one = octets_alike(row);
+    let other = octets_alike(row);
+    let chunks = kept(&one, &other, row);
+    print_room(&chunks, row);
 }
 
 impl Both {
-    fn offer(&mut self, words: &str, out: &mut Vec<u8>) -> Option<()> {
-        let n = number(words)? as usize;
-        let step = offer(&self.sender, &mut self.receiver, n)?;
-        print_taken(&self.receiver, step, out)
+    fn offer(&mut self, row: &mut Row<'_>) {
+        let n = row.number() as usize;
+        match offer(&self.sender, &mut self.receiver, n) {
+            Some(step) => self.print_taken(step, row),
+            None => row.fail(),
+        }
     }
 
-    fn ack(&mut self, words: &str, out: &mut Vec<u8>) -> Option<()> {
-        let progress = self.sender.on_ack(small(words)?, THIRTY_TWO, THIRTY_TWO);
-        writeln!(out, "{progress:?}").ok()
+    fn ack(&mut self, row: &mut Row<'_>) {
+        let progress = self.sender.on_ack(row.number8(), THIRTY_TWO, THIRTY_TWO);
+        row.line(format_args!("{progress:?}"));
     }
 
-    fn window(&self, out: &mut Vec<u8>) -> Option<()> {
+    fn window(&self, row: &mut Row<'_>) {
         let window = self.sender.window();
-        let has_retry = self.sender.has_retry();
-        writeln!(
-            out,
-            "from {} to {}, retry {has_retry}",
-            window.start, window.end
-        )
-        .ok()
+        row.tell(
+            "from # to #, retry ",
+            &[window.start as u64, window.end as u64],
+        );
+        row.line(yes(self.sender.has_retry()));
     }
 
-    fn timeout(&mut self, out: &mut Vec<u8>) -> Option<()> {
+    fn timeout(&mut self, row: &mut Row<'_>) {
         let timeout = self.sender.on_timeout();
-        writeln!(out, "{timeout:?}").ok()
+        row.line(format_args!("{timeout:?}"));
     }
 
-    fn next(&mut self, more: bool, digits: &str, out: &mut Vec<u8>) -> Option<()> {
-        let octets = octets_of(self.alloc, digits)?;
+    fn next(&mut self, more: bool, row: &mut Row<'_>) {
+        let octets = row.octets();
         let number = (self.receiver.taken() % 256) as u8;
         let step = self.receiver.on_segment(number, more, &octets);
-        print_taken(&self.receiver, step, out)
+        self.print_taken(step, row);
     }
 
-    fn begin(&mut self, words: &str) -> Option<()> {
-        self.sender = sender_of(self.alloc, words)?.0;
-        self.receiver = Incoming::new(self.alloc, THIRTY_TWO, THIRTY_TWO);
-        Some(())
+    fn begin(&mut self, row: &mut Row<'_>) {
+        self.sender = sender_of(row);
+        self.receiver = Incoming::new(row.alloc, THIRTY_TWO, THIRTY_TWO);
     }
 
-    fn compare(&self, words: &str, out: &mut Vec<u8>) -> Option<()> {
-        let other = receiver_of(self.alloc, words)?;
-        writeln!(out, "same {}", self.receiver.same(&other)).ok()
+    fn compare(&self, row: &mut Row<'_>) {
+        let other = receiver_of(row);
+        row.tell_texts("same #\n", &[yes(self.receiver.same(&other))]);
     }
+}
 
-    fn receive(&mut self, verb: &str, words: &str, out: &mut Vec<u8>) -> Option<()> {
-        match verb.as_bytes() {
-            b"receive" => {
-                self.receiver = receiver_of(self.alloc, words)?;
-                Some(())
-            }
-            b"same" => self.compare(words, out),
-            b"more" => self.next(true, words, out),
-            b"last" => self.next(false, words, out),
-            b"rooms" => rooms(self.alloc, words, out),
-            b"transfer" => transfer(self.alloc, words, out),
-            _ => None,
+/// What a line says.
+#[derive(Clone, Copy)]
+enum Verb {
+    Begin,
+    Offer,
+    Ack,
+    Window,
+    Timeout,
+    Resume,
+    Receive,
+    Same,
+    More,
+    Last,
+    Rooms,
+    Transfer,
+}
+
+const VERBS: &[(&str, Verb)] = &[
+    ("begin", Verb::Begin),
+    ("offer", Verb::Offer),
+    ("ack", Verb::Ack),
+    ("window", Verb::Window),
+    ("timeout", Verb::Timeout),
+    ("resume", Verb::Resume),
+    ("receive", Verb::Receive),
+    ("same", Verb::Same),
+    ("more", Verb::More),
+    ("last", Verb::Last),
+    ("rooms", Verb::Rooms),
+    ("transfer", Verb::Transfer),
+];
+
+impl Stage for Both {
+    fn hear(&mut self, row: &mut Row<'_>) {
+        match row.one_of(VERBS) {
+            Some(Verb::Begin) => self.begin(row),
+            Some(Verb::Offer) => self.offer(row),
+            Some(Verb::Ack) => self.ack(row),
+            Some(Verb::Window) => self.window(row),
+            Some(Verb::Timeout) => self.timeout(row),
+            Some(Verb::Resume) => self.sender.resume(),
+            Some(Verb::Receive) => self.receiver = receiver_of(row),
+            Some(Verb::Same) => self.compare(row),
+            Some(Verb::More) => self.next(true, row),
+            Some(Verb::Last) => self.next(false, row),
+            Some(Verb::Rooms) => rooms(row),
+            Some(Verb::Transfer) => Both::transfer(row),
+            None => row.fail(),
         }
-    }
-
-    fn hear(&mut self, line: &str, out: &mut Vec<u8>) -> Option<()> {
-        let (verb, words) = first(line);
-        match verb.as_bytes() {
-            b"begin" => self.begin(words),
-            b"offer" => self.offer(words, out),
-            b"ack" => self.ack(words, out),
-            b"window" => self.window(out),
-            b"timeout" => self.timeout(out),
-            b"resume" => {
-                self.sender.resume();
-                Some(())
-            }
-            _ => self.receive(verb, words, out),
-        }
-    }
-
-    fn play(&mut self, lines: &str, out: &mut Vec<u8>) -> Option<()> {
-        for line in lines.lines() {
-            writeln!(out, "> {line}").ok()?;
-            self.hear(&spelled(self.alloc, line)?, out)?;
-        }
-        Some(())
     }
 }
 
 /// Plays the lines of a row.
-pub(crate) fn play(alloc: Global, lines: &str, out: &mut Vec<u8>) -> Option<()> {
-    let mut transfer = Both {
-        alloc,
-        sender: Outgoing::new(Vec::new(alloc), 1),
-        receiver: Incoming::new(alloc, THIRTY_TWO, THIRTY_TWO),
+pub(crate) fn play(lines: &str, out: &mut Row<'_>) {
+    let mut both = Both {
+        sender: Outgoing::new(Vec::new(out.alloc), 1),
+        receiver: Incoming::new(out.alloc, THIRTY_TWO, THIRTY_TWO),
     };
-    transfer.play(lines, out)
+    play_lines(&mut both, lines, out);
 }

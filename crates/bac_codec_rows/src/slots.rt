@@ -2,10 +2,9 @@
 //!
 //! `room N` makes both tables. A call is `VERB KEY VALUE`, with a place for the key where the call takes one. `compared KEY ..` prints how many keys the plain
 //! table has compared in all, and `chance COUNT` makes so many generated calls.
-use crate::words::{first, number, small, spelled};
+use crate::rows::{Stage, play_lines};
+use bac_rows::row::{Row, yes};
 use bac_slots::{Count, IndexSlots, PlainSlots, SlotTable};
-use std::alloc::Global;
-use std::io::Write;
 
 /// One call of a table, or one field of a slot that it gives by its place in order of keys or of putting.
 #[derive(Clone, Copy)]
@@ -26,31 +25,35 @@ enum Call {
     Put,
 }
 
-const CALLS: &[(&str, Call)] = &[
-    ("len", Call::Len),
-    ("find", Call::Find),
-    ("key-at", Call::KeyAt),
-    ("begin-at", Call::BeginAt),
-    ("value-at", Call::ValueAt),
-    ("key-by-age", Call::KeyByAge),
-    ("begin-by-age", Call::BeginByAge),
-    ("value-by-age", Call::ValueByAge),
-    ("get", Call::Get),
-    ("set", Call::Set),
-    ("remove", Call::Remove),
-    ("get-mut", Call::GetMut),
-    ("rank", Call::Rank),
-    ("put", Call::Put),
-];
-
-fn call_of(verb: &str) -> Option<Call> {
-    for (name, call) in CALLS {
-        if *name == verb {
-            return Some(*call);
-        }
-    }
-    None
+/// What a line says.
+#[derive(Clone, Copy)]
+enum Verb {
+    Call(Call),
+    Room,
+    Compared,
+    Chance,
 }
+
+/// Calls first, in the order of their numbers in generated calls.
+const VERBS: &[(&str, Verb)] = &[
+    ("len", Verb::Call(Call::Len)),
+    ("find", Verb::Call(Call::Find)),
+    ("key-at", Verb::Call(Call::KeyAt)),
+    ("begin-at", Verb::Call(Call::BeginAt)),
+    ("value-at", Verb::Call(Call::ValueAt)),
+    ("key-by-age", Verb::Call(Call::KeyByAge)),
+    ("begin-by-age", Verb::Call(Call::BeginByAge)),
+    ("value-by-age", Verb::Call(Call::ValueByAge)),
+    ("get", Verb::Call(Call::Get)),
+    ("set", Verb::Call(Call::Set)),
+    ("remove", Verb::Call(Call::Remove)),
+    ("get-mut", Verb::Call(Call::GetMut)),
+    ("rank", Verb::Call(Call::Rank)),
+    ("put", Verb::Call(Call::Put)),
+    ("room", Verb::Room),
+    ("compared", Verb::Compared),
+    ("chance", Verb::Chance),
+];
 
 fn key_in(slot: Option<(u32, u64, &u8)>) -> Option<u64> {
     let slot = slot?;
@@ -130,24 +133,14 @@ fn next(state: u64) -> u64 {
 
 /// The call of a number of 0 to 17; from 13 on that is a put.
 fn call_by_chance(state: u64) -> Call {
-    match CALLS.get(((state >> 33) % 18) as usize) {
-        Some((_, call)) => *call,
-        None => Call::Put,
+    match VERBS.get(((state >> 33) % 18) as usize) {
+        Some((_, Verb::Call(call))) => *call,
+        _ => Call::Put,
     }
 }
 
 impl Tables {
-    fn new(alloc: Global, room: usize) -> Option<Tables> {
-        let Ok(plain) = PlainSlots::new(alloc, room) else {
-            return None;
-        };
-        let Ok(index) = IndexSlots::new(alloc, room) else {
-            return None;
-        };
-        Some(Tables { plain, index })
-    }
-
-    /// Calls both; what they answer, alike.
+    /// Calls both; what they answer, alike, or nothing where they answer otherwise.
     fn call(&mut self, call: Call, key: u32, value: u8) -> Option<Option<u64>> {
         let answer = called(&mut self.plain, call, key, value);
         if called(&mut self.index, call, key, value) == answer {
@@ -157,67 +150,77 @@ impl Tables {
         }
     }
 
-    fn room(&self, out: &mut Vec<u8>) -> Option<()> {
-        writeln!(out, "room {} {}", self.plain.room(), self.index.room()).ok()
+    fn room(&self, row: &mut Row<'_>) {
+        row.tell(
+            "room # #\n",
+            &[self.plain.room() as u64, self.index.room() as u64],
+        );
     }
 
-    fn compared(&self, words: &str, out: &mut Vec<u8>) -> Option<()> {
+    fn compared(&self, row: &mut Row<'_>) {
         let mut count = Count { comparisons: 0 };
+        let words = row.words;
         for word in words.split(' ') {
-            let key = u32::try_from(number(word)?).ok()?;
+            let key = (row.number_of(word) % 4_294_967_296) as u32;
             self.plain.find(&key, &mut count);
-            writeln!(out, "{}", count.comparisons).ok()?;
+            row.tell("#\n", &[count.comparisons]);
         }
-        Some(())
     }
 
-    fn chance(&mut self, words: &str, out: &mut Vec<u8>) -> Option<()> {
+    /// A call by chance, and the state of chance after it.
+    fn chance_call(&mut self, state: u64, row: &mut Row<'_>) -> u64 {
+        let state = next(state);
+        let call = call_by_chance(state);
+        let state = next(state);
+        let key = ((state >> 33) % 48) as u32;
+        let answer = self.call(call, key, (state >> 56) as u8);
+        row.needs(answer.is_some());
+        state
+    }
+
+    fn chance(&mut self, row: &mut Row<'_>) {
         let mut state = 1;
-        let mut full = 0u64;
-        for _ in 0..number(words)? {
-            state = next(state);
-            let call = call_by_chance(state);
-            state = next(state);
-            let key = ((state >> 33) % 48) as u32;
-            self.call(call, key, (state >> 56) as u8)?;
-            if self.plain.len() == self.plain.room() {
-                full = full.saturating_add(1);
-            }
+        let mut is_full = false;
+        for _ in 0..row.number() {
+            state = self.chance_call(state, row);
+            is_full = is_full || self.plain.len() == self.plain.room();
         }
-        writeln!(out, "full {}", full > 0).ok()
+        row.tell_texts("full #\n", &[yes(is_full)]);
     }
 
-    fn answer(&mut self, call: Call, words: &str, out: &mut Vec<u8>) -> Option<()> {
-        let (key, value) = first(words);
-        let key = u32::try_from(number(key)?).ok()?;
-        match self.call(call, key, small(value).unwrap_or(0))? {
-            Some(answer) => writeln!(out, "{answer}").ok(),
-            None => writeln!(out, "none").ok(),
+    fn answer(&mut self, call: Call, row: &mut Row<'_>) {
+        let key = row.number32();
+        let value = row.word().parse::<u8>().unwrap_or(0);
+        match self.call(call, key, value) {
+            Some(Some(answer)) => row.tell("#\n", &[answer]),
+            Some(None) => row.say("none\n"),
+            None => row.fail(),
         }
     }
+}
 
-    fn hear(&mut self, verb: &str, words: &str, out: &mut Vec<u8>) -> Option<()> {
-        match verb.as_bytes() {
-            b"room" => self.room(out),
-            b"compared" => self.compared(words, out),
-            b"chance" => self.chance(words, out),
-            _ => self.answer(call_of(verb)?, words, out),
+impl Stage for Tables {
+    fn hear(&mut self, row: &mut Row<'_>) {
+        match row.one_of(VERBS) {
+            Some(Verb::Room) => self.room(row),
+            Some(Verb::Compared) => self.compared(row),
+            Some(Verb::Chance) => self.chance(row),
+            Some(Verb::Call(call)) => self.answer(call, row),
+            None => row.fail(),
         }
-    }
-
-    fn play(&mut self, alloc: Global, lines: &str, out: &mut Vec<u8>) -> Option<()> {
-        for line in lines.lines() {
-            writeln!(out, "> {line}").ok()?;
-            let line = spelled(alloc, line)?;
-            let (verb, words) = first(&line);
-            self.hear(verb, words, out)?;
-        }
-        Some(())
     }
 }
 
 /// Plays the lines of a row; the first one says the room of the tables.
-pub(crate) fn play(alloc: Global, lines: &str, out: &mut Vec<u8>) -> Option<()> {
-    let (room, _) = lines.strip_prefix("room ")?.split_once('\n')?;
-    Tables::new(alloc, number(room)? as usize)?.play(alloc, lines, out)
+pub(crate) fn play(lines: &str, out: &mut Row<'_>) {
+    let mut head = Row::new(out.alloc, lines.lines().next().unwrap_or(""));
+    head.word();
+    let room = head.number() as usize;
+    match (
+        PlainSlots::new(out.alloc, room),
+        IndexSlots::new(out.alloc, room),
+    ) {
+        (Ok(plain), Ok(index)) => play_lines(&mut Tables { plain, index }, lines, out),
+        _ => out.fail(),
+    }
 }

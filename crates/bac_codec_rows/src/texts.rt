@@ -3,88 +3,116 @@
 //! `decode` and `told` take a datagram, `lines` one on each line, `check` and `notes` a capture, without notes and with them; `wrapped` and `told-wrapped` take
 //! an NPDU and put it into its BVLL, and so does `longest`. `captured` reads a line of a capture.
 use crate::words::{print_octets, print_text};
+use bac_rows::row::Row;
 use bac_text::{
     Status, check_lines_over, check_over, decode_lines_over, decode_over, decode_text_over,
     read_capture_line,
 };
-use std::alloc::Global;
-use std::io::Write;
 
-fn print_end(status: Status, err: &[u8], out: &mut Vec<u8>) -> Option<()> {
+fn print_end(status: Status, err: &[u8], row: &mut Row<'_>) {
     if !err.is_empty() {
-        out.write_all(b"! ").ok()?;
-        out.write_all(err).ok()?;
+        row.say("! ");
+        row.put_all(err);
     }
-    match status.code() {
-        0 => Some(()),
-        code => writeln!(out, "status {code}").ok(),
+    let code = status.code();
+    if code != 0 {
+        row.tell("status #\n", &[u64::from(code)]);
     }
 }
 
-fn decode(alloc: Global, in_words: bool, text: &str, out: &mut Vec<u8>) -> Option<()> {
-    let mut err = Vec::new(alloc);
+fn decode(in_words: bool, text: &str, row: &mut Row<'_>) {
+    let mut err = Vec::new(row.alloc);
     let status = if in_words {
-        decode_text_over(alloc, true, text, out, &mut err)
+        decode_text_over(row.alloc, true, text, &mut row.told, &mut err)
     } else {
-        decode_over(alloc, text, out, &mut err)
+        decode_over(row.alloc, text, &mut row.told, &mut err)
     };
-    print_end(status, &err, out)
+    print_end(status, &err, row);
 }
 
 /// Prints the layers of an NPDU in its BVLL.
-fn decode_npdu(alloc: Global, in_words: bool, npdu: &str, out: &mut Vec<u8>) -> Option<()> {
+fn decode_npdu(in_words: bool, row: &mut Row<'_>) {
+    let npdu = row.words;
     let len = npdu.len() / 2 % 65_536 + 4;
-    let text = format!(in alloc; "810A{len:04X}{npdu}").ok()?;
-    decode(alloc, in_words, &text, out)
+    let mut text = Row::new(row.alloc, "");
+    text.show(format_args!("810A{len:04X}{npdu}"));
+    decode(in_words, text.text(), row);
 }
 
 /// Prints the layers of a long NPDU in its BVLL, with what repeats in them written short.
-fn longest(alloc: Global, npdu: &str, out: &mut Vec<u8>) -> Option<()> {
-    let mut told = Vec::new(alloc);
-    decode_npdu(alloc, false, npdu, &mut told)?;
-    print_text(&told, out)
+fn longest(row: &mut Row<'_>) {
+    let mut long = Row::new(row.alloc, row.words);
+    decode_npdu(false, &mut long);
+    print_text(&long.told, row);
 }
 
-fn lines(alloc: Global, text: &str, out: &mut Vec<u8>) -> Option<()> {
-    let mut err = Vec::new(alloc);
-    let mut input = text.as_bytes();
-    let status = decode_lines_over(alloc, false, &mut input, out, &mut err);
-    print_end(status, &err, out)
+fn lines(row: &mut Row<'_>) {
+    let mut err = Vec::new(row.alloc);
+    let mut input = row.words.as_bytes();
+    let status = decode_lines_over(row.alloc, false, &mut input, &mut row.told, &mut err);
+    print_end(status, &err, row);
 }
 
-fn check(alloc: Global, notes: bool, text: &str, out: &mut Vec<u8>) -> Option<()> {
-    let mut err = Vec::new(alloc);
-    let mut input = text.as_bytes();
+fn check(notes: bool, row: &mut Row<'_>) {
+    let mut err = Vec::new(row.alloc);
+    let mut input = row.words.as_bytes();
     let status = if notes {
-        check_lines_over(alloc, false, true, &mut input, out, &mut err)
+        check_lines_over(row.alloc, false, true, &mut input, &mut row.told, &mut err)
     } else {
-        check_over(alloc, &mut input, out, &mut err)
+        check_over(row.alloc, &mut input, &mut row.told, &mut err)
     };
-    print_end(status, &err, out)
+    print_end(status, &err, row);
 }
 
-fn captured(alloc: Global, line: &str, out: &mut Vec<u8>) -> Option<()> {
-    match read_capture_line(alloc, line.as_bytes()).ok()? {
-        Some(captured) => {
-            write!(out, "{} ", captured.moment).ok()?;
-            print_octets(&captured.datagram, out)
+fn captured(row: &mut Row<'_>) {
+    match read_capture_line(row.alloc, row.words.as_bytes()) {
+        Ok(Some(captured)) => {
+            row.tell("# ", &[captured.moment]);
+            print_octets(&captured.datagram, row);
         }
-        None => out.write_all(b"no line\n").ok(),
+        Ok(None) => row.say("no line\n"),
+        Err(_) => row.fail(),
     }
 }
 
+/// What a line says.
+#[derive(Clone, Copy)]
+enum Verb {
+    Decode,
+    Told,
+    Wrapped,
+    ToldWrapped,
+    Longest,
+    Lines,
+    Check,
+    Notes,
+    Captured,
+}
+
+const VERBS: &[(&str, Verb)] = &[
+    ("decode", Verb::Decode),
+    ("told", Verb::Told),
+    ("wrapped", Verb::Wrapped),
+    ("told-wrapped", Verb::ToldWrapped),
+    ("longest", Verb::Longest),
+    ("lines", Verb::Lines),
+    ("check", Verb::Check),
+    ("notes", Verb::Notes),
+    ("captured", Verb::Captured),
+];
+
 /// Shows what a line says.
-pub(crate) fn show(alloc: Global, verb: &str, text: &str, out: &mut Vec<u8>) -> Option<()> {
-    match verb.as_bytes() {
-        b"decode" => decode(alloc, false, text, out),
-        b"told" => decode(alloc, true, text, out),
-        b"wrapped" => decode_npdu(alloc, false, text, out),
-        b"told-wrapped" => decode_npdu(alloc, true, text, out),
-        b"longest" => longest(alloc, text, out),
-        b"lines" => lines(alloc, text, out),
-        b"check" => check(alloc, false, text, out),
-        b"notes" => check(alloc, true, text, out),
-        b"captured" => captured(alloc, text, out),
-        _ => None,
+pub(crate) fn show(row: &mut Row<'_>) {
+    match row.one_of(VERBS) {
+        Some(Verb::Decode) => decode(false, row.words, row),
+        Some(Verb::Told) => decode(true, row.words, row),
+        Some(Verb::Wrapped) => decode_npdu(false, row),
+        Some(Verb::ToldWrapped) => decode_npdu(true, row),
+        Some(Verb::Longest) => longest(row),
+        Some(Verb::Lines) => lines(row),
+        Some(Verb::Check) => check(false, row),
+        Some(Verb::Notes) => check(true, row),
+        Some(Verb::Captured) => captured(row),
+        None => row.fail(),
     }
 }

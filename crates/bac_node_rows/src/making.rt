@@ -1,102 +1,99 @@
 //! Rows of worlds that are made, or are not.
 //!
 //! A line is the number of the second node's link and a scene, in which `|` stands for the end of a line. Prints `made`, or the fault.
-use crate::scene::{link, nodes_of, overtake_of};
-use crate::words::{first, put};
+use crate::scene::{line_of, link, nodes_of, overtake_of};
 use bac_network::{NewClocksFault, NewWorldFault, Pace, World};
 use bac_node::Config;
+use bac_rows::row::Row;
 use bac_rows::script::plain;
 use bac_store::Store;
-use std::alloc::Global;
-use std::io::Write;
 
-/// Clocks of nodes: their pace, and where each begins.
-#[derive(Drop)]
-struct Clocks {
-    pace: Pace,
-    starts: Vec<u32>,
-}
-
-/// The clocks `DRIFT LIFE START START ..`.
-fn clocks_of(alloc: Global, words: &str) -> Option<Clocks> {
-    let (drift, words) = first(words);
-    let (life, words) = first(words);
-    let (drift, life) = (drift.parse::<u32>().ok()?, life.parse::<u32>().ok()?);
-    let mut starts = Vec::new(alloc);
+/// Reads the starts of clocks.
+fn starts_of(row: &mut Row<'_>) -> Vec<u32> {
+    let mut starts = Vec::new(row.alloc);
+    let words = row.words;
     for word in words.split(' ') {
-        put(&mut starts, word.parse::<u32>().ok()?)?;
+        let start = u32::try_from(row.number_of(word)).unwrap_or(0);
+        row.needs(starts.push(start).is_ok());
     }
-    Some(Clocks {
-        pace: Pace { drift, life },
-        starts,
-    })
+    starts
 }
 
-/// What a scene says of the clocks of its nodes.
-fn clock_words(scene: &str) -> Option<&str> {
-    for line in scene.lines() {
-        if let Some(words) = line.strip_prefix("clocks ") {
-            return Some(words);
-        }
-    }
-    None
-}
-
-fn with_one_clock(
-    alloc: Global,
+/// A world of those nodes with the clocks `DRIFT LIFE START START ..`.
+fn with_clocks(
+    clocks: &str,
     nodes: Vec<(Config, Store)>,
     overtake: u64,
+    row: &mut Row<'_>,
 ) -> Result<World, NewClocksFault> {
-    match World::new(alloc, nodes, overtake) {
+    let mut words = Row::new(row.alloc, clocks);
+    let pace = Pace {
+        drift: words.number32(),
+        life: words.number32(),
+    };
+    let starts = starts_of(&mut words);
+    row.needs(!words.has_failed);
+    World::with_clocks(row.alloc, nodes, overtake, pace, &starts)
+}
+
+/// A world of a scene, with those nodes.
+pub(crate) fn made(
+    scene: &str,
+    nodes: Vec<(Config, Store)>,
+    row: &mut Row<'_>,
+) -> Result<World, NewClocksFault> {
+    let overtake = overtake_of(scene, row);
+    if let Some(clocks) = line_of(scene, "clocks ") {
+        return with_clocks(clocks, nodes, overtake, row);
+    }
+    match World::new(row.alloc, nodes, overtake) {
         Ok(world) => Ok(world),
         Err(fault) => Err(NewClocksFault::NotMade(fault)),
     }
 }
 
-/// A world of a scene, with those nodes.
-pub(crate) fn made(
-    alloc: Global,
-    scene: &str,
-    nodes: Vec<(Config, Store)>,
-) -> Option<Result<World, NewClocksFault>> {
-    let overtake = overtake_of(scene)?;
-    let Some(words) = clock_words(scene) else {
-        return Some(with_one_clock(alloc, nodes, overtake));
-    };
-    let Clocks { pace, starts } = clocks_of(alloc, words)?;
-    Some(World::with_clocks(alloc, nodes, overtake, pace, &starts))
-}
-
 /// The nodes of a scene, of which the second one is at the link of that number.
-fn nodes_at(alloc: Global, number: u8, scene: &str) -> Option<Vec<(Config, Store)>> {
-    let mut nodes = nodes_of(alloc, scene, 0)?;
-    nodes.get_mut(1)?.0.link = link(number);
-    Some(nodes)
+fn nodes_at(number: u8, scene: &str, row: &mut Row<'_>) -> Vec<(Config, Store)> {
+    let mut nodes = nodes_of(scene, 0, row);
+    match nodes.get_mut(1) {
+        Some(node) => node.0.link = link(number),
+        None => row.fail(),
+    }
+    nodes
 }
 
-fn print_fault(fault: NewClocksFault, out: &mut Vec<u8>) -> Option<()> {
+fn print_fault(fault: NewClocksFault, row: &mut Row<'_>) {
     match fault {
-        NewClocksFault::NotMade(NewWorldFault::NoMemory) => None,
-        NewClocksFault::NotMade(why) => writeln!(out, "fault {}: {why}", why.number()).ok(),
-        _ => writeln!(out, "{fault}").ok(),
+        NewClocksFault::NotMade(NewWorldFault::NoMemory) => row.fail(),
+        NewClocksFault::NotMade(why) => {
+            row.line(format_args!("fault {}: {why}", why.number()));
+        }
+        _ => row.line(fault),
     }
 }
 
-fn tell(alloc: Global, line: &str, out: &mut Vec<u8>) -> Option<()> {
-    let (number, scene) = first(line);
-    let number = number.parse::<u8>().ok()?;
-    let scene = plain(alloc, scene).ok()?;
-    match made(alloc, &scene, nodes_at(alloc, number, &scene)?)? {
-        Ok(_) => out.write_all(b"made\n").ok(),
-        Err(fault) => print_fault(fault, out),
+/// Prints whether a scene is made.
+fn tell_made(number: u8, scene: &str, row: &mut Row<'_>) {
+    match made(scene, nodes_at(number, scene, row), row) {
+        Ok(_) => row.say("made\n"),
+        Err(fault) => print_fault(fault, row),
+    }
+}
+
+fn tell(row: &mut Row<'_>) {
+    let number = row.number8();
+    match plain(row.alloc, row.words) {
+        Ok(scene) => tell_made(number, &scene, row),
+        Err(_) => row.fail(),
     }
 }
 
 /// Plays the lines of a row.
-pub(crate) fn play(alloc: Global, lines: &str, out: &mut Vec<u8>) -> Option<()> {
+pub(crate) fn play(row: &mut Row<'_>) {
+    let lines = row.words;
     for line in lines.lines() {
-        writeln!(out, "> {line}").ok()?;
-        tell(alloc, line, out)?;
+        row.tell_texts("> #\n", &[line]);
+        row.words = line;
+        tell(row);
     }
-    Some(())
 }

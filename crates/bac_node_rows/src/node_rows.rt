@@ -3,10 +3,9 @@
 //! Where an allocation fails in a call, the node has to be the same as its twin, which has not got the event yet. Then the call is made again.
 use crate::events::{Came, happens, node_of};
 use crate::playing::{Stage, play};
-use crate::words::{first, number};
 use bac_node::Node;
+use bac_rows::row::{Row, first};
 use std::alloc::Global;
-use std::io::Write;
 
 /// Two nodes of a scene.
 #[derive(Drop)]
@@ -16,63 +15,77 @@ struct Twins<'a> {
     twin: Node,
 }
 
+/// The result of an event at a twin; want of memory is a fault there.
+fn told_by<'a>(alloc: Global, twin: &mut Node, scene: &str, line: &'a str) -> Row<'a> {
+    let mut told = Row::new(alloc, line);
+    let came = happens(twin, scene, &mut told);
+    told.needs(came != Came::NoMemory);
+    told
+}
+
 impl Twins<'_> {
     /// The result of an event at the node: of the second call where an allocation fails in the first.
-    fn node_meets(&mut self, alloc: Global, line: &str, out: &mut Vec<u8>) -> Option<Came> {
-        let came = happens(alloc, &mut self.node, self.scene, line, out)?;
+    fn node_meets(&mut self, row: &mut Row<'_>) -> Came {
+        let words = row.words;
+        let came = happens(&mut self.node, self.scene, row);
         if came != Came::NoMemory {
-            return Some(came);
+            return came;
         }
         if !self.node.same(&self.twin) {
-            out.write_all(b"changed without memory\n").ok()?;
+            row.say("changed without memory\n");
         }
-        happens(alloc, &mut self.node, self.scene, line, out)
+        row.words = words;
+        happens(&mut self.node, self.scene, row)
     }
 
-    /// The result of an event at the twin.
-    fn twin_meets(&mut self, alloc: Global, line: &str) -> Option<Vec<u8>> {
-        let mut told = Vec::new(alloc);
-        match happens(alloc, &mut self.twin, self.scene, line, &mut told)? {
-            Came::NoMemory => None,
-            _ => Some(told),
-        }
+    /// Whether the result at the twin is that of a line.
+    fn twin_tells(&mut self, line: &str, told: &[u8], row: &mut Row<'_>) -> bool {
+        let other = told_by(row.alloc, &mut self.twin, self.scene, line);
+        row.needs(!other.has_failed);
+        other.told.as_slice() == told
+    }
+
+    /// Whether a tick of the twin prints nothing.
+    fn twin_rests(&mut self, line: &str, row: &mut Row<'_>) -> bool {
+        let mut tick = Row::new(row.alloc, "");
+        tick.tell_texts("# tick", &[first(line).0]);
+        self.twin_tells(tick.text(), &[], row)
     }
 
     /// Whether the result at the twin is the same. A dropped datagram is a tick to the twin, and an event that the node refused is not repeated.
-    fn twin_agrees(&mut self, alloc: Global, line: &str, came: Came, told: &[u8]) -> Option<bool> {
+    fn twin_agrees(&mut self, line: &str, came: Came, told: &[u8], row: &mut Row<'_>) -> bool {
         match came {
-            Came::Heard | Came::Timeless => {
-                Some(self.twin_meets(alloc, line)?.as_slice() == told)
+            Came::Heard | Came::Timeless => self.twin_tells(line, told, row),
+            Came::Dropped => self.twin_rests(line, row),
+            Came::Refused => true,
+            Came::NoMemory => {
+                row.fail();
+                true
             }
-            Came::Dropped => {
-                let tick = format!(in alloc; "{} tick", first(line).0).ok()?;
-                Some(self.twin_meets(alloc, &tick)?.is_empty())
-            }
-            Came::Refused => Some(true),
-            Came::NoMemory => None,
         }
     }
-}
 
-/// The latest moment of a node after an event.
-fn latest_after(came: Came, line: &str, before: u64) -> Option<u64> {
-    match came {
-        Came::Heard | Came::Dropped => number(first(line).0),
-        _ => Some(before),
+    /// Compares what came of a line with the twin, and the latest moment with what it was before.
+    fn compare(&mut self, line: &str, came: Came, before: u64, told: &[u8], row: &mut Row<'_>) {
+        let is_alike = self.twin_agrees(line, came, told, row);
+        let latest = match came {
+            Came::Heard | Came::Dropped => row.number_of(first(line).0),
+            _ => before,
+        };
+        if !is_alike || self.node.latest() != latest {
+            row.say("otherwise at the twin\n");
+        }
     }
 }
 
 impl Stage for Twins<'_> {
-    fn meets(&mut self, alloc: Global, line: &str, out: &mut Vec<u8>) -> Option<()> {
+    fn meets(&mut self, row: &mut Row<'_>) {
+        let line = row.words;
         let before = self.node.latest();
-        let mut told = Vec::new(alloc);
-        let came = self.node_meets(alloc, line, &mut told)?;
-        out.write_all(&told).ok()?;
-        let is_alike = self.twin_agrees(alloc, line, came, &told)?;
-        if !is_alike || self.node.latest() != latest_after(came, line, before)? {
-            out.write_all(b"otherwise at the twin\n").ok()?;
-        }
-        Some(())
+        let mut told = Row::new(row.alloc, line);
+        let came = self.node_meets(&mut told);
+        row.take(&told);
+        self.compare(line, came, before, &told.told, row);
     }
 
     fn is_sound(&self) -> bool {
@@ -81,11 +94,10 @@ impl Stage for Twins<'_> {
 }
 
 /// Plays the lines of a row on a node of a scene.
-pub(crate) fn play_node(alloc: Global, scene: &str, lines: &str, out: &mut Vec<u8>) -> Option<()> {
-    let twins = Twins {
-        scene,
-        node: node_of(alloc, scene)?,
-        twin: node_of(alloc, scene)?,
-    };
-    play(alloc, twins, scene, lines, out)
+pub(crate) fn play_node(scene: &str, row: &mut Row<'_>) {
+    let node = node_of(scene, row);
+    let twin = node_of(scene, row);
+    if let (Some(node), Some(twin)) = (node, twin) {
+        play(&mut Twins { scene, node, twin }, scene, row);
+    }
 }

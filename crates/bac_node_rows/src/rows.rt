@@ -3,11 +3,12 @@ use crate::node_rows::play_node;
 use crate::scripts::Way;
 use crate::wires::play_wire;
 use crate::worlds::play_world;
-use crate::{making, nodes, scripts, sockets, tables, words};
+use crate::{making, nodes, scripts, sockets, tables};
+use bac_rows::row::Row;
 use bac_simulate::View;
 use std::alloc::Global;
 use std::io;
-use std::io::Write;
+use std::io::{ErrorKind, Write};
 use std::net::Net;
 use std::time::Clock;
 
@@ -48,66 +49,56 @@ const KINDS: &[(&str, Kind)] = &[
     ("jsons", Kind::Scripts(Way::Shown(View::Objects))),
 ];
 
-fn kind_of(word: &str) -> Option<Kind> {
-    for (name, kind) in KINDS {
-        if *name == word {
-            return Some(*kind);
-        }
-    }
-    None
-}
-
 /// Plays rows one after the other, each on the last scene before it.
 #[derive(Drop)]
 struct Rows<'a, R> {
     rt: &'a R,
-    alloc: Global,
     scene: &'a str,
 }
 
 impl<'a, R: Net + Clock> Rows<'a, R> {
     /// Plays the lines of a row.
-    fn play_lines(&self, kind: Kind, lines: &str, out: &mut Vec<u8>) -> Option<()> {
+    fn play_lines(&self, kind: Kind, row: &mut Row<'_>) {
         match kind {
-            Kind::Scene => Some(()),
-            Kind::Node => play_node(self.alloc, self.scene, lines, out),
-            Kind::World => play_world(self.alloc, self.scene, lines, out),
-            Kind::Wire => play_wire(self.alloc, self.scene, lines, out),
-            Kind::Worlds => making::play(self.alloc, lines, out),
-            Kind::Nodes => nodes::play(self.alloc, lines, out),
-            Kind::Socket => sockets::play(self.rt, self.alloc, lines, out),
-            Kind::Tables => tables::play(self.alloc, lines, out),
-            Kind::Script(way) => scripts::play(self.alloc, way, lines, out),
-            Kind::Scripts(way) => scripts::play_lines(self.alloc, way, lines, out),
+            Kind::Scene => {}
+            Kind::Node => play_node(self.scene, row),
+            Kind::World => play_world(self.scene, row),
+            Kind::Wire => play_wire(self.scene, row),
+            Kind::Worlds => making::play(row),
+            Kind::Nodes => nodes::play(row),
+            Kind::Socket => sockets::play(self.rt, row),
+            Kind::Tables => tables::play(row),
+            Kind::Script(way) => scripts::play(way, row),
+            Kind::Scripts(way) => scripts::play_lines(way, row),
         }
+    }
+
+    /// Plays a row once; whether that went well.
+    fn plays(&self, kind: Kind, lines: &str, out: &mut Row<'_>) -> bool {
+        let mut row = Row::new(out.alloc, lines);
+        self.play_lines(kind, &mut row);
+        if !row.has_failed {
+            out.put_all(&row.told);
+        }
+        !row.has_failed
     }
 
     /// Plays a row, and once more where that fails: memory may have been refused to it.
-    fn play(&self, kind: Kind, lines: &str, out: &mut Vec<u8>) -> io::Result<()> {
-        let begin = out.len();
-        if self.play_lines(kind, lines, out).is_some() {
-            return Ok(());
+    fn play(&self, kind: Kind, lines: &str, out: &mut Row<'_>) {
+        if !self.plays(kind, lines, out) && !self.plays(kind, lines, out) {
+            out.say("?\n");
         }
-        out.truncate(begin);
-        if self.play_lines(kind, lines, out).is_some() {
-            return Ok(());
-        }
-        out.truncate(begin);
-        out.write_all(b"?\n")
     }
 
     /// Plays a row of whatever kind.
-    fn go_on(&mut self, row: &'a str, out: &mut Vec<u8>) -> io::Result<()> {
+    fn go_on(&mut self, row: &'a str, out: &mut Row<'_>) {
         let (title, lines) = row.split_once('\n').unwrap_or((row, ""));
         let lines = lines.trim_end_matches('\n');
-        writeln!(out, "\n={title}")?;
-        match kind_of(words::first(title).0) {
-            Some(Kind::Scene) => {
-                self.scene = lines;
-                Ok(())
-            }
+        out.tell_texts("\n=#\n", &[title]);
+        match Row::new(out.alloc, title).one_of(KINDS) {
+            Some(Kind::Scene) => self.scene = lines,
             Some(kind) => self.play(kind, lines, out),
-            None => out.write_all(b"?\n"),
+            None => out.say("?\n"),
         }
     }
 }
@@ -119,13 +110,13 @@ pub fn play_all<R: Net + Clock>(
     text: &str,
     out: &mut Vec<u8>,
 ) -> io::Result<()> {
-    let mut rows = Rows {
-        rt,
-        alloc,
-        scene: "",
-    };
+    let mut rows = Rows { rt, scene: "" };
+    let mut told = Row::new(alloc, text);
     for row in text.split('=').skip(1) {
-        rows.go_on(row, out)?;
+        rows.go_on(row, &mut told);
     }
-    Ok(())
+    if told.has_failed {
+        return Err(io::Error::from(ErrorKind::OutOfMemory));
+    }
+    out.write_all(&told.told)
 }

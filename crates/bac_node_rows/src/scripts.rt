@@ -1,9 +1,8 @@
 //! Rows of whole scripts: what they print on standard output, on standard error after `! `, and their exit status where it is not 0.
 //!
 //! A row is one script, or each of its lines is: there `|` stands for the end of a line, `~` for a carriage return and `_` for nothing.
+use bac_rows::row::Row;
 use bac_simulate::{View, show_over, simulate_lines_over};
-use std::alloc::Global;
-use std::io::Write;
 
 /// How a script is run.
 #[derive(Clone, Copy)]
@@ -14,71 +13,68 @@ pub(crate) enum Way {
 }
 
 /// Runs a script; its exit status.
-fn status_of(alloc: Global, way: Way, script: &str, out: &mut Vec<u8>, err: &mut Vec<u8>) -> u8 {
-    let mut input = script.as_bytes();
+fn status_of(way: Way, mut script: &[u8], err: &mut Vec<u8>, row: &mut Row<'_>) -> u8 {
     let status = match way {
-        Way::Plain => simulate_lines_over(alloc, false, true, &mut input, out, err),
-        Way::Noted => simulate_lines_over(alloc, true, true, &mut input, out, err),
-        Way::Shown(view) => show_over(alloc, view, true, &mut input, out, err),
+        Way::Shown(view) => show_over(row.alloc, view, true, &mut script, &mut row.told, err),
+        _ => {
+            let notes = matches!(way, Way::Noted);
+            simulate_lines_over(row.alloc, notes, true, &mut script, &mut row.told, err)
+        }
     };
     status.code()
 }
 
-fn run(alloc: Global, way: Way, script: &str, out: &mut Vec<u8>) -> Option<()> {
-    let mut err = Vec::new(alloc);
-    let status = status_of(alloc, way, script, out, &mut err);
+fn run(way: Way, script: &[u8], row: &mut Row<'_>) {
+    let mut err = Vec::new(row.alloc);
+    let status = status_of(way, script, &mut err, row);
     if !err.is_empty() {
-        out.write_all(b"! ").ok()?;
-        out.write_all(&err).ok()?;
+        row.say("! ");
+        row.put_all(&err);
     }
     if status != 0 {
-        writeln!(out, "status {status}").ok()?;
-    }
-    Some(())
-}
-
-/// What a character stands for.
-fn meant(character: char) -> Option<char> {
-    match character {
-        '|' => Some('\n'),
-        '~' => Some('\r'),
-        '_' => None,
-        other => Some(other),
+        row.tell("status #\n", &[u64::from(status)]);
     }
 }
 
-/// Appends the script that a line stands for.
-fn put_script(line: &str, script: &mut String) -> Option<()> {
-    for character in line.chars() {
-        if let Some(character) = meant(character) {
-            script.push(character).ok()?;
+/// What an octet stands for.
+fn meant(octet: u8) -> u8 {
+    match octet {
+        b'|' => b'\n',
+        b'~' => b'\r',
+        other => other,
+    }
+}
+
+/// The script that a line stands for, as it would be printed.
+fn script_of<'a>(line: &'a str, row: &Row<'_>) -> Row<'a> {
+    let mut script = Row::new(row.alloc, line);
+    for octet in line.as_bytes() {
+        if *octet != b'_' {
+            script.put(meant(*octet));
         }
     }
-    Some(())
-}
-
-fn script_of(alloc: Global, line: &str) -> Option<String> {
-    let mut script = String::new(alloc);
-    put_script(line, &mut script)?;
-    Some(script)
+    script
 }
 
 /// Plays each line of a row.
-pub(crate) fn play_lines(alloc: Global, way: Way, lines: &str, out: &mut Vec<u8>) -> Option<()> {
+pub(crate) fn play_lines(way: Way, row: &mut Row<'_>) {
+    let lines = row.words;
     for line in lines.lines() {
-        writeln!(out, "> {line}").ok()?;
-        let script = script_of(alloc, line)?;
-        run(alloc, way, &script, out)?;
+        row.tell_texts("> #\n", &[line]);
+        let script = script_of(line, row);
+        run(way, &script.told, row);
+        row.needs(!script.has_failed);
     }
-    Some(())
 }
 
 /// Plays a row.
-pub(crate) fn play(alloc: Global, way: Way, lines: &str, out: &mut Vec<u8>) -> Option<()> {
-    let mut script = script_of(alloc, lines)?;
-    script.push('\n').ok()?;
+pub(crate) fn play(way: Way, row: &mut Row<'_>) {
+    let lines = row.words;
     for line in lines.lines() {
-        writeln!(out, "> {line}").ok()?;
+        row.tell_texts("> #\n", &[line]);
     }
-    run(alloc, way, &script, out)
+    let mut script = script_of(lines, row);
+    script.put(b'\n');
+    run(way, &script.told, row);
+    row.needs(!script.has_failed);
 }

@@ -1,6 +1,7 @@
 //! What is behind the links of a machine.
 use crate::lines::{Heading, first, in_block};
 use bac_commands::answer_datagram;
+use bac_rows::row::Row;
 use std::alloc::Global;
 
 /// What is behind the links of a machine.
@@ -67,27 +68,42 @@ fn house_answer(alloc: Global, octets: &[u8]) -> Option<Vec<u8>> {
     answers.first()?.octets().to_vec(alloc).ok()
 }
 
+/// The octets that were put together; None where some have no meaning.
+fn whole(row: Row<'_>) -> Option<Vec<u8>> {
+    if row.has_failed { None } else { Some(row.told) }
+}
+
 /// An APDU for the invoke ID of a request, in a plain frame; its second octet is left out.
 fn framed(alloc: Global, request: &[u8], first: u8, rest: &[u8]) -> Option<Vec<u8>> {
     let invoke_id = *request.get(8)?;
     let len = u8::try_from(rest.len()).ok()?.checked_add(8)?;
-    let mut answer = Vec::from_slice(alloc, &[0x81, 0x0A, 0, len, 1, 0, first, invoke_id]).ok()?;
-    answer.extend_from_slice(rest).ok()?;
-    Some(answer)
+    let mut answer = Row::new(alloc, "");
+    answer.put_all(&[0x81, 0x0A, 0, len, 1, 0, first, invoke_id]);
+    answer.put_all(rest);
+    whole(answer)
 }
 
 /// The ComplexACK of ReadProperty with that service data, for the invoke ID of a request.
 fn read_answer(alloc: Global, request: &[u8], digits: &str) -> Option<Vec<u8>> {
-    let mut rest = Vec::from_slice(alloc, &[12]).ok()?;
-    let data = hex::decode(alloc, digits).ok()?;
-    rest.extend_from_slice(&data).ok()?;
-    framed(alloc, request, 0x30, &rest)
+    let mut rest = Row::new(alloc, digits);
+    let data = rest.octets();
+    rest.put(12);
+    rest.put_all(&data);
+    if rest.has_failed {
+        None
+    } else {
+        framed(alloc, request, 0x30, &rest.told)
+    }
 }
 
 /// The datagram of a reply, for the invoke ID of a request.
 fn reply_datagram(alloc: Global, request: &[u8], digits: &str) -> Option<Vec<u8>> {
-    let reply = hex::decode(alloc, digits).ok()?;
-    framed(alloc, request, *reply.first()?, reply.get(2..)?)
+    let mut line = Row::new(alloc, digits);
+    let reply = line.octets();
+    match (reply.first(), reply.get(2..)) {
+        (Some(first), Some(rest)) if !line.has_failed => framed(alloc, request, *first, rest),
+        _ => None,
+    }
 }
 
 /// The datagram of a line of a block, and who sent it.

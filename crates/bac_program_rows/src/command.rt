@@ -3,35 +3,47 @@ use crate::bench::{BenchMachine, Bound};
 use crate::files::Files;
 use crate::scene::{Place, Scene, Setup, is_setup, scene_of};
 use crate::sink::Sink;
-use crate::spelling::text_of;
+use crate::spelling::meant;
 use bac_command_line::{System, run};
 use bac_driver::{Clock, MonotonicClock, UdpLink};
 use bac_pairs::{ClientPair, PairKey, left_at, pair_at};
 use std::alloc::Global;
 use std::io::{ErrorKind, Write};
 
-/// Appends the words of a text without quotes.
-fn put_words(alloc: Global, text: &str, words: &mut Vec<String>) -> Option<()> {
-    for word in text.split(' ') {
-        if !word.is_empty() {
-            words.push(text_of(alloc, word)?).ok()?;
-        }
+/// Appends a word.
+fn put_word(alloc: Global, text: &str, words: &mut Vec<String>) -> bool {
+    let word = meant(alloc, text);
+    if word.has_failed {
+        return false;
     }
-    Some(())
+    match String::from_utf8(word.told) {
+        Ok(word) => words.push(word).is_ok(),
+        Err(_) => false,
+    }
+}
+
+/// Appends the words of a text without quotes.
+fn put_words(alloc: Global, text: &str, words: &mut Vec<String>) -> bool {
+    let mut are_put = true;
+    for word in text.split(' ') {
+        are_put = are_put && (word.is_empty() || put_word(alloc, word, words));
+    }
+    are_put
 }
 
 /// The words of a command line, after the name of the program.
 fn words_of(alloc: Global, line: &str) -> Option<Vec<String>> {
     let mut words = Vec::new(alloc);
-    put_words(alloc, "bac", &mut words)?;
+    let mut are_put = put_words(alloc, "bac", &mut words);
     for (place, part) in line.split('"').enumerate() {
-        if place % 2 == 0 {
-            put_words(alloc, part, &mut words)?;
+        let is_put = if place % 2 == 0 {
+            put_words(alloc, part, &mut words)
         } else {
-            words.push(text_of(alloc, part)?).ok()?;
-        }
+            put_word(alloc, part, &mut words)
+        };
+        are_put = are_put && is_put;
     }
-    Some(words)
+    if are_put { Some(words) } else { None }
 }
 
 /// A command line on a machine.

@@ -5,6 +5,7 @@ use crate::lines::{Heading, of_block};
 use crate::scene::Setup;
 use crate::spelling::put_line;
 use bac_environment::OpenFiles;
+use bac_rows::row::Row;
 use bac_serving::RegularFiles;
 use std::alloc::Global;
 use std::cell::Cell;
@@ -45,35 +46,23 @@ impl Read for OpenedFile {
     }
 }
 
-/// Appends the octets of the block at the front of a text: of lines.
-pub(crate) fn put_block(alloc: Global, text: &str, out: &mut Vec<u8>) -> Option<()> {
-    for line in text.lines() {
-        match of_block(line) {
-            Some(line) => put_line(alloc, line, out)?,
-            None => return Some(()),
-        }
-    }
-    Some(())
-}
-
 /// Appends the octets of a line of hexadecimal.
-fn put_digits(alloc: Global, line: &str, out: &mut Vec<u8>) -> Option<()> {
+fn put_digits(line: &str, out: &mut Row<'_>) {
     for digits in line.split(' ') {
-        let octets = hex::decode(alloc, digits).ok()?;
-        out.extend_from_slice(&octets).ok()?;
+        let octets = out.octets_of(digits);
+        out.put_all(&octets);
     }
-    Some(())
 }
 
-/// Appends the octets of a block of hexadecimal.
-fn put_hex_block(alloc: Global, text: &str, out: &mut Vec<u8>) -> Option<()> {
+/// Appends the octets of the block at the front of a text: of lines, or of lines of hexadecimal.
+pub(crate) fn put_block(text: &str, is_hex: bool, out: &mut Row<'_>) {
     for line in text.lines() {
         match of_block(line) {
-            Some(line) => put_digits(alloc, line, out)?,
-            None => return Some(()),
+            Some(line) if is_hex => put_digits(line, out),
+            Some(line) => put_line(line, out),
+            None => break,
         }
     }
-    Some(())
 }
 
 /// A file that was written.
@@ -106,12 +95,17 @@ impl<'a> Files<'a> {
 
     /// The octets that a file has now: what was written last, or those of the scene.
     pub(crate) fn octets_at(&self, path: &str) -> Option<Vec<u8>> {
-        if let Some(octets) = self.written_at(path) {
-            return Some(octets);
+        match self.written_at(path) {
+            Some(octets) => Some(octets),
+            None => {
+                let (octets, heading) = self.read(path, 0);
+                if heading.is_some() {
+                    Some(octets)
+                } else {
+                    None
+                }
+            }
         }
-        let mut octets = Vec::new(self.alloc);
-        self.read(path, 0, &mut octets)?;
-        Some(octets)
     }
 
     /// The octets of a file that was written.
@@ -138,23 +132,24 @@ impl<'a> Files<'a> {
         }
     }
 
-    /// The line of a file of the scene, opened the time of that number; its octets are appended.
-    fn read(&self, path: &str, number: usize, octets: &mut Vec<u8>) -> Option<Heading<'a>> {
-        if let Some(heading) = self.setup.named("file", path, number) {
-            put_block(self.alloc, heading.below, octets)?;
-            return Some(heading);
+    /// The octets of a file of the scene, opened the time of that number, and its line; None where there is no such file, or its lines have no meaning.
+    fn read(&self, path: &str, number: usize) -> (Vec<u8>, Option<Heading<'a>>) {
+        let mut out = Row::new(self.alloc, "");
+        let file = self.setup.named("file", path, number);
+        let heading = file.or(self.setup.named("hex", path, 0));
+        if let Some(Heading { below, .. }) = heading {
+            put_block(below, file.is_none(), &mut out);
         }
-        let heading = self.setup.named("hex", path, 0)?;
-        put_hex_block(self.alloc, heading.below, octets)?;
-        Some(heading)
+        let heading = if out.has_failed { None } else { heading };
+        (out.told, heading)
     }
 
     /// A file of the scene, opened the next time.
     fn described(&self, path: &str) -> io::Result<OpenedFile> {
         let number = self.opened.get();
         self.opened.set(number.saturating_add(1));
-        let mut octets = Vec::new(self.alloc);
-        match self.read(path, number, &mut octets) {
+        let (octets, heading) = self.read(path, number);
+        match heading {
             Some(heading) => opened(octets, heading.words),
             None => Err(io::Error::from(ErrorKind::NotFound)),
         }

@@ -1,105 +1,99 @@
 //! The octets that a text of a row stands for.
+use bac_rows::row::Row;
 use std::alloc::Global;
-use std::io::Write;
 
-/// The octet of two hexadecimal digits, and the text behind them.
-fn put_octet(alloc: Global, text: &str, out: &mut Vec<u8>) -> Option<()> {
-    let (digits, rest) = (text.get(..2)?, text.get(2..)?);
-    let octets = hex::decode(alloc, digits).ok()?;
-    out.extend_from_slice(&octets).ok()?;
-    out.extend_from_slice(rest.as_bytes()).ok()
+/// The octet of the two hexadecimal digits at the front of a text.
+fn put_octet(text: &str, out: &mut Row<'_>) {
+    // a digit alone has no meaning, and nothing has none either
+    let octets = out.octets_of(text.get(..2).unwrap_or("?"));
+    out.put_all(&octets);
 }
 
-/// What a letter behind a backslash stands for.
-fn letter(text: &str) -> Option<u8> {
-    match text.as_bytes().first()? {
-        b'n' => Some(b'\n'),
-        b'r' => Some(b'\r'),
-        b't' => Some(b'\t'),
-        b's' => Some(b' '),
-        _ => None,
+/// What a letter behind a backslash stands for, at the number of a repetition; `x` for the octet of the two digits behind it.
+fn put_letter(letter: &str, behind: &str, number: u64, out: &mut Row<'_>) {
+    match letter.as_bytes() {
+        b"x" => put_octet(behind, out),
+        b"#" => out.show(number),
+        b"n" => out.put(b'\n'),
+        b"r" => out.put(b'\r'),
+        b"t" => out.put(b'\t'),
+        b"s" => out.put(b' '),
+        _ => out.fail(),
     }
-}
-
-/// What that letter stands for, and the text behind it.
-fn put_letter(text: &str, out: &mut Vec<u8>) -> Option<()> {
-    let rest = text.get(1..)?;
-    out.push(letter(text)?).ok()?;
-    out.extend_from_slice(rest.as_bytes()).ok()
 }
 
 /// The text behind a backslash, at the number of a repetition.
-fn put_escape(alloc: Global, text: &str, number: u64, out: &mut Vec<u8>) -> Option<()> {
-    if let Some(rest) = text.strip_prefix('x') {
-        return put_octet(alloc, rest, out);
-    }
-    if let Some(rest) = text.strip_prefix('#') {
-        return write!(out, "{number}{rest}").ok();
-    }
-    put_letter(text, out)
+fn put_escape(text: &str, number: u64, out: &mut Row<'_>) {
+    let behind = text.get(1..).unwrap_or("");
+    put_letter(text.get(..1).unwrap_or(""), behind, number, out);
+    let digits = if text.starts_with('x') { 2 } else { 0 };
+    out.say(behind.get(digits..).unwrap_or(""));
 }
 
 /// A text without repeats, at the number of a repetition.
-fn put_once(alloc: Global, text: &str, number: u64, out: &mut Vec<u8>) -> Option<()> {
+fn put_once(text: &str, number: u64, out: &mut Row<'_>) {
     for (place, part) in text.split('\\').enumerate() {
         if place == 0 {
-            out.extend_from_slice(part.as_bytes()).ok()?;
+            out.say(part);
         } else {
-            put_escape(alloc, part, number, out)?;
+            put_escape(part, number, out);
         }
     }
-    Some(())
 }
 
-/// The first and the last number of a repeat, `COUNT` or `FIRST..LAST`.
-fn range_of(text: &str) -> Option<(u64, u64)> {
-    let (first, last) = text.split_once("..").unwrap_or(("1", text));
-    Some((first.parse::<u64>().ok()?, last.parse::<u64>().ok()?))
+/// A text for each number of a range, `COUNT` or `FIRST..LAST`.
+fn put_range(range: &str, text: &str, out: &mut Row<'_>) {
+    let (first, last) = range.split_once("..").unwrap_or(("1", range));
+    let (first, last) = (out.number_of(first), out.number_of(last));
+    for number in first..=last {
+        put_once(text, number, out);
+    }
 }
 
 /// A repeat, `RANGE*TEXT`.
-fn put_repeat(alloc: Global, repeat: &str, out: &mut Vec<u8>) -> Option<()> {
-    let (range, text) = repeat.split_once('*')?;
-    let (first, last) = range_of(range)?;
-    for number in first..=last {
-        put_once(alloc, text, number, out)?;
+fn put_repeat(repeat: &str, out: &mut Row<'_>) {
+    match repeat.split_once('*') {
+        Some((range, text)) => put_range(range, text, out),
+        None => out.fail(),
     }
-    Some(())
 }
 
 /// Appends the octets of a text that begins with a repeat, behind its `\{`.
-fn put_repeated(alloc: Global, text: &str, out: &mut Vec<u8>) -> Option<()> {
-    let (repeat, rest) = text.split_once('}')?;
-    put_repeat(alloc, repeat, out)?;
-    put_once(alloc, rest, 0, out)
+fn put_repeated(text: &str, out: &mut Row<'_>) {
+    match text.split_once('}') {
+        Some((repeat, rest)) => {
+            put_repeat(repeat, out);
+            put_once(rest, 0, out);
+        }
+        None => out.fail(),
+    }
 }
 
 /// Appends the octets of a text.
-pub(crate) fn put_text(alloc: Global, text: &str, out: &mut Vec<u8>) -> Option<()> {
+pub(crate) fn put_text(text: &str, out: &mut Row<'_>) {
     for (place, part) in text.split("\\{").enumerate() {
         if place == 0 {
-            put_once(alloc, part, 0, out)?;
+            put_once(part, 0, out);
         } else {
-            put_repeated(alloc, part, out)?;
+            put_repeated(part, out);
         }
     }
-    Some(())
 }
 
 /// Appends the octets of a line, with its end.
-pub(crate) fn put_line(alloc: Global, line: &str, out: &mut Vec<u8>) -> Option<()> {
+pub(crate) fn put_line(line: &str, out: &mut Row<'_>) {
     match line.strip_suffix('\\') {
-        Some(line) => put_text(alloc, line, out),
+        Some(line) => put_text(line, out),
         None => {
-            put_text(alloc, line, out)?;
-            out.push(b'\n').ok()
+            put_text(line, out);
+            out.put(b'\n');
         }
     }
 }
 
-/// The text that a text of a row stands for.
-pub(crate) fn text_of(alloc: Global, text: &str) -> Option<String> {
-    let mut octets = Vec::new(alloc);
-    put_text(alloc, text, &mut octets)?;
-    String::from_utf8(octets).ok()
+/// What a text of a row stands for.
+pub(crate) fn meant(alloc: Global, text: &str) -> Row<'_> {
+    let mut out = Row::new(alloc, text);
+    put_text(text, &mut out);
+    out
 }

@@ -11,8 +11,8 @@
 //! - `{41/7}` for 41 octets of it from octet 7 on;
 //! - `{41/-12,44}` for 41 octets of it from octet -12 + 44 times the number on.
 use crate::RowFault;
+use crate::row::Row;
 use std::alloc::Global;
-use std::fmt::Write;
 
 /// The numbers that a line stands for: so many from the first on, each greater by one step than the one before.
 #[derive(Clone, Copy)]
@@ -37,29 +37,13 @@ const ONCE: Numbers = Numbers {
     step: 0,
 };
 
-/// A decimal number.
-pub fn number(text: &str) -> Result<u64, RowFault> {
-    match text.parse::<u64>() {
-        Ok(number) => Ok(number),
-        Err(_) => Err(RowFault::NoLine),
-    }
-}
-
-/// The text before the first separator, and the text after it.
-pub fn parted(text: &str, separator: char) -> Result<(&str, &str), RowFault> {
-    match text.split_once(separator) {
-        Some(parts) => Ok(parts),
-        None => Err(RowFault::NoLine),
-    }
-}
-
 /// Numbers from a first one to a last one, each so much more than the one before it.
-fn numbers_to(first: u64, next: u64, last: u64) -> Result<Numbers, RowFault> {
+fn numbers_to(first: u64, next: u64, last: u64) -> Option<Numbers> {
     if next <= first || last < first {
-        return Err(RowFault::NoLine);
+        return None;
     }
     let step = next - first;
-    Ok(Numbers {
+    Some(Numbers {
         count: ((last - first) / step).saturating_add(1),
         first,
         step,
@@ -67,161 +51,165 @@ fn numbers_to(first: u64, next: u64, last: u64) -> Result<Numbers, RowFault> {
 }
 
 /// The numbers `FIRST,NEXT..LAST`.
-fn numbers_of(text: &str) -> Result<Numbers, RowFault> {
-    let (first, rest) = parted(text, ',')?;
-    let (next, last) = parted(rest, '.')?;
-    let Some(last) = last.strip_prefix('.') else {
-        return Err(RowFault::NoLine);
-    };
-    numbers_to(number(first)?, number(next)?, number(last)?)
+fn numbers_of(text: &str) -> Option<Numbers> {
+    let (first, rest) = text.split_once(',')?;
+    let (next, last) = rest.split_once("..")?;
+    let (first, next) = (first.parse::<u64>().ok()?, next.parse::<u64>().ok()?);
+    numbers_to(first, next, last.parse::<u64>().ok()?)
 }
 
 /// The numbers that a line stands for, and the line. Only a range has two dots.
 pub fn ranged(line: &str) -> Result<(Numbers, &str), RowFault> {
-    match line.split_once("..") {
-        Some(_) => {
-            let (numbers, line) = parted(line, ' ')?;
-            let Some(numbers) = numbers.strip_suffix(":") else {
-                return Err(RowFault::NoLine);
-            };
-            Ok((numbers_of(numbers)?, line))
-        }
-        None => Ok((ONCE, line)),
+    if !line.contains("..") {
+        return Ok((ONCE, line));
+    }
+    let (numbers, line) = line.split_once(": ").unwrap_or(("", line));
+    match numbers_of(numbers) {
+        Some(numbers) => Ok((numbers, line)),
+        None => Err(RowFault::NoLine),
     }
 }
 
-/// The text that a name stands for.
-fn text_of<'a>(names: &'a str, wanted: &str) -> Result<&'a str, RowFault> {
+/// Appends the text that a name stands for.
+fn put_text_of(names: &str, wanted: &str, out: &mut Row<'_>) {
+    let mut found = None;
     for line in names.lines() {
-        if let Some((name, text)) = line.split_once(": ") {
-            if name == wanted {
-                return Ok(text);
-            }
+        // no name is the end of a line
+        let (name, text) = line.split_once(": ").unwrap_or(("\n", ""));
+        if found.is_none() && name == wanted {
+            found = Some(text);
         }
     }
-    Err(RowFault::NoLine)
+    out.needs(found.is_some());
+    out.say(found.unwrap_or(""));
 }
 
 /// A line with the texts in the place of their names.
-fn named(alloc: Global, names: &str, line: &str) -> Result<String, RowFault> {
-    let mut out = String::with_capacity(alloc, 256)?;
+fn named<'a>(alloc: Global, names: &str, line: &'a str) -> Row<'a> {
+    let mut out = Row::new(alloc, line);
     for (place, part) in line.split('<').enumerate() {
-        if place == 0 {
-            out.push_str(part)?;
-            continue;
+        let (name, rest) = part.split_once('>').unwrap_or(("", part));
+        if place > 0 {
+            put_text_of(names, name, &mut out);
         }
-        let (name, rest) = parted(part, '>')?;
-        out.push_str(text_of(names, name)?)?;
-        out.push_str(rest)?;
+        out.say(rest);
     }
-    Ok(out)
+    out
 }
 
 /// Appends the digits, `count` times.
-fn put_digits(count: u64, digits: &str, out: &mut String) -> Result<(), RowFault> {
+fn put_digits(count: u64, digits: &str, out: &mut Row<'_>) {
     for _ in 0..count {
-        out.push_str(digits)?;
+        out.say(digits);
     }
-    Ok(())
 }
 
 /// A decimal number, or one below 0, modulo 2^64.
-fn wrapped(text: &str) -> Result<u64, RowFault> {
+fn wrapped(text: &str, out: &mut Row<'_>) -> u64 {
     match text.strip_prefix("-") {
-        Some(text) => Ok(0u64.wrapping_sub(number(text)?)),
-        None => number(text),
+        Some(text) => 0u64.wrapping_sub(out.number_of(text)),
+        None => out.number_of(text),
     }
 }
 
-/// Where octets of the long file begin: `PLACE`, or `PLACE,STEP`.
-fn begin_of(place: &str, number_here: u64) -> Result<u64, RowFault> {
-    match place.split_once(',') {
-        Some((place, step)) => {
-            Ok(wrapped(place)?.wrapping_add(number(step)?.wrapping_mul(number_here)))
-        }
-        None if place.is_empty() => Ok(0),
-        None => number(place),
+/// Where octets of the long file begin: nothing, `PLACE`, or `PLACE,STEP`.
+fn begin_of(place: &str, number: u64, out: &mut Row<'_>) -> u64 {
+    if place.is_empty() {
+        return 0;
     }
+    let (place, step) = place.split_once(',').unwrap_or((place, "0"));
+    let begin = wrapped(place, out);
+    begin.wrapping_add(out.number_of(step).wrapping_mul(number))
 }
 
 /// Appends `count` octets of the long file from octet `begin` on, in hexadecimal.
-fn put_octets(count: u64, begin: u64, out: &mut String) -> Result<(), RowFault> {
+fn put_octets(count: u64, begin: u64, out: &mut Row<'_>) {
     for i in 0..count {
         // octet i of the long file is i / 256
-        write!(out, "{:02X}", begin.wrapping_add(i) / 256 % 256)?;
+        out.say_octets(&[(begin.wrapping_add(i) / 256 % 256) as u8]);
     }
-    Ok(())
+}
+
+/// Appends so many octets of the long file: `COUNT/BEGIN`.
+fn put_file(word: &str, number: u64, out: &mut Row<'_>) {
+    match word.split_once('/') {
+        Some((count, place)) => {
+            let count = out.number_of(count);
+            let begin = begin_of(place, number, out);
+            put_octets(count, begin, out);
+        }
+        None => out.fail(),
+    }
 }
 
 /// A text so many times, octets of the long file, or the number and so much more.
-fn put_word(word: &str, number_here: u64, out: &mut String) -> Result<(), RowFault> {
+fn put_word(word: &str, number: u64, out: &mut Row<'_>) {
     if let Some(more) = word.strip_prefix("+") {
-        write!(out, "{}", number_here.saturating_add(number(more)?))?;
-        return Ok(());
+        let sum = number.saturating_add(out.number_of(more));
+        out.show(sum);
+        return;
     }
     match word.split_once('*') {
-        Some((count, digits)) => put_digits(number(count)?, digits, out),
-        None => {
-            let (count, place) = parted(word, '/')?;
-            put_octets(number(count)?, begin_of(place, number_here)?, out)
+        Some((count, digits)) => {
+            let count = out.number_of(count);
+            put_digits(count, digits, out);
         }
+        None => put_file(word, number, out),
     }
 }
 
 /// A line with what its words in braces stand for.
-fn filled(alloc: Global, line: &str, number: u64) -> Result<String, RowFault> {
-    let mut out = String::with_capacity(alloc, 256)?;
-    for part in line.split('{') {
+fn filled<'a>(line: &'a Row<'_>, number: u64) -> Row<'a> {
+    let text = line.text();
+    let mut out = Row::new(line.alloc, text);
+    for part in text.split('{') {
         match part.split_once('}') {
             Some((word, rest)) => {
-                put_word(word, number, &mut out)?;
-                out.push_str(rest)?;
+                put_word(word, number, &mut out);
+                out.say(rest);
             }
-            None => out.push_str(part)?,
+            None => out.say(part),
         }
     }
-    Ok(out)
+    out.needs(!line.has_failed);
+    out
+}
+
+/// Appends what an octet stands for at a number.
+fn put_meant(octet: u8, number: u64, out: &mut Row<'_>) {
+    match octet {
+        b'_' => {}
+        b'#' => out.show(number),
+        b'@' => out.say_octets(&[(number % 256) as u8]),
+        b'|' => out.put(b'\n'),
+        other => out.put(other),
+    }
 }
 
 /// A line with a number in its places.
-fn numbered(alloc: Global, line: &str, number: u64) -> Result<String, RowFault> {
-    let mut out = String::with_capacity(alloc, 256)?;
-    for character in line.chars() {
-        match character {
-            '_' => {}
-            '#' => write!(out, "{number}")?,
-            '@' => write!(out, "{:02X}", number % 256)?,
-            '|' => out.push('\n')?,
-            other => out.push(other)?,
-        }
+fn numbered<'a>(line: &'a Row<'_>, number: u64) -> Row<'a> {
+    let mut out = Row::new(line.alloc, "");
+    for octet in line.told.as_slice() {
+        put_meant(*octet, number, &mut out);
     }
-    Ok(out)
+    out.needs(!line.has_failed);
+    out
 }
 
 /// A line with its number, as it is typed or printed.
 pub fn spelled(alloc: Global, names: &str, line: &str, number: u64) -> Result<String, RowFault> {
-    let line = named(alloc, names, line)?;
-    let line = filled(alloc, &line, number)?;
-    numbered(alloc, &line, number)
+    let line = named(alloc, names, line);
+    let line = filled(&line, number);
+    let line = numbered(&line, number);
+    if line.has_failed {
+        return Err(RowFault::NoLine);
+    }
+    let mut text = String::new(alloc);
+    text.push_str(line.text())?;
+    Ok(text)
 }
 
 /// A text without names or numbers, as it is typed.
 pub fn plain(alloc: Global, text: &str) -> Result<String, RowFault> {
     spelled(alloc, "", text, 0)
-}
-
-/// A line, once for each of its numbers, each with its end.
-pub fn add_lines(
-    alloc: Global,
-    names: &str,
-    line: &str,
-    out: &mut Vec<u8>,
-) -> Result<(), RowFault> {
-    let (numbers, line) = ranged(line)?;
-    for place in 0..numbers.count {
-        let line = spelled(alloc, names, line, numbers.at(place))?;
-        out.extend_from_slice(line.as_bytes())?;
-        out.push(b'\n')?;
-    }
-    Ok(())
 }

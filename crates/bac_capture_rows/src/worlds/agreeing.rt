@@ -2,52 +2,51 @@
 use crate::worlds::capture::Capture;
 use crate::worlds::counts::Counts;
 use crate::worlds::schedule::{Asked, Run, Sight, link_of};
-use crate::worlds::wrong::Wrong;
+use crate::worlds::wrong::{Judge, Wrong};
 use bac_apdu::{Apdu, Segment, read};
 use bac_explain::{Closed, Sent};
 use bac_network::{Copy, Fact, Note};
-use bac_service::{AnyReply, Complex, OwnedReply, write_reply};
-use std::alloc::Global;
+use bac_rows::row::Row;
+use bac_service::{AnyReply, Complex, OwnedReply, Reply, write_reply};
 
 /// Whether service data are those of a reply, or a segment the first of them.
 fn is_complex(
-    alloc: Global,
     segment: Option<Segment>,
     service: &[u8],
     reply: Complex<'_>,
-) -> Result<bool, Wrong> {
-    let mut whole = Vec::new(alloc);
-    write_reply(reply, &mut whole)?;
-    Ok(match segment {
+    judge: &mut Judge,
+) -> bool {
+    let mut whole = Vec::new(judge.alloc);
+    judge.needs(write_reply(reply, &mut whole).is_ok(), Wrong::NoMemory);
+    match segment {
         None => whole.as_slice() == service,
         Some(segment) => segment.number == 0 && whole.starts_with(service),
-    })
+    }
 }
 
 /// Whether an APDU gives a reply, or the first segment of it.
-fn gives(alloc: Global, octets: &[u8], reply: &OwnedReply) -> Result<bool, Wrong> {
-    let Ok(apdu) = read(octets) else {
-        return Ok(false);
-    };
-    match (apdu, reply.as_reply()) {
-        (Apdu::SimpleAck { .. }, AnyReply::Simple) => Ok(true),
+fn gives(octets: &[u8], reply: Reply<'_>, judge: &mut Judge) -> bool {
+    match (read(octets), reply) {
+        (Ok(Apdu::SimpleAck { .. }), AnyReply::Simple) => true,
         (
-            Apdu::ComplexAck {
-                segment,
-                service,
-                ..
-            },
+            Ok(
+                Apdu::ComplexAck {
+                    segment,
+                    service,
+                    ..
+                },
+            ),
             AnyReply::Complex(complex),
-        ) => is_complex(alloc, segment, service, complex),
+        ) => is_complex(segment, service, complex, judge),
         (
-            Apdu::Error { class, code, .. },
+            Ok(Apdu::Error { class, code, .. }),
             AnyReply::Error {
                 class: told,
                 code: why,
             },
-        ) => Ok(class == told && code == why),
-        (Apdu::Reject { reason, .. }, AnyReply::Reject(why)) => Ok(reason == why),
-        _ => Ok(false),
+        ) => class == told && code == why,
+        (Ok(Apdu::Reject { reason, .. }), AnyReply::Reject(why)) => reason == why,
+        _ => false,
     }
 }
 
@@ -64,29 +63,24 @@ fn is_unserved(answer: &Option<Sent>) -> bool {
 
 /// With what the request of an ask was performed.
 fn reply_of(log: &[Fact], ask: usize) -> Option<&OwnedReply> {
+    let mut found = None;
     for fact in log {
-        if let Fact::Performed { number, reply, .. } = fact {
-            if *number == ask {
-                return Some(reply);
+        match fact {
+            Fact::Performed { number, reply, .. } if found.is_none() && *number == ask => {
+                found = Some(reply);
             }
+            _ => {}
         }
     }
-    None
+    found
 }
 
 /// Whether an answer is the one that the log says of an ask.
-fn is_answer(
-    alloc: Global,
-    log: &[Fact],
-    ask: usize,
-    answer: &Option<Sent>,
-) -> Result<bool, Wrong> {
-    let Some(reply) = reply_of(log, ask) else {
-        return Ok(is_unserved(answer));
-    };
-    match answer {
-        Some(sent) => gives(alloc, &sent.octets, reply),
-        None => Ok(false),
+fn is_answer(log: &[Fact], ask: usize, answer: &Option<Sent>, judge: &mut Judge) -> bool {
+    match (reply_of(log, ask), answer) {
+        (None, answer) => is_unserved(answer),
+        (Some(reply), Some(sent)) => gives(&sent.octets, reply.as_reply(), judge),
+        (Some(_), None) => false,
     }
 }
 
@@ -100,63 +94,113 @@ fn is_of(closed: &Closed, note: &Note, asked: Asked) -> bool {
 }
 
 /// The transaction of an ask.
-fn transaction_of<'a>(
-    closed: &'a [Closed],
-    note: &Note,
-    asked: Asked,
-) -> Result<&'a Closed, Wrong> {
+fn transaction_of<'a>(closed: &'a [Closed], note: &Note, asked: Asked) -> Option<&'a Closed> {
+    let mut found = None;
     for it in closed {
-        if is_of(it, note, asked) {
-            return Ok(it);
+        if found.is_none() && is_of(it, note, asked) {
+            found = Some(it);
         }
     }
-    Err(Wrong::Transaction)
+    found
 }
 
-/// There is one transaction for each ask, which was seen as often as it passed, and answered as the log says.
-fn agrees(alloc: Global, run: &Run, passed: &[Sight], closed: &[Closed]) -> Result<(), Wrong> {
-    if closed.len() != run.asked.len() {
-        return Err(Wrong::Number);
-    }
-    let asks = run.world.asks().iter().zip(run.asked.iter());
-    for (ask, (note, asked)) in asks.enumerate() {
-        let it = &transaction_of(closed, note, *asked)?.transaction;
-        if !Counts::of(&run.world, passed, note, *asked).are_of(it) {
-            return Err(Wrong::Counts);
+/// A world that is judged, what passed in it, and its transactions.
+#[derive(Clone, Copy)]
+struct Judged<'a> {
+    run: &'a Run,
+    passed: &'a [Sight],
+    closed: &'a [Closed],
+}
+
+impl Judged<'_> {
+    /// An ask has a transaction, which was seen as often as it passed, and answered as the log says.
+    fn agrees_on(self, ask: usize, note: &Note, asked: Asked, judge: &mut Judge) {
+        let world = &self.run.world;
+        match transaction_of(self.closed, note, asked) {
+            Some(closed) => {
+                let it = &closed.transaction;
+                let counts = Counts::of(world, self.passed, note, asked);
+                judge.needs(counts.are_of(it), Wrong::Counts);
+                let is_answer = is_answer(world.log(), ask, &it.answer, judge);
+                judge.needs(is_answer, Wrong::Answer);
+            }
+            None => judge.needs(false, Wrong::Transaction),
         }
-        if !is_answer(alloc, run.world.log(), ask, &it.answer)? {
-            return Err(Wrong::Answer);
+    }
+
+    /// There is one transaction for each ask, and no other.
+    fn agrees(self, judge: &mut Judge) {
+        let is_number = self.closed.len() == self.run.asked.len();
+        judge.needs(is_number, Wrong::Number);
+        let asks = self.run.world.asks().iter().zip(self.run.asked.iter());
+        for (ask, (note, asked)) in asks.enumerate() {
+            self.agrees_on(ask, note, *asked, judge);
         }
     }
-    Ok(())
 }
 
 /// Each copy where it was sent.
-fn sent(alloc: Global, copies: &[Copy]) -> Result<Vec<Sight>, Wrong> {
-    let mut sent = Vec::new(alloc);
+fn sent(copies: &[Copy], judge: &mut Judge) -> Vec<Sight> {
+    let mut sent = Vec::new(judge.alloc);
     for (copy, it) in copies.iter().enumerate() {
-        sent.push(Sight {
+        let sight = Sight {
             moment: it.moment,
             copy,
-        })?;
+        };
+        judge.needs(sent.push(sight).is_ok(), Wrong::NoMemory);
     }
-    Ok(sent)
+    sent
 }
 
-/// A world is explained by what was sent, of which nothing is wrong, and by all that passed; how many asks were answered by their servers.
-pub(crate) fn explained(alloc: Global, requests: &[&str], seed: u64) -> Result<usize, Wrong> {
-    let run = Run::of(alloc, requests, seed)?;
-    let sent = sent(alloc, run.world.copies())?;
-    let capture = Capture::of(alloc, &run.world, &sent)?;
-    if capture.wrong > 0 {
-        return Err(Wrong::Finding);
+/// How many transactions were answered.
+fn answered(closed: &[Closed]) -> u64 {
+    let mut count = 0u64;
+    for it in closed {
+        if it.transaction.answer.is_some() {
+            count = count.saturating_add(1);
+        }
     }
-    agrees(alloc, &run, &sent, &capture.closed)?;
-    let capture = Capture::of(alloc, &run.world, &run.passed)?;
-    agrees(alloc, &run, &run.passed, &capture.closed)?;
-    let answered = capture
-        .closed
-        .iter()
-        .filter(|it| it.transaction.answer.is_some());
-    Ok(answered.count())
+    count
+}
+
+/// Explains what passed in a world, and compares; where that is all that was sent, nothing is wrong. How many asks were answered by their servers.
+fn compared(run: &Run, passed: &[Sight], is_sent: bool, judge: &mut Judge) -> u64 {
+    match Capture::of(&run.world, passed, judge) {
+        Some(capture) => {
+            judge.needs(!is_sent || capture.wrong == 0, Wrong::Finding);
+            let closed = capture.closed.as_slice();
+            let judged = Judged {
+                run,
+                passed,
+                closed,
+            };
+            judged.agrees(judge);
+            answered(closed)
+        }
+        None => 0,
+    }
+}
+
+/// A world is explained by what was sent, and by all that passed.
+fn explained(run: &Run, judge: &mut Judge) -> u64 {
+    let sent = sent(run.world.copies(), judge);
+    compared(run, &sent, true, judge);
+    compared(run, &run.passed, false, judge)
+}
+
+/// Explains the world that is made up from the number of a line.
+pub(crate) fn explain(requests: &[&str], line: &str, row: &mut Row<'_>) {
+    let Ok(seed) = line.parse::<u64>() else {
+        return row.say("? no number\n");
+    };
+    let mut judge = Judge::new(row.alloc);
+    let answered = match Run::of(requests, seed, &mut judge) {
+        Some(run) => explained(&run, &mut judge),
+        None => 0,
+    };
+    row.tell("#: ", &[seed]);
+    match judge.wrong {
+        None => row.tell("answered #\n", &[answered]),
+        Some(wrong) => row.tell_texts("? #\n", &[wrong.text()]),
+    }
 }

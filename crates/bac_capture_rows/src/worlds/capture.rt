@@ -1,9 +1,8 @@
 //! What `explain` finds in the datagrams that passed.
 use crate::worlds::schedule::{Sight, link_of};
-use crate::worlds::wrong::Wrong;
-use bac_explain::{Closed, Explainer, Finding, OPEN_LIMIT, read_sighting};
+use crate::worlds::wrong::{Judge, Wrong};
+use bac_explain::{Closed, Explainer, Finding, Heard, OPEN_LIMIT, read_sighting};
 use bac_network::{Copy, World};
-use std::alloc::Global;
 
 /// The transactions of a capture, and how many of its datagrams were wrong, negative SegmentACKs left out.
 #[derive(Drop)]
@@ -14,52 +13,63 @@ pub(crate) struct Capture {
 }
 
 impl Capture {
-    fn close(&mut self, closed: Option<Closed>) -> Result<(), Wrong> {
+    fn close(&mut self, closed: Option<Closed>, judge: &mut Judge) {
         if let Some(closed) = closed {
-            self.closed.push(closed)?;
+            judge.needs(self.closed.push(closed).is_ok(), Wrong::NoMemory);
         }
-        Ok(())
     }
 
-    fn see(&mut self, alloc: Global, now: u64, copy: &Copy) -> Result<(), Wrong> {
-        let seen = read_sighting(link_of(copy.from), link_of(copy.to), &copy.octets);
-        let Some(seen) = seen else {
-            return Err(Wrong::Datagram);
-        };
-        let over = self.explainer.pop_over(now);
-        self.close(over)?;
-        let heard = self.explainer.hear(alloc, now, seen, true)?;
-        self.close(heard.closed)?;
+    /// Notes what came of a datagram.
+    fn note(&mut self, heard: Heard, judge: &mut Judge) {
         match heard.finding {
             None | Some(Finding::NegativeAck) => {}
             Some(_) => self.wrong = self.wrong.saturating_add(1),
         }
-        Ok(())
+        self.close(heard.closed, judge);
     }
 
-    fn end(&mut self) -> Result<(), Wrong> {
+    fn see(&mut self, now: u64, copy: &Copy, judge: &mut Judge) {
+        let over = self.explainer.pop_over(now);
+        self.close(over, judge);
+        match read_sighting(link_of(copy.from), link_of(copy.to), &copy.octets) {
+            Some(seen) => match self.explainer.hear(judge.alloc, now, seen, true) {
+                Ok(heard) => self.note(heard, judge),
+                Err(_) => judge.needs(false, Wrong::NoMemory),
+            },
+            None => judge.needs(false, Wrong::Datagram),
+        }
+    }
+
+    /// Explains what passed in a world; None for want of memory.
+    pub(crate) fn of(world: &World, passed: &[Sight], judge: &mut Judge) -> Option<Capture> {
+        match Explainer::new(judge.alloc) {
+            Ok(explainer) => {
+                let mut capture = Capture {
+                    explainer,
+                    closed: Vec::new(judge.alloc),
+                    wrong: 0,
+                };
+                capture.see_all(world, passed, judge);
+                Some(capture)
+            }
+            Err(_) => {
+                judge.needs(false, Wrong::NoMemory);
+                None
+            }
+        }
+    }
+
+    fn see_all(&mut self, world: &World, passed: &[Sight], judge: &mut Judge) {
+        for sight in passed {
+            if let Some(copy) = world.copies().get(sight.copy) {
+                self.see(sight.moment, copy, judge);
+            }
+        }
         for _ in 0..OPEN_LIMIT {
             match self.explainer.pop() {
-                Some(closed) => self.closed.push(closed)?,
+                Some(closed) => self.close(Some(closed), judge),
                 None => break,
             }
         }
-        Ok(())
-    }
-
-    /// Explains what passed in a world.
-    pub(crate) fn of(alloc: Global, world: &World, passed: &[Sight]) -> Result<Capture, Wrong> {
-        let mut capture = Capture {
-            explainer: Explainer::new(alloc)?,
-            closed: Vec::new(alloc),
-            wrong: 0,
-        };
-        for sight in passed {
-            if let Some(copy) = world.copies().get(sight.copy) {
-                capture.see(alloc, sight.moment, copy)?;
-            }
-        }
-        capture.end()?;
-        Ok(capture)
     }
 }

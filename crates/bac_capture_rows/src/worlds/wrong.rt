@@ -1,8 +1,5 @@
 //! Why a world can't run, or is explained otherwise than its log says.
-use bac_network::{NewWorldFault, WorldFault};
-use bac_service_text::FormFault;
-use bac_value::NoMemory;
-use std::alloc::{AllocError, AllocFailed};
+use std::alloc::Global;
 
 /// Why a world can't run, or is explained otherwise than its log says.
 #[derive(Clone, Copy)]
@@ -41,47 +38,23 @@ impl Wrong {
     }
 }
 
-impl From<NoMemory> for Wrong {
-    fn from(_error: NoMemory) -> Wrong {
-        Wrong::NoMemory
-    }
+/// Notes the first thing that is wrong.
+#[derive(Clone, Copy)]
+pub(crate) struct Judge {
+    pub(crate) alloc: Global,
+    pub(crate) wrong: Option<Wrong>,
 }
 
-impl From<AllocError> for Wrong {
-    fn from(_error: AllocError) -> Wrong {
-        Wrong::NoMemory
+impl Judge {
+    /// Nothing is wrong yet.
+    pub(crate) fn new(alloc: Global) -> Judge {
+        Judge { alloc, wrong: None }
     }
-}
 
-impl<T: Drop> From<AllocFailed<T>> for Wrong {
-    fn from(_error: AllocFailed<T>) -> Wrong {
-        Wrong::NoMemory
-    }
-}
-
-impl From<FormFault> for Wrong {
-    fn from(fault: FormFault) -> Wrong {
-        match fault {
-            FormFault::NoMemory => Wrong::NoMemory,
-            FormFault::NoForm => Wrong::Event,
-        }
-    }
-}
-
-impl From<NewWorldFault> for Wrong {
-    fn from(fault: NewWorldFault) -> Wrong {
-        match fault {
-            NewWorldFault::NoMemory => Wrong::NoMemory,
-            _ => Wrong::Event,
-        }
-    }
-}
-
-impl From<WorldFault> for Wrong {
-    fn from(fault: WorldFault) -> Wrong {
-        match fault {
-            WorldFault::NoMemory => Wrong::NoMemory,
-            _ => Wrong::Event,
+    /// Notes that this is wrong, where that is false.
+    pub(crate) fn needs(&mut self, is: bool, wrong: Wrong) {
+        if !is && self.wrong.is_none() {
+            self.wrong = Some(wrong);
         }
     }
 }
