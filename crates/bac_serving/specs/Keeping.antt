@@ -41,7 +41,7 @@ abbrev pub is_followed : Serving → (objects : Option (List ℕ)) → Bool
 is_followed serving None = false
 is_followed serving (Some path) = serving.follow
 
--- what a keeper lies over in the end: what it lay over at first; where a document was followed, what that was last
+-- what a keeper lies over in the end: what it lay over at first; where a document was followed, nothing is said of it
 abbrev pub LiesOver : {B : Type 0} → (followed : Bool) → (first last : B) → Type 0
 LiesOver false first last = last ≡ first
 LiesOver true first last = ⊤
@@ -57,7 +57,7 @@ pub record HasStore {D : Type 0} (view : D → View) (opened : D) (document stor
   pub noted : IsClean (view database) → overlay (cells_of (view database).trees) document ≡ store
 
 -- a database that the machine opened at a path, and that is so in the end: as long as it is honest, it was so at first, the first store is what it had
--- committed over the document, and the next start, over that document or what it was last, finds the last one, whatever a power cut leaves
+-- committed over the document, or where it was followed over some store, and the next start over that finds the last one, whatever a power cut leaves
 pub record OnDatabase {D : Type 0} (IsDatabase : (path : List ℕ) → (is_new : Bool) → D → Type 0) (view : D → View) (recovers : D → Trees → Type 0)
     (followed : Bool) (path : List ℕ) (is_new : Bool) (document first last : Store) : Type 0 where
   pub opened : D
