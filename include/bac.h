@@ -86,6 +86,7 @@ typedef struct bac_settings {
     size_t client_slots;   /* how many client requests it holds, each until 135,000 ms after it was first sent, even if it has ended: 1 to 65,536. Each takes
                               30 octets from the start, whether it is in use or not */
     size_t reply_slots;    /* how many requests it remembers, each for 65,000 ms: 1 to 65,536. Where all slots are held, a new one is answered by Abort 0.
+                              With reuse_invoke_ids they are shared: an IP address that holds more than 15 for each that would stay free gets Abort 0 too.
                               Each takes 30 octets from the start, and some 240 in all while it remembers a short response */
     bool reuse_invoke_ids; /* whether a client, of another vendor say, may use an invoke ID again as soon as its transaction is over (clause 5.4).
                               false: for 65,000 ms an equal request of the same client under the same invoke ID gets the old response and is not performed, a

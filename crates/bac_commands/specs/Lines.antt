@@ -1,5 +1,5 @@
 -- The lines of a turn.
-use Rattle.std.specs.Prelude.{◌≡◌, ◌==◌, ℕ, ◌+◌, ◌-◌, ◌≤◌, ◌<◌, min, nat_le, nat_lt, count_by, Bool, true, false, ◌&&◌, not, List, [], ◌∷◌, ◌++◌, codes, length, take}
+use Rattle.std.specs.Prelude.{◌≡◌, ◌==◌, ℕ, ◌+◌, ◌-◌, ◌≤◌, ◌<◌, min, nat_le, nat_lt, count_by, Bool, true, false, ◌&&◌, ◌||◌, not, List, [], ◌∷◌, ◌++◌, codes, length, take}
 use Rattle.std.specs.Prelude.{Option, Some, None, if◌then◌else◌}
 use Rattle.std.specs.Option.{option_map}
 use Rattle.bac_protocol.specs.Service.{Octets}
@@ -9,6 +9,7 @@ use Rattle.bac_npdu.specs.Npdu.{NpduView}
 use Rattle.bac_npdu.specs.Peers.{PeerView}
 use Rattle.bac_transaction.specs.Ends.{ServerEnd, is_slot_live}
 use Rattle.bac_transaction.specs.Sends.{Datagram}
+use Rattle.bac_transaction.specs.Sharing.{address_of, has_share}
 use Rattle.bac_world.specs.Node.{Cause}
 use Rattle.bac_world.specs.Services.{Performed}
 use Rattle.bac_requester.specs.Timers.{LAST_MOMENT}
@@ -29,8 +30,19 @@ use Rattle.bac_commands.specs.declared.log_settings.LogSettings.{LogSettings}
 abbrev pub is_full : (now : ℕ) → ServerEnd → Bool
 is_full now e = nat_le e.capacity (count_by (is_slot_live now) e.slots)
 
-abbrev pub away_words : (serves_from now : ℕ) → ServerEnd → List ℕ
-away_words from now e = if nat_lt now from then codes ", restarted" else (if is_full now e then codes ", table full" else [])
+-- no slot is free for a peer at that link: each is live, or slots are shared and its IP address has no share
+abbrev pub is_full_for : (shares : Bool) → (now : ℕ) → (link : Octets) → ServerEnd → Bool
+is_full_for shares now link e = is_full now e || (shares && not (has_share now (address_of link) e))
+
+-- the same of the sender of what came, if anything did
+abbrev pub is_full_to : (shares : Bool) → (now : ℕ) → Option (Octets × ℕ) → ServerEnd → Bool
+is_full_to shares now None e = is_full now e
+is_full_to shares now (Some d) e = is_full_for shares now d.0 e
+
+abbrev pub away_words : LogSettings → Turn → ServerEnd → List ℕ
+away_words settings turn e =
+    if nat_lt turn.at settings.serves_from then codes ", restarted"
+    else (if is_full_to settings.shares turn.at turn.received e then codes ", table full" else [])
 
 -- an Unconfirmed-Request has no invoke ID
 abbrev pub id_of : Apdu → Option ℕ
@@ -86,7 +98,7 @@ pub record IsRestText (f : LogFormat) (turn : Turn) (text : List ℕ) : Type 0 w
 
 pub record AreTurnLines (settings : LogSettings) (s : Seen) (text : List ℕ) : Type 0 where
   pub came : List ℕ
-  pub is_came : IsReceivedText settings.format (away_words settings.serves_from s.turn.at s.node.servers) s.turn s.buffer s.turn.received came
+  pub is_came : IsReceivedText settings.format (away_words settings s.turn s.node.servers) s.turn s.buffer s.turn.received came
   pub rest : List ℕ
   pub is_rest : IsRestText settings.format s.turn rest
   pub is : text ≡ came ++ rest
@@ -104,9 +116,10 @@ is_refused (Some p) sends = false
 is_refused None [] = false
 is_refused None (d ∷ ds) = is_refusal (apdu_in d.octets)
 
--- the line of what came says that the table is full
-abbrev pub is_turned_away : (serves_from : ℕ) → Turn → ServerEnd → Bool
-is_turned_away from turn e = is_refused (performed_of turn.heard) (sends_of turn.heard) && (nat_le from turn.at && is_full turn.at e)
+-- the line of what came says that the table is full, for its sender at least
+abbrev pub is_turned_away : LogSettings → Turn → ServerEnd → Bool
+is_turned_away settings turn e =
+    is_refused (performed_of turn.heard) (sends_of turn.heard) && (nat_le settings.serves_from turn.at && is_full_to settings.shares turn.at turn.received e)
 
 -- how many were turned away, with that of a turn; the count stays at its last value
 abbrev pub counts_away : (is_one : Bool) → (away : ℕ) → ℕ

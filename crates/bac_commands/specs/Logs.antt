@@ -15,8 +15,8 @@ abbrev pub NONE_AWAY : Tally
 NONE_AWAY = record { away = 0; said = None }
 
 -- how many were turned away since the last line of them, with what a turn did
-abbrev pub counted : (serves_from : ℕ) → Seen → Tally → ℕ
-counted from s t = counts_away (is_turned_away from s.turn s.node.servers) t.away
+abbrev pub counted : LogSettings → Seen → Tally → ℕ
+counted settings s t = counts_away (is_turned_away settings s.turn s.node.servers) t.away
 
 -- so many, and once that is said, if it is
 abbrev pub told_at : (at away : ℕ) → Tally → Tally
@@ -39,8 +39,8 @@ written_in l = record { tally = l.tally; text = l.text }
 
 -- the lines of a turn were written
 pub record Prints (settings : LogSettings) (s : Seen) (old new : Written) : Type 0 where
-  pub tally : new.tally ≡ told_at s.turn.at (counted settings.serves_from s old.tally) old.tally
-  pub tells : AppendsText old.text new.text (AreLogLines settings s (counted settings.serves_from s old.tally) old.tally.said)
+  pub tally : new.tally ≡ told_at s.turn.at (counted settings s old.tally) old.tally
+  pub tells : AppendsText old.text new.text (AreLogLines settings s (counted settings s old.tally) old.tally.said)
 
 -- while the log is whole
 pub record IsWritten (s : Seen) (old new : Log) : Type 0 where

@@ -11,7 +11,7 @@ ghost use Rattle.bac_driver.specs.Views.{turn_view};
 ghost use Rattle.bac_log_json.specs.Logs.{Dropped};
 ghost use Rattle.bac_commands.specs.EventTexts.{IsEventText};
 ghost use Rattle.bac_commands.specs.Lines.{AreTurnLines, IsCameText, IsHeardText, IsNpduText, IsReceivedText, IsRestText};
-ghost use Rattle.bac_commands.specs.Lines.{away_words, id_of, is_full, request_and_reply};
+ghost use Rattle.bac_commands.specs.Lines.{away_words, id_of, is_full, is_full_for, is_full_to, request_and_reply};
 ghost use Rattle.bac_commands.specs.LogWords as words;
 
 use crate::came::asking_words;
@@ -40,13 +40,30 @@ pub(crate) fn is_full(now: u64, node: &Node) -> bool
     node.reply_slots() <= node.live(now)
 }
 
-/// Why a request is turned away, of a server that serves from a moment on.
-pub(crate) fn away_words(serves_from: u64, now: u64, node: &Node) -> &'static str
-    ensures { result.now ≡ away_words serves_from now node.now.servers }
+/// Whether no slot is free for a peer at a link: each is live, or slots are shared and its IP address has no share.
+fn is_full_for(shares: bool, now: u64, link: &LinkAddress, node: &Node) -> bool
+    ensures { result ≡ is_full_for shares now link.now node.now.servers }
 {
-    if now < serves_from {
+    is_full(now, node) || (shares && !node.has_share(now, link))
+}
+
+/// The same of the sender of what came in a turn, if anything did.
+pub(crate) fn is_full_to(shares: bool, turn: &Turn, node: &Node) -> bool
+    ensures { result ≡ is_full_to shares turn.now.at turn.now.received node.now.servers }
+{
+    match turn.received {
+        None => is_full(turn.at, node),
+        Some(datagram) => is_full_for(shares, turn.at, &datagram.0, node),
+    }
+}
+
+/// Why a request is turned away in a turn.
+pub(crate) fn away_words(settings: &LogSettings, turn: &Turn, node: &Node) -> &'static str
+    ensures { result.now ≡ away_words settings.now (turn_view turn.now) node.now.servers }
+{
+    if turn.at < settings.serves_from {
         ", restarted"
-    } else if is_full(now, node) {
+    } else if is_full_to(settings.shares, turn, node) {
         ", table full"
     } else {
         ""
@@ -207,7 +224,7 @@ pub(crate) fn turn_lines(
     let telling = Telling {
         alloc,
         format: settings.format,
-        away: away_words(settings.serves_from, turn.at, node),
+        away: away_words(&settings, turn, node),
         turn,
     };
     let mut text = received_text(telling, buffer)?;

@@ -31,11 +31,11 @@ impl Tally {
         said: None,
     };
 
-    /// How many were turned away, with what a turn did, of a server that serves from a moment on.
-    pub(crate) fn counted(&self, serves_from: u64, node: &Node, turn: &Turn) -> u64
-        ensures { result ≡ counts_away (is_turned_away serves_from (turn_view turn.now) node.now.servers) self.now.away }
+    /// How many were turned away, with what a turn did.
+    pub(crate) fn counted(&self, settings: &LogSettings, node: &Node, turn: &Turn) -> u64
+        ensures { result ≡ counts_away (is_turned_away settings.now (turn_view turn.now) node.now.servers) self.now.away }
     {
-        counts_away(is_turned_away(serves_from, node, turn), self.away)
+        counts_away(is_turned_away(settings, node, turn), self.away)
     }
 
     /// The tally where `away` were turned away up to a moment: the same count, or none once it is said at that moment.
@@ -96,7 +96,7 @@ impl<W: Write> Observer<W> for Log {
 
     fn on_turn(&mut self, node: &Node, buffer: &[u8], turn: &Turn, out: &mut W) {
         if self.whole {
-            let away = self.tally.counted(self.settings.serves_from, node, turn);
+            let away = self.tally.counted(&self.settings, node, turn);
             self.whole = write_turn(self, away, node, buffer, turn, out).is_ok();
             self.tally = self.tally.told_at(turn.at, away);
         }

@@ -164,7 +164,7 @@ impl<W: Write> Observer<W> for LevelLog {
 
     fn on_turn(&mut self, node: &Node, buffer: &[u8], turn: &Turn, out: &mut W) {
         if self.is_on() {
-            let away = self.tally.counted(self.settings.serves_from, node, turn);
+            let away = self.tally.counted(&self.settings, node, turn);
             // the lines of this turn tell of it
             self.tally.away = away;
             self.is_whole = self.write_turn(node, buffer, turn, out).is_ok();

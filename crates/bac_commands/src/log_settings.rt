@@ -18,4 +18,6 @@ pub struct LogSettings {
     pub format: LogFormat,
     /// The first moment at which the server performs requests, in milliseconds: 0 where it did not restart.
     pub serves_from: u64,
+    /// Whether it shares its slots among IP addresses.
+    pub shares: bool,
 }

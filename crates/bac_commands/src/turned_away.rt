@@ -1,4 +1,4 @@
-//! Requests that a server turns away since its reply table is full: how many, and when a slot gets free. `Log` and `LevelLog` call it.
+//! Requests that a server turns away since its reply table is full, for their senders at least: how many, and when a slot gets free. `Log` and `LevelLog` call it.
 ghost use Rattle.std.specs.Prelude.{◌≡◌, IfOk};
 ghost use Rattle.std.specs.Option.{option_map};
 ghost use Rattle.bac_apdu.specs.Views.{apdu_view};
@@ -8,9 +8,9 @@ ghost use Rattle.bac_commands.specs.Lines.{IsFullLine, IsFullText, counts_away, 
 
 use crate::event_text::event_text;
 use crate::frames::apdu_in;
-use crate::lines::is_full;
+use crate::lines::is_full_to;
 use crate::log::Tally;
-use crate::log_settings::LogFormat;
+use crate::log_settings::{LogFormat, LogSettings};
 use bac_apdu::Apdu;
 use bac_driver::{Turn, sends_of};
 use bac_log_json::LogEvent;
@@ -46,12 +46,12 @@ fn is_refused(effect: Option<&Act>, sends: &[Datagram]) -> bool
     }
 }
 
-/// Whether a turn turned a request away since the table is full, of a server that serves from a moment on.
-pub(crate) fn is_turned_away(serves_from: u64, node: &Node, turn: &Turn) -> bool
-    ensures { result ≡ is_turned_away serves_from (turn_view turn.now) node.now.servers }
+/// Whether a turn turned a request away since the table is full, for its sender at least.
+pub(crate) fn is_turned_away(settings: &LogSettings, node: &Node, turn: &Turn) -> bool
+    ensures { result ≡ is_turned_away settings.now (turn_view turn.now) node.now.servers }
 {
     is_refused(turn.effect(), sends_of(&turn.heard))
-        && (serves_from <= turn.at && is_full(turn.at, node))
+        && (settings.serves_from <= turn.at && is_full_to(settings.shares, turn, node))
 }
 
 /// One more, if there is one; the count stays at its last value.

@@ -12,6 +12,7 @@ use Rattle.bac_protocol.specs.Context.{Settings}
 use Rattle.bac_protocol.specs.Pace.{Clock, IsShown, IsTimely, clock_at, goes_on, most}
 use Rattle.bac_protocol.specs.declared.times.TheConstants.{DEADLINE}
 use Rattle.bac_protocol.specs.Service.{Octets, Readable}
+use Rattle.bac_protocol.specs.Own.{invoke_id_of}
 use Rattle.bac_protocol.specs.Wire.{is_from_client}
 use Rattle.bac_protocol.specs.Transaction.{Rules}
 use Rattle.bac_protocol.specs.World.{Net, Post, net_start}
@@ -22,7 +23,7 @@ use Rattle.bac_transaction.specs.Keys.{PeerKey, same_key}
 use Rattle.bac_transaction.specs.Ends.{Client, ClientEnd, TransactionSlot, Accepted, requester_on_apdu_at, requester_on_apdu_in_slot, key_of}
 use Rattle.bac_transaction.specs.Ends.TransactionSlot.{Open, Closed}
 use Rattle.bac_transaction.specs.Services.{service_of}
-use Rattle.bac_world.specs.Node.{Node, Outcome, IsDropped, NodeTick, NodeAsks, with_change}
+use Rattle.bac_world.specs.Node.{Node, Outcome, IsDropped, IsServerTurn, NodeTick, NodeAsks, with_change}
 use Rattle.bac_world.specs.ReusingLogs.{IsOnceSo, Reuses}
 use Rattle.bac_world.specs.ReusingNodes.{NodeHears}
 use Rattle.bac_world.specs.ReusingWorlds.{DeliversIfSo, HearsSo, WorldRunSo, WorldStepSo}
@@ -33,8 +34,8 @@ use Rattle.bac_transaction.specs.Sends.{Datagram}
 use Rattle.bac_world.specs.World.{WorldRun, IsFresh, IsBounded}
 use Rattle.bac_world.specs.World.Event.{Ask, AskAway, Deliver, Noise, Stray, Tick, Advance, Change, Restart, Begin, BeginAgain}
 use Rattle.bac_world.proofs.Pairs.{IsPaired, pairwise_get}
-use Rattle.bac_world.proofs.Bridge.{IsCopyOf, IsBetween, framed_means}
-use Rattle.bac_world.proofs.Settings.{Mode, always}
+use Rattle.bac_world.proofs.Bridge.{IsCopyOf, IsBetween, framed_means, slot_key}
+use Rattle.bac_world.proofs.Settings.{Mode, always, hears_at}
 use Rattle.bac_world.proofs.Steps.{Over, decide_number, each_with}
 use Rattle.bac_world.proofs.Asking.{accepted_is}
 use Rattle.bac_world.proofs.Headline.{run_over_so, rules_of, rules_bounded, fresh_over, reached_once_more, long_bounded, room}
@@ -68,8 +69,8 @@ slot_asked c r now p e q (Some s) = held_asked c r now p e q s.number s.held
 heard_counted : (reuse up : Bool) (peer : PeerView) (p : Apdu) (now : ℕ) (a b : Node) (o : Outcome) → IsHeardInBy reuse up peer p now a b o
     → IsCounted now 0 a b
 heard_counted reuse true peer p now a b o t = record {
-  latest = ap (λ (n : Node). n.latest) t.node;
-  asked = ap (λ (n : Node). n.clients.asked) t.node ∙ no_more a.clients.asked;
+  latest = ap (λ (n : Node). n.latest) t.1.node;
+  asked = ap (λ (n : Node). n.clients.asked) t.1.node ∙ no_more a.clients.asked;
 }
 heard_counted reuse false peer p now a b o t = record {
   latest = ap (λ (n : Node). n.latest) t.node;
@@ -368,8 +369,9 @@ module _ (links : ℕ → Option Octets) (apart : (i j : ℕ) (l : Octets) → l
   by_way number p c at k a b o node l link true between turn =
       subst (λ (i : ℕ). Enters links apart W x bound mode w n h i b o) (sym between.1)
       (server_enters links apart W x bound mode w n h number p at a b o (subst (λ (i : ℕ). slice_get w.nodes i ≡ Some a) between.1 node) l
-      (subst (λ (i : ℕ). links i ≡ Some l) between.0 link) k.invoke (service_of a.store)
-      (subst (λ (i : ℕ). IsHeardInBy (u i) true (peer_at l) p.copy.apdu (told w i) a b o) between.1 turn))
+      (subst (λ (i : ℕ). links i ≡ Some l) between.0 link) k.invoke (service_of a.store) turn.0
+      (subst (λ (i : ℕ). IsServerTurn (hears_at turn.0 (u i) a.settings (told w i) (service_of a.store) (slot_key l (invoke_id_of p.copy.apdu)) p.copy.apdu a.servers)
+      (told w i) a b o) between.1 turn.1))
   by_way number p c at k a b o node l link false between turn =
       subst (λ (i : ℕ). Enters links apart W x bound mode w n h i b o) (sym between.1)
       (client_enters links apart W x bound mode w n h p a b o (subst (λ (i : ℕ). slice_get w.nodes i ≡ Some a) between.1 node) l

@@ -23,7 +23,7 @@ use Rattle.bac_slots.specs.Slots.{value_at}
 use Rattle.bac_transaction.specs.Keys.{PeerKey, same_key}
 use Rattle.bac_transaction.specs.Sends.{Datagram, Pairwise, IsSent, to_all}
 use Rattle.bac_transaction.specs.Meanings.{EndedView, IsEndedView}
-use Rattle.bac_transaction.specs.Ends.{Client, ClientTurn, TransactionSlot, act_at, is_free, context_of, client_goes, requester_on_apdu, requester_on_apdu_at, requester_on_apdu_in_slot}
+use Rattle.bac_transaction.specs.Ends.{Client, ClientTurn, TransactionSlot, act_at, context_of, client_goes, requester_on_apdu, requester_on_apdu_at, requester_on_apdu_in_slot}
 use Rattle.bac_transaction.specs.Ends.{ServerEnd, stays}
 use Rattle.bac_transaction.specs.Reuse.{is_read}
 use Rattle.bac_transaction.specs.Ends.TransactionSlot.{Open, Closed}
@@ -36,7 +36,7 @@ use Rattle.bac_world.proofs.Pairs.{pairwise_none}
 use Rattle.bac_world.proofs.Bridge.{IsWay, TicketFits, here_at, there_at, key_of, slot_key}
 use Rattle.bac_world.proofs.Steps.{Over, Fits}
 use Rattle.bac_world.proofs.Serving.{each_of_server}
-use Rattle.bac_world.proofs.Settings.{end_heard, hears_at, Mode}
+use Rattle.bac_world.proofs.Settings.{free_for, hears_at, Mode}
 use Rattle.bac_world.proofs.Reused.{hears_own, hears_same}
 use Rattle.bac_world.proofs.Hearing.{ticket_at}
 use Rattle.bac_journal.specs.Entering.{Every, CanLeave, IsNoted, IsOfClient, AreOfPeerSo, CanEnterSo}
@@ -73,7 +73,8 @@ module _ (links : ℕ → Option Octets) (apart : (i j : ℕ) (l : Octets) → l
   module _ (number : ℕ) (p : Post) (at : slice_get n.posts number ≡ Some p) (a b : Node) (o : Outcome)
       (node : slice_get w.nodes p.key.server ≡ Some a) (l : Octets)
       (client_at : links p.key.client ≡ Some l) (invoke : invoke_id_of p.copy.apdu ≡ p.key.invoke_id) (service : Service)
-      (turn : IsServerTurn (hears_at (mode.now p.key.server) a.settings (told w p.key.server) service (slot_key l (invoke_id_of p.copy.apdu)) p.copy.apdu a.servers)
+      (allowed : Bool)
+      (turn : IsServerTurn (hears_at allowed (mode.now p.key.server) a.settings (told w p.key.server) service (slot_key l (invoke_id_of p.copy.apdu)) p.copy.apdu a.servers)
       (told w p.key.server) a b o) where
     abbrev key : Key
     key = p.key
@@ -93,12 +94,9 @@ module _ (links : ℕ → Option Octets) (apart : (i j : ℕ) (l : Octets) → l
     abbrev reuse : Bool
     reuse = mode.now p.key.server
 
-    -- the end before it is heard, and whether a slot is free then
-    abbrev end : (now id : ℕ) → ServerEnd
-    end now id = end_heard (mode.now p.key.server) now (slot_key l id) p.copy.apdu a.servers
-
+    -- whether an entry may begin then
     abbrev free : Bool
-    free = is_free (there_at n p.key.server) (end (there_at n p.key.server) p.key.invoke_id)
+    free = free_for allowed (mode.now p.key.server) (there_at n p.key.server) (slot_key l p.key.invoke_id) p.copy.apdu a.servers
 
     abbrev gets : Option ServerTransaction → server.Reaction
     gets e = server_hears (mode.now p.key.server) (server_context x p.key (there_at n p.key.server)) service is_read e free p.copy.apdu
@@ -114,7 +112,7 @@ module _ (links : ℕ → Option Octets) (apart : (i j : ℕ) (l : Octets) → l
       where
         sends_for : Settings → (now id : ℕ) → List Apdu
         sends_for c now id = (server_hears reuse (context_of c now (slot_key l id)) service is_read (value_at same_key (slot_key l id) a.servers.slots)
-            (is_free now (end now id)) apdu).sends
+            (free_for allowed reuse now (slot_key l id) apdu a.servers) apdu).sends
 
         so : (c : Settings) (now id : ℕ) → c ≡ a.settings → now ≡ (told w p.key.server) → id ≡ invoke_id_of apdu
             → Pairwise IsSent (to_all (peer_at l) (sends_for a.settings (told w p.key.server) (invoke_id_of apdu))) o.sends
@@ -129,7 +127,7 @@ module _ (links : ℕ → Option Octets) (apart : (i j : ℕ) (l : Octets) → l
         heard : server.Reaction
         heard = server_hears reuse (context_of a.settings (told w p.key.server) (slot_key l (invoke_id_of apdu))) service is_read
             (value_at same_key (slot_key l (invoke_id_of apdu)) a.servers.slots)
-            (is_free (told w p.key.server) (end (told w p.key.server) (invoke_id_of apdu))) apdu
+            (free_for allowed reuse (told w p.key.server) (slot_key l (invoke_id_of apdu)) apdu a.servers) apdu
 
         so : (e : Option Effect) → ArePerformed a.store (act_at (slot_key l (invoke_id_of apdu)) e) (Some d) → d.key ≡ q
         so None y = absurd y

@@ -20,7 +20,7 @@ use Rattle.bac_slots.specs.Slots.{value_at}
 use Rattle.bac_transaction.specs.Keys.{PeerKey, same_key}
 use Rattle.bac_transaction.specs.Sends.{IsSent, to_all}
 use Rattle.bac_transaction.specs.Meanings.{EndedView, IsEndedView}
-use Rattle.bac_transaction.specs.Ends.{Client, ClientTurn, TransactionSlot, act_at, is_free, put_entry, context_of, client_goes, requester_on_apdu_at}
+use Rattle.bac_transaction.specs.Ends.{Client, ClientTurn, TransactionSlot, act_at, put_entry, context_of, client_goes, requester_on_apdu_at}
 use Rattle.bac_transaction.specs.Ends.{ServerEnd, requester_on_apdu_in_slot, stays, key_of as heard_key}
 use Rattle.bac_transaction.specs.Reuse.{is_read}
 use Rattle.bac_transaction.specs.Ends.TransactionSlot.{Open, Closed}
@@ -37,7 +37,7 @@ use Rattle.bac_world.proofs.StrangersHeard.{live_for}
 use Rattle.bac_world.proofs.Table.{none_left}
 use Rattle.bac_world.proofs.Hearing.{ticket_at}
 use Rattle.bac_world.proofs.Heard.{IsHeardInBy}
-use Rattle.bac_world.proofs.Settings.{end_heard, hears_at, Mode}
+use Rattle.bac_world.proofs.Settings.{free_for, hears_at, Mode}
 use Rattle.bac_world.proofs.Reused.{hears_same}
 use Rattle.bac_journal.specs.Entering.{Every, IsNoted, AreOfPeerSo}
 use Rattle.bac_journal.proofs.Few.{EntryFew, client_gets_few, hears_few, far_entries_few}
@@ -79,7 +79,7 @@ module _ (links : ℕ → Option Octets) (apart : (i j : ℕ) (l : Octets) → l
 
   -- At the server's end.
 
-  module _ (turn : IsServerTurn (hears_at (mode.now i) a.settings (told w i) (service_of a.store) (heard_key peer apdu) apdu a.servers) (told w i) a b o) where
+  module _ (allowed : Bool) (turn : IsServerTurn (hears_at allowed (mode.now i) a.settings (told w i) (service_of a.store) (heard_key peer apdu) apdu a.servers) (told w i) a b o) where
     abbrev now : ℕ
     now = told w i
 
@@ -89,12 +89,9 @@ module _ (links : ℕ → Option Octets) (apart : (i j : ℕ) (l : Octets) → l
     abbrev service : Service
     service = service_of a.store
 
-    -- the end before it is heard, and whether a slot is free then
-    abbrev end : Bool → ServerEnd
-    end reuse = end_heard reuse (told w i) (heard_key peer apdu) apdu a.servers
-
+    -- whether an entry may begin then
     abbrev free : Bool → Bool
-    free reuse = is_free (told w i) (end reuse)
+    free reuse = free_for allowed reuse (told w i) (heard_key peer apdu) apdu a.servers
 
     abbrev entry : Option ServerTransaction
     entry = value_at same_key (heard_key peer apdu) a.servers.slots
@@ -121,7 +118,7 @@ module _ (links : ℕ → Option Octets) (apart : (i j : ℕ) (l : Octets) → l
         omega arith
 
     -- where it lets no invoke ID be used again, what was performed is kept in the entry
-    of_stranger : (reuse : Bool) → IsServerTurn (hears_at reuse a.settings (told w i) (service_of a.store) p apdu a.servers) (told w i) a b o
+    of_stranger : (reuse : Bool) → IsServerTurn (hears_at allowed reuse a.settings (told w i) (service_of a.store) p apdu a.servers) (told w i) a b o
         → (d : Option Performed) → o.performed ≡ d → AreOfPeerSo reuse w i b d
     of_stranger true turn None is = tt
     of_stranger false turn None is = tt
@@ -197,5 +194,5 @@ module _ (links : ℕ → Option Octets) (apart : (i j : ℕ) (l : Octets) → l
   slot (Some v) is turn = held v.number v.held is turn
 
   pub stranger_enters : (up : Bool) → IsHeardInBy (mode.now i) up peer apdu (told w i) a b o → Enters links apart W x bound mode w n h i b o
-  stranger_enters true turn = server_outside turn
+  stranger_enters true turn = server_outside turn.0 turn.1
   stranger_enters false turn = slot (value_at same_key p a.clients.slots) refl turn

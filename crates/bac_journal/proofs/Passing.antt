@@ -21,7 +21,7 @@ unfolding most
 one_most ms = omega arith
 
 -- a part is a millisecond
-pub by_one : (n : ℕ) → n / 1 ≡ n
+pub by_one : (n : ℕ) → 1 * (n / 1) ≡ n
 by_one n = omega arith
 
 no_slack : (by : ℕ) → slack one_clock by ≡ 0

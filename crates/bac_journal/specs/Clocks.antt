@@ -5,9 +5,9 @@ use Rattle.bac_world.specs.World.{Time}
 use Rattle.bac_journal.specs.declared.clocks.NodeClock.{NodeClock}
 use Rattle.bac_journal.specs.declared.clocks.OwnClocks as clocks
 
--- a part is a millionth of a millisecond; life is in milliseconds
+-- a part is a millionth of a millisecond, and each clock shows its whole milliseconds; life is in milliseconds
 abbrev pub own_pace : (drift life : ℕ) → Pace
-own_pace drift life = record { grain = 1000000; drift = drift; life = 1000000 * life }
+own_pace drift life = record { grain = 1000000; tick = 1; drift = drift; life = 1000000 * life }
 
 -- where each node has a clock of its own: how many milliseconds of real time have passed, the pace of the clocks, and what is kept of each
 pub record OwnClocks : Type 0 where

@@ -1,16 +1,15 @@
 -- One ask by the clocks of its two ends, on any path of steps.
-use Rattle.std.proofs.Common.{◌≡◌, ℕ, zero, suc, ◌+◌, ◌-◌, ◌*◌, ◌/◌, ◌<◌, ◌≤◌, ◌⊎◌, Bool, true, false, if◌then◌else◌, nat_eq, min, refl, ap, subst, ◌∙◌, nat_le, inl, inr, arith}
+use Rattle.std.proofs.Common.{◌≡◌, ℕ, ◌+◌, ◌-◌, ◌*◌, ◌/◌, ◌<◌, ◌≤◌, ◌⊎◌, Bool, true, false, if◌then◌else◌, nat_eq, min, refl, ap, subst, ◌∙◌, nat_le, inl, inr, arith}
 use Rattle.std.proofs.lemmas.Bool.Decides.{nat_tests}
-use Rattle.std.proofs.lemmas.Nat.{le-div}
-use Rattle.std.proofs.Math.Nat.{div-zero, div-mul-le_self, mul-le-mul_left}
+use Rattle.std.proofs.Math.Nat.{mul-le-mul_left}
 use Rattle.bac_protocol.specs.declared.times.TheConstants.{DEADLINE, KEEP, REST}
-use Rattle.bac_protocol.specs.Pace.{Pace, Clock, most, least, goes_on, clock_at, steps, IsTimely, IsShown, Since}
+use Rattle.bac_protocol.specs.Pace.{Pace, Clock, period, most, least, goes_on, clock_at, steps, IsTimely, IsShown, Since}
 use Rattle.bac_protocol.specs.Client.{Ask}
 use Rattle.bac_protocol.specs.Server.{ServerTransaction, Service, is_live}
 use Rattle.bac_protocol.specs.Transaction.{Key, Rules}
 use Rattle.bac_protocol.specs.World.{Net, asked_at, client_now, is_quiet, passes}
 use Rattle.bac_protocol.proofs.Resting.{IsUnasked}
-use Rattle.bac_protocol.proofs.Paces.{shown_at, since_now, since_later, shows_on, within_most, beyond_least}
+use Rattle.bac_protocol.proofs.Paces.{divided, shown_at, since_now, since_later, shows_on, within_most, beyond_least}
 use Rattle.bac_liveness.specs.Runs.{StaysSince}
 use Rattle.bac_liveness.proofs.Paths.{Step, Path, Bounded, WasMadeIn, ask_of, path_bounded, quiet_before, sends_asked, stays_before, was_made_path}
 use Rattle.bac_liveness.proofs.Paths.Step.{Asks, Serves, Hears, TicksTicket, TicksEntry, Passes, Changes, RestartsClient, RestartsServer, BeginsClient, BeginsServer, BeginsNext, Strange}
@@ -54,19 +53,13 @@ LostIn n key made from = IsLostAfter n.pace n.now (n.server_clocks key.server) m
 
 -- What follows of the times.
 
--- a quotient grows with what is divided
-pub divided : (a b by : ℕ) → a ≤ b → a / by ≤ b / by
-divided a b zero le = let e : a / zero ≡ zero = div-zero a in omega arith
-divided a b (suc k) le =
-    let low : a / suc k * suc k ≤ a = div-mul-le_self a (suc k) in
-    le-div (a / suc k) b (suc k) (omega arith) (omega arith)
-
 -- no clock passes KEEP earlier than DEADLINE
 keeps_later : (p : Pace) → most p DEADLINE ≤ most p KEEP
 unfolding most
 keeps_later p =
-    let grains : p.grain * DEADLINE ≤ p.grain * KEEP = mul-le-mul_left p.grain (omega arith) in
-    divided (1000000 * (p.grain * DEADLINE + (p.grain - 1))) (1000000 * (p.grain * KEEP + (p.grain - 1))) (1000000 - p.drift) (omega arith)
+    let ticks : DEADLINE / p.tick ≤ KEEP / p.tick = divided DEADLINE KEEP p.tick (omega arith) in
+    let parts : period p * (DEADLINE / p.tick) ≤ period p * (KEEP / p.tick) = mul-le-mul_left (period p) ticks in
+    divided (1000000 * (period p * (DEADLINE / p.tick) + (period p - 1))) (1000000 * (period p * (KEEP / p.tick) + (period p - 1))) (1000000 - p.drift) (omega arith)
 
 -- so a node is quiet only when each ask of its client is past its time
 quiet_is_late : (n : Net) (node : ℕ) → is_quiet n node ≡ true → (key : Key) (made : ℕ) → WasMadeIn n key made → key.client ≡ node → made + most n.pace DEADLINE < n.now
@@ -81,9 +74,10 @@ rests_later : (p : Pace) → IsTimely p → most p DEADLINE ≤ least p REST
 unfolding least
 rests_later p timely =
     let keeps = timely.keeps in
-    let grains : p.grain * KEEP ≤ p.grain * REST = mul-le-mul_left p.grain (omega arith) in
-    let later : (1000000 * (p.grain * KEEP + 1) - 1) / (1000000 + p.drift) ≤ (1000000 * (p.grain * REST + 1) - 1) / (1000000 + p.drift) =
-    divided (1000000 * (p.grain * KEEP + 1) - 1) (1000000 * (p.grain * REST + 1) - 1) (1000000 + p.drift) (omega arith) in
+    let ticks : KEEP / p.tick ≤ REST / p.tick = divided KEEP REST p.tick (omega arith) in
+    let parts : period p * (KEEP / p.tick) ≤ period p * (REST / p.tick) = mul-le-mul_left (period p) ticks in
+    let later : (1000000 * (period p * (KEEP / p.tick) + 1) - 1) / (1000000 + p.drift) ≤ (1000000 * (period p * (REST / p.tick) + 1) - 1) / (1000000 + p.drift) =
+    divided (1000000 * (period p * (KEEP / p.tick) + 1) - 1) (1000000 * (period p * (REST / p.tick) + 1) - 1) (1000000 + p.drift) (omega arith) in
     omega arith
 
 -- while no more real time has passed than while a clock goes on by DEADLINE

@@ -16,7 +16,7 @@ use Rattle.bac_world.proofs.Asking.{accepted_is}
 use Rattle.bac_node.specs.Calls.{IsAsked}
 use Rattle.bac_node.specs.Capacities.{CapacitiesStay, HasSameCapacities}
 use Rattle.bac_node.specs.Serving.{IsHeardSoBy, NodeServes}
-use Rattle.bac_protocol.specs.Serving.{ServerRules}
+use Rattle.bac_transaction.specs.Sharing.{EndRules}
 
 module _ (c : Settings) (now : ℕ) (a : Apdu) (e : ClientEnd) (key : PeerKey) where
   held_stays : (number : ℕ) (held : TransactionSlot) → (requester_on_apdu_in_slot c reads_reply now a e key number held).end.capacity ≡ e.capacity
@@ -35,7 +35,7 @@ heard_stays now peer a old new o false turn = subst (HasSameCapacities old) (sym
   servers = refl;
 })
 
-heard_so_stays : (rules : ServerRules) (away : Bool) (now : ℕ) (peer : PeerView) (a : Apdu) (old new : Node) (o : Outcome) (up : Bool)
+heard_so_stays : (rules : EndRules) (away : Bool) (now : ℕ) (peer : PeerView) (a : Apdu) (old new : Node) (o : Outcome) (up : Bool)
     → IsHeardSoBy rules away up peer a now old new o → HasSameCapacities old new
 heard_so_stays rules away now peer a old new o true served = subst (HasSameCapacities old) (sym served.turn.node) (record { clients = refl; servers = refl })
 heard_so_stays rules away now peer a old new o false turn = heard_stays now peer a old new o false turn.0
@@ -59,7 +59,7 @@ capacities_stay = record {
     on now from octets old new o (inl d) = subst (HasSameCapacities old) (sym d.node) (record { clients = refl; servers = refl })
     on now from octets old new o (inr z) = heard_stays now z.peer z.apdu old new o (is_from_client z.apdu) z.heard
 
-    hear : (rules : ServerRules) (away : Bool) (now : ℕ) (from octets : Octets) (old new : Node) (o : Outcome) → NodeServes rules away now from octets old new o
+    hear : (rules : EndRules) (away : Bool) (now : ℕ) (from octets : Octets) (old new : Node) (o : Outcome) → NodeServes rules away now from octets old new o
         → HasSameCapacities old new
     hear rules away now from octets old new o (inl d) = subst (HasSameCapacities old) (sym d.0.node) (record { clients = refl; servers = refl })
     hear rules away now from octets old new o (inr z) = heard_so_stays rules away now z.peer z.apdu old new o (is_from_client z.apdu) z.heard

@@ -7,7 +7,7 @@ use Rattle.bac_store.specs.Stores.{Store}
 use Rattle.bac_transaction.specs.Ends as ends
 use Rattle.bac_transaction.specs.Ends.{ServerEnd, ServerTurn, key_of, requester_tick, responder_tick}
 use Rattle.bac_transaction.specs.Serving.{responder_by}
-use Rattle.bac_protocol.specs.Serving.{ServerRules}
+use Rattle.bac_transaction.specs.Sharing.{EndRules}
 use Rattle.bac_responder.specs.Hearing.{IsHeard}
 use Rattle.bac_transaction.specs.Meanings.{EndedView, IsEndedView}
 use Rattle.bac_transaction.specs.Sends.{Datagram, IsSent, Pairwise}
@@ -53,7 +53,7 @@ server_turned_by turn now old v t sent x o did sends ended performed dropped =
       dropped = dropped;
     }
 
-pub server_turned_so : (rules : ServerRules) (away : Bool) (now : ℕ) (old at : Node) (v : ServerEnd) (t : Store) (peer : PeerView) (a : Apdu) (sent : List Datagram)
+pub server_turned_so : (rules : EndRules) (away : Bool) (now : ℕ) (old at : Node) (v : ServerEnd) (t : Store) (peer : PeerView) (a : Apdu) (sent : List Datagram)
     (x : Option Act) (o : Outcome) → at ≡ old
     → IsHeard rules at.settings now (key_of peer a) a at.servers at.store sent (acted_view x) away v t
     → o.sends ≡ sent → o.ended ≡ [] → o.performed ≡ option_map performed_view x → o.dropped ≡ None

@@ -4,7 +4,7 @@ use Rattle.bac_npdu.specs.Peers.{PeerView}
 use Rattle.bac_apdu.specs.Apdu.{Limits}
 use Rattle.bac_service.specs.Values.{Request}
 use Rattle.bac_protocol.specs.Service.{Octets}
-use Rattle.bac_protocol.specs.Serving.{ServerRules}
+use Rattle.bac_transaction.specs.Sharing.{EndRules}
 use Rattle.bac_requester.specs.declared.asking.Asked.{Asked}
 use Rattle.bac_world.specs.Node.{Node, Outcome, NodeOn, NodeTick}
 use Rattle.bac_node.specs.Calls.{IsAsked, ticked}
@@ -17,7 +17,7 @@ pub record HasSameCapacities (old new : Node) : Type 0 where
 -- so it is in each call
 pub record CapacitiesStay : Type 0 where
   pub on : (now : ℕ) (from octets : Octets) (old new : Node) (o : Outcome) → NodeOn now from octets old new o → HasSameCapacities old new
-  pub hear : (rules : ServerRules) (away : Bool) (now : ℕ) (from octets : Octets) (old new : Node) (o : Outcome) → NodeServes rules away now from octets old new o
+  pub hear : (rules : EndRules) (away : Bool) (now : ℕ) (from octets : Octets) (old new : Node) (o : Outcome) → NodeServes rules away now from octets old new o
       → HasSameCapacities old new
   pub tick : (now : ℕ) (old new : Node) (o : Outcome) → NodeTick now old new o → HasSameCapacities old new
   pub commit_tick : (now : ℕ) (node : Node) → HasSameCapacities node (ticked now node)

@@ -20,7 +20,7 @@ ghost use Rattle.bac_transaction.specs.Ends.{key_of, is_slot_held, is_slot_live,
 ghost use Rattle.bac_transaction.specs.Tables.{AreLive, IsOrderlyClient, IsOrderlyServer};
 ghost use Rattle.bac_transaction.specs.Views.{peer_key_view, rules_view, settings_view};
 ghost use Rattle.bac_protocol.specs.Context.{Settings as Set};
-ghost use Rattle.bac_protocol.specs.Serving.{STRICT};
+ghost use Rattle.bac_transaction.specs.Sharing.{STRICT, address_of, has_share};
 ghost use Rattle.bac_protocol.specs.Wire.{is_from_client};
 ghost use Rattle.bac_requester.specs.Reactions.{HasNoneOpen};
 ghost use Rattle.bac_requester.specs.Short.{AreRepliesShort};
@@ -256,6 +256,13 @@ impl Node {
         self.servers.next_free(from)
     }
 
+    /// Whether the IP address of a link has a share in the slots of its reply table, as `Responder::has_share` says.
+    pub fn has_share(&self, now: u64, link: &LinkAddress) -> bool
+        ensures { result ≡ has_share now (address_of link.now) self.now.servers }
+    {
+        self.servers.has_share(now, link)
+    }
+
     /// When the entry of its reply table for a request began, in milliseconds, by the peer that asked and the invoke ID; None where it keeps none for them. Call
     /// it to tell one performance for a peer from the next under the same invoke ID: their entries began more than 65,000 ms apart.
     pub fn entry_begin(&self, key: &PeerKey) -> Option<u64>
@@ -329,7 +336,7 @@ impl Node {
     /// it and is performed.
     ///
     /// A new request that finds no free slot, or comes while the node waits after a restart, is turned away with an Abort of reason 0; `turned_away` of the outcome
-    /// says so.
+    /// says so. Where slots are shared, so is one of an IP address that has no share: it holds more than 15 live entries for each slot that would stay free.
     ///
     /// The faults are those of `on`. `NoMemory` also where an APDU might make the server's end keep more than `memory` octets of service data. A
     /// request is taken to need room for its own, and for the longest reply and the place of a segment, 65,539 octets. With less than that, only what

@@ -66,7 +66,7 @@ asked_due = record { rests = asked_rests; moves = asked_moves }
 
 -- The strict rules are those of a node that lets no client use an invoke ID again.
 strict_set : AreSetTo false (rules_view STRICTLY)
-strict_set = record { reads = refl; remembers = tt }
+strict_set = record { reads = refl; remembers = tt; shares = λ off. refl }
 
 -- The ask.
 

@@ -19,12 +19,12 @@ use Rattle.bac_world.specs.World.{ending_fact, is_away, link_at, peer_at, told, 
 use Rattle.bac_journal.specs.Entering.{AreOfPeer, AreOfPeerSo, CanBeCopied, CanEnterSo, CanGoOnSo, CanLeave, Every, IsNoted, IsOfClient, IsOfStranger}
 use Rattle.bac_journal.proofs.GoingOn.{runs_can_go_on_long, runs_can_go_on_so}
 use Rattle.bac_journal.proofs.Lists.{get_set}
-use Rattle.bac_transaction.specs.Views.{read_rule_view, rules_view}
+use Rattle.bac_transaction.specs.Views.{read_rule_view, rules_view, share_view}
 use Rattle.bac_transaction.specs.declared.rules.Rules.{Rules}
 use Rattle.bac_transaction.specs.declared.rules.ReadRule as rule
 use Rattle.bac_transaction.specs.declared.rules.ReadRule.TheVariants as rule_case
 use Rattle.bac_node.specs.Serving.{AreSetTo, reads_anew, reads_of}
-use Rattle.bac_node.proofs.Rules.{hears_as_in_worlds}
+use Rattle.bac_node.proofs.Rules.{hears_in_some}
 use Rattle.bac_driver.specs.Asking.{IsBegun}
 use Rattle.bac_driver.specs.BoundNodes.{BoundNode}
 use Rattle.bac_driver.specs.Turns as turns
@@ -141,13 +141,13 @@ module _ (u : Reuses) (W overtake : ℕ) (p : Plant) (on : CanGoOnSo u W overtak
   came_enters rules set source d buffer None h from = tt
   came_enters rules set Nowhere d buffer (Some o) h from = absurd from
   came_enters rules set (Station number) d buffer (Some o) h from =
-      copy_enters number d.0 (take d.1 buffer) o from ((hears_as_in_worlds (u i) (rules_view rules) set (shows p i) d.0 (take d.1 buffer) a b o).0 h)
+      copy_enters number d.0 (take d.1 buffer) o from (hears_in_some (shows p i) a b o d.0 (take d.1 buffer) (u i) (rules_view rules) set h)
   came_enters rules set (Stranger sender octets) d buffer (Some o) h from =
       outside_enters sender octets d.0 (take d.1 buffer) o from.link_is from.whole (inl from.stranger)
-      ((hears_as_in_worlds (u i) (rules_view rules) set (shows p i) d.0 (take d.1 buffer) a b o).0 h)
+      (hears_in_some (shows p i) a b o d.0 (take d.1 buffer) (u i) (rules_view rules) set h)
   came_enters rules set (Noise sender octets) d buffer (Some o) h from =
       outside_enters sender octets d.0 (take d.1 buffer) o from.link_is from.whole (inr from.meaningless)
-      ((hears_as_in_worlds (u i) (rules_view rules) set (shows p i) d.0 (take d.1 buffer) a b o).0 h)
+      (hears_in_some (shows p i) a b o d.0 (take d.1 buffer) (u i) (rules_view rules) set h)
 
   heard_enters : (rules : Rules) → AreSetTo (u i) (rules_view rules) → (source : Source) (came : Option (Octets × ℕ)) (buffer : Octets) (heard : Option Outcome)
       → turns.Hears rules (shows p i) buffer came a b heard → HandsOver overtake p i source came buffer → MayEnter (u i) (world_of p) i b heard
@@ -203,6 +203,10 @@ reads_viewed : (r : rule.ReadRule) → read_rule_view r ≡ reads_of (reads_anew
 reads_viewed rule_case.Kept = refl
 reads_viewed rule_case.Fresh = refl
 
+shares_viewed : (r : rule.ReadRule) (share : Bool) → reads_anew (read_rule_view r) ≡ false → share_view r share ≡ false
+shares_viewed rule_case.Kept share off = refl
+shares_viewed rule_case.Fresh share off = absurd cc
+
 module _ (W overtake : ℕ) (p : Plant) (r : CanGo W overtake p) (i : ℕ) (before : BoundNode) (at : slice_get p.stations i ≡ Some before) where
   abbrev first_at : slice_get (nodes_of p.stations) i ≡ Some before.node
   first_at = node_at p.stations i before at
@@ -215,6 +219,7 @@ module _ (W overtake : ℕ) (p : Plant) (r : CanGo W overtake p) (i : ℕ) (befo
   set_as full = record {
     reads = reads_viewed before.rules.reads ∙ ap reads_of (sym (setting_at p i before at) ∙ run_settings overtake r.steps r.first p r.run i);
     remembers = full;
+    shares = λ off. shares_viewed before.rules.reads before.rules.share (sym (setting_at p i before at) ∙ run_settings overtake r.steps r.first p r.run i ∙ off);
   }
 
   goes_on : CanGoOnSo u W overtake (world_of p)

@@ -5,7 +5,7 @@ use Rattle.std.proofs.lemmas.Option.{slice_get_within}
 use Rattle.std.specs.Option.{option_map}
 use Rattle.bac_journal.proofs.Lists.{get_set, get_set_other}
 use Rattle.bac_node.specs.Serving.{is_reusing}
-use Rattle.bac_protocol.specs.Serving.{ServerRules}
+use Rattle.bac_transaction.specs.Sharing.{EndRules}
 use Rattle.bac_transaction.specs.Views.{rules_view}
 use Rattle.bac_transaction.specs.declared.rules.Rules.{Rules}
 use Rattle.bac_driver.specs.BoundNodes.{BoundNode}
@@ -13,11 +13,11 @@ use Rattle.bac_plant.specs.Plants.{Plant, reuse_of, settings_of}
 use Rattle.bac_plant.specs.Steps.{PlantRun, PlantStep, Step}
 use Rattle.bac_plant.specs.Steps.Step.{Begins, BeginsAway, Changes, FailsToReceive, Holds, Passes, Restarts, SendsHeld, Starts, StartsAgain, Takes}
 
-abbrev set : BoundNode → ServerRules
+abbrev set : BoundNode → EndRules
 set b = rules_view b.rules
 
 -- the setting of a station that is there
-abbrev set_at : Plant → (station : ℕ) → Option ServerRules
+abbrev set_at : Plant → (station : ℕ) → Option EndRules
 set_at p j = option_map set (slice_get p.stations j)
 
 -- a station takes the place of one with its setting
@@ -66,7 +66,7 @@ run_stays overtake steps old new run i before after was is =
     let e : Some (set after) ≡ Some (set before) = sym (ap (option_map set) is) ∙ run_sets overtake steps old new run i ∙ ap (option_map set) was in cc
 
 -- whether it lets clients use an invoke ID again
-abbrev reuses : Option ServerRules → Bool
+abbrev reuses : Option EndRules → Bool
 reuses None = false
 reuses (Some r) = is_reusing r
 

@@ -44,7 +44,7 @@ done_fits s (Some a) (Some d) can done = subst (λ (p : Reply). reply_length p �
 module _ (reuse : Bool) (now : ℕ) (a b : Node) (o : Outcome) (can : CanReply a.store) where
   turn_fits : (up : Bool) (peer : PeerView) (p : Apdu) → IsHeardInBy reuse up peer p now a b o → PerformedFits o.performed
   turn_fits true peer p h =
-      done_fits a.store (hears_at reuse a.settings now (service_of a.store) (key_of peer p) p a.servers).act o.performed can h.performed
+      done_fits a.store (hears_at h.0 reuse a.settings now (service_of a.store) (key_of peer p) p a.servers).act o.performed can h.1.performed
   turn_fits false peer p h = subst PerformedFits (sym h.performed) tt
 
   heard_fits : (link octets : Octets) → NodeHears reuse now link octets a b o → PerformedFits o.performed

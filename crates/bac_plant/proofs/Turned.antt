@@ -12,7 +12,7 @@ use Rattle.bac_world.specs.Node.{Node, NodeOn, Outcome, IsHeardBy}
 use Rattle.bac_world.specs.ReusingLogs.{Reuses}
 use Rattle.bac_node.specs.Serving.{AreSetTo, IsHeardSoBy, NodeHearsBy, NodeServes, is_reusing, reads_anew, reads_of}
 use Rattle.bac_transaction.specs.declared.rules.Rules.{Rules}
-use Rattle.bac_node.proofs.Rules.{hears_as_in_worlds}
+use Rattle.bac_node.proofs.Rules.{hears_in_some}
 use Rattle.bac_transaction.specs.Views.{rules_view}
 use Rattle.bac_apdu.specs.Apdu.{Apdu}
 use Rattle.bac_npdu.specs.Peers.{PeerView}
@@ -205,7 +205,7 @@ module _ (overtake : ℕ) (u : Reuses) (p : Plant) (i : ℕ) (a b : Node) (at : 
     at = at;
     after = b;
     outcome = o;
-    on = (hears_as_in_worlds (u i) (rules_view rules) set (shows p i) from octets a b o).0 on;
+    on = hears_in_some (shows p i) a b o from octets (u i) (rules_view rules) set on;
     acts = acted (u i) (world_of p) i a b o at cs copied between log ended logged;
   }
 

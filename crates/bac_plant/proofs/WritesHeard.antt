@@ -124,13 +124,16 @@ hears = record {
   at = refl;
   after = AFTER;
   outcome = SERVED;
-  on = inr (record {
-    peer = peer_at (link 2);
-    apdu = ASK;
-    foreign = not_own;
-    means = means (link 2) (link 1) ASK ask_fits ask_short;
-    heard = subst Turn (sym says) turn;
-  });
+  on = (
+    true,
+    inr (record {
+      peer = peer_at (link 2);
+      apdu = ASK;
+      foreign = not_own;
+      means = means (link 2) (link 1) ASK ask_fits ask_short;
+      heard = subst Turn (sym says) turn;
+    }),
+  );
   acts = record {
     nodes = record { here = refl; others = others AFTER (node 1) };
     time = refl;

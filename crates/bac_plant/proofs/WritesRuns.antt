@@ -17,7 +17,7 @@ use Rattle.bac_protocol.specs.Transaction.{Rules}
 use Rattle.bac_protocol.specs.Wire.{is_from_client}
 use Rattle.bac_protocol.specs.World.{Net, net_start}
 use Rattle.bac_slots.specs.Slots.{IsDistinct, value_at}
-use Rattle.bac_transaction.specs.Ends.{act_at, context_of, is_free}
+use Rattle.bac_transaction.specs.Ends.{act_at, context_of}
 use Rattle.bac_transaction.specs.Keys.{PeerKey, same_key}
 use Rattle.bac_transaction.specs.Reuse.{is_read}
 use Rattle.bac_transaction.specs.Services.{service_of}
@@ -30,7 +30,7 @@ use Rattle.bac_world.specs.World.{Event, IsBounded, IsFresh, Life, RunsOn, World
 use Rattle.bac_world.specs.World.Event.{Advance, Ask, AskAway, Begin, BeginAgain, Change, Deliver, Noise, Restart, Stray, Tick}
 use Rattle.bac_world.proofs.Headline.{fresh_over, rules_bounded, rules_of, run_over_so}
 use Rattle.bac_world.proofs.Heard.{IsHeardIn, IsHeardInBy, heard_in}
-use Rattle.bac_world.proofs.Settings.{always, end_heard}
+use Rattle.bac_world.proofs.Settings.{always, free_for}
 use Rattle.bac_world.proofs.Steps.{Over}
 use Rattle.bac_plant.specs.Writes.{AddsNothingFor, HearsNoOther, KeepsWrite, KeptOctets, PerformsWrite, WritesActOnce, kept_by}
 use Rattle.bac_plant.proofs.WritesGathering.{NoneWholeIn}
@@ -114,8 +114,8 @@ module _ (reuse : Bool) (now : ℕ) (key : PeerKey) (link datagram : Octets) (li
   abbrev apdu : Apdu
   apdu = ConfirmedRequest limits key.invoke_id segment choice octets
 
-  abbrev free : Bool
-  free = is_free now (end_heard reuse now key apdu a.servers)
+  abbrev free : (allowed : Bool) → Bool
+  free allowed = free_for allowed reuse now key apdu a.servers
 
   effect_there : (e : Option Effect) → ArePerformed a.store (act_at key e) o.performed → (x : Effect) × (e ≡ Some x)
   effect_there None are = absurd (subst (λ p. ArePerformed a.store None p) done are)
@@ -129,14 +129,14 @@ module _ (reuse : Bool) (now : ℕ) (key : PeerKey) (link datagram : Octets) (li
 
   turn_keeps : IsHeardInBy reuse true key.peer apdu now a b o → Keeps
   turn_keeps turn =
-      let x = effect_there (heard now reuse a.settings (service_of a.store) key apdu a.servers.slots distinct free).effect turn.performed in
-      let p = hears_performs (context_of a.settings now key) (service_of a.store) free limits key.invoke_id choice octets reuse write segment
+      let x = effect_there (heard now reuse a.settings (service_of a.store) key apdu a.servers.slots distinct (free turn.0)).effect turn.1.performed in
+      let p = hears_performs (context_of a.settings now key) (service_of a.store) (free turn.0) limits key.invoke_id choice octets reuse write segment
       (value_at same_key key a.servers.slots) none_whole x.0 x.1 in
       record {
-        reaction = heard now reuse a.settings (service_of a.store) key apdu a.servers.slots distinct free;
+        reaction = heard now reuse a.settings (service_of a.store) key apdu a.servers.slots distinct (free turn.0);
         performs = p;
-        there = ap (λ (n : Node). value_at same_key key n.servers.slots) turn.node
-            ∙ performs_there now reuse a.settings (service_of a.store) key apdu a.servers.slots distinct free segment choice octets p;
+        there = ap (λ (n : Node). value_at same_key key n.servers.slots) turn.1.node
+            ∙ performs_there now reuse a.settings (service_of a.store) key apdu a.servers.slots distinct (free turn.0) segment choice octets p;
       }
 
   heard_keeps : (up : Bool) (peer : PeerView) (p : Apdu) → peer ≡ key.peer → p ≡ apdu → is_from_client p ≡ up → IsHeardInBy reuse up peer p now a b o → Keeps

@@ -17,7 +17,7 @@ use Rattle.bac_protocol.specs.World.{Net}
 use Rattle.bac_protocol.proofs.Paces.{shows_on}
 use Rattle.bac_reuse.proofs.ReusingMoves.{in_order_so_in}
 use Rattle.bac_slots.specs.Slots.{IsDistinct, keep, value_at}
-use Rattle.bac_transaction.specs.Ends.{act_at, context_of, is_free, key_of}
+use Rattle.bac_transaction.specs.Ends.{act_at, context_of, key_of}
 use Rattle.bac_transaction.specs.Keys.{PeerKey, same_key}
 use Rattle.bac_transaction.specs.Services.{service_of}
 use Rattle.bac_transaction.proofs.KeyedSlots.{changed, changed_value, decide_slot_key, distinct_changed, passing_value, value_changed}
@@ -31,7 +31,7 @@ use Rattle.bac_world.specs.World.{Copy, Event, IsOfNone, IsWithNode, Life, RunsO
 use Rattle.bac_world.specs.World.Event.{Advance, Ask, AskAway, Begin, BeginAgain, Change, Deliver, Noise, Restart, Stray, Tick}
 use Rattle.bac_world.proofs.Heard.{IsHeardIn, IsHeardInBy, heard_in}
 use Rattle.bac_world.proofs.ServerTick.{entry_tick}
-use Rattle.bac_world.proofs.Settings.{always, end_heard, reusing_in}
+use Rattle.bac_world.proofs.Settings.{always, free_for, reusing_in}
 use Rattle.bac_world.proofs.Steps.{Over, decide_number, each_with}
 use Rattle.bac_plant.specs.Writes.{AddsNothingFor, HearsNoOther, IsNoOther, KeptOctets}
 use Rattle.bac_plant.proofs.WritesKept.{HasKept, none_performed, other_kept, own_kept, table, tick_kept}
@@ -90,16 +90,16 @@ module _ (begin choice : ℕ) (request : KeptOctets) (key : PeerKey) where
     by_turn true peer p means turn = go (decide_slot_key (key_of peer p) key)
       where
         free : Bool
-        free = is_free now (end_heard reuse now (key_of peer p) p a.servers)
+        free = free_for turn.0 reuse now (key_of peer p) p a.servers
 
         node_is : b.servers.slots ≡ table now reuse a.settings (service_of a.store) (key_of peer p) p a.servers.slots distinct free
-        node_is = ap (λ (n : Node). n.servers.slots) turn.node
+        node_is = ap (λ (n : Node). n.servers.slots) turn.1.node
 
         go : (key_of peer p ≡ key) ⊎ (key_of peer p ≡ key → ⊥) → Left
         go (inr ne) = record {
           kept = subst (HasKept begin choice request key) (sym node_is)
               (other_kept now reuse a.settings (service_of a.store) (key_of peer p) p a.servers.slots distinct free begin choice request young key ne was);
-          other = λ d is is_key. ne (sym (performed_key a.store (key_of peer p) _ o.performed turn.performed d is) ∙ is_key);
+          other = λ d is is_key. ne (sym (performed_key a.store (key_of peer p) _ o.performed turn.1.performed d is) ∙ is_key);
         }
         go (inl same) =
             let mine : HasKept begin choice request (key_of peer p) a.servers.slots = subst (λ k. HasKept begin choice request k a.servers.slots) (sym same) was in
@@ -111,7 +111,7 @@ module _ (begin choice : ℕ) (request : KeptOctets) (key : PeerKey) where
               kept = subst (HasKept begin choice request key) (sym node_is)
                   (subst (λ k. HasKept begin choice request k (table now reuse a.settings (service_of a.store) (key_of peer p) p
                   a.servers.slots distinct free)) same left);
-              other = λ d is is_key. let no : None ≡ Some d = sym (performed_none a.store (key_of peer p) _ o.performed turn.performed none) ∙ is in cc;
+              other = λ d is is_key. let no : None ≡ Some d = sym (performed_none a.store (key_of peer p) _ o.performed turn.1.performed none) ∙ is in cc;
             }
 
     hears_left : NodeHears reuse now from octets a b o → Left

@@ -7,7 +7,7 @@ use Rattle.bac_protocol.specs.Server.{ServerTransaction, is_live, is_none_live}
 use Rattle.bac_protocol.specs.Service.{Octets}
 use Rattle.bac_protocol.specs.Wire.{is_from_client}
 use Rattle.bac_slots.specs.Slots.{value_at}
-use Rattle.bac_transaction.specs.Ends.{ServerSlot, context_of, is_free, key_of, put_entry, set_or_put}
+use Rattle.bac_transaction.specs.Ends.{ServerSlot, context_of, key_of, put_entry, set_or_put}
 use Rattle.bac_transaction.specs.Keys.{PeerKey, same_key}
 use Rattle.bac_transaction.specs.Reuse.{is_read}
 use Rattle.bac_transaction.specs.Services.{service_of}
@@ -21,7 +21,7 @@ use Rattle.bac_world.specs.World.Event.{Advance, Ask, AskAway, Begin, BeginAgain
 use Rattle.bac_world.proofs.Heard.{IsHeardIn, IsHeardInBy, heard_in}
 use Rattle.bac_world.proofs.Reused.{heard_left}
 use Rattle.bac_world.proofs.ServerTick.{entry_tick}
-use Rattle.bac_world.proofs.Settings.{end_heard, slots_heard}
+use Rattle.bac_world.proofs.Settings.{free_for, slots_heard}
 use Rattle.bac_world.proofs.Steps.{each_with}
 use Rattle.bac_plant.proofs.WritesGathering.{GathersNoWhole, NoneWholeIn, hears_none_whole, ticks_none_whole}
 
@@ -60,7 +60,7 @@ ticked_so now a b o t was = subst (λ (n : Node). NoneWholeAmong n.servers.slots
 module _ (reuse : Bool) (now : ℕ) (from octets : Octets) (a b : Node) (o : Outcome) (was : NoneWholeAmong a.servers.slots) where
   by_turn : (up : Bool) (peer : PeerView) (p : Apdu) → IsHeardInBy reuse up peer p now a b o → NoneWholeAmong b.servers.slots
   by_turn false peer p turn = subst (λ (n : Node). NoneWholeAmong n.servers.slots) (sym turn.node) was
-  by_turn true peer p turn = subst (λ (n : Node). NoneWholeAmong n.servers.slots) (sym turn.node)
+  by_turn true peer p turn = subst (λ (n : Node). NoneWholeAmong n.servers.slots) (sym turn.1.node)
       (put_so now key (server_hears reuse (context_of a.settings now key) (service_of a.store) is_read entry free p).entry
       (slots_heard reuse now key p a.servers.slots)
       (hears_none_whole (context_of a.settings now key) (service_of a.store) reuse entry (none_whole_at key a.servers.slots was) free p)
@@ -73,7 +73,7 @@ module _ (reuse : Bool) (now : ℕ) (from octets : Octets) (a b : Node) (o : Out
       entry = value_at same_key key a.servers.slots
 
       free : Bool
-      free = is_free now (end_heard reuse now key p a.servers)
+      free = free_for turn.0 reuse now key p a.servers
 
   hears_so : NodeHears reuse now from octets a b o → NoneWholeAmong b.servers.slots
   hears_so h = go (heard_in now from octets a b o reuse h)

@@ -1,8 +1,8 @@
 -- Where clocks neither gain nor lose, begin together and count milliseconds, all nodes have one clock.
-use Rattle.std.proofs.Common.{◌≡◌, ℕ, ◌+◌, ◌/◌, Bool, true, false, List, [], ◌∷◌, Option, Some, None, slice_get, if◌then◌else◌, nat_eq, refl, ap, ◌∙◌, arith}
+use Rattle.std.proofs.Common.{◌≡◌, ℕ, ◌+◌, ◌*◌, ◌/◌, Bool, true, false, List, [], ◌∷◌, Option, Some, None, slice_get, if◌then◌else◌, nat_eq, refl, ap, ◌∙◌, arith}
 use Rattle.std.proofs.Math.Nat.{mul-zero}
 use Rattle.bac_apdu.specs.Apdu.{Apdu}
-use Rattle.bac_protocol.specs.Pace.{Pace, Clock, slack, steps, goes_on, clock_at, one_clock}
+use Rattle.bac_protocol.specs.Pace.{Pace, Clock, period, slack, steps, goes_on, clock_at, one_clock}
 use Rattle.bac_protocol.specs.Drift.{KeepsTime, AllKeepTime}
 use Rattle.bac_protocol.specs.Wire.{is_from_client}
 use Rattle.bac_protocol.specs.Client.{Ask, ClientTransaction}
@@ -69,17 +69,17 @@ module _ (S : Type 0) (model : StoreModel S) (x : Rules) where
   steps_so : (by own : ℕ) → steps one_clock by own ≡ by
   steps_so by own = let low = steps_low one_clock by own in let high = steps_high one_clock by own in let none = no_slack by in omega arith
 
-  by_one : (n : ℕ) → n / 1 ≡ n
+  by_one : (n : ℕ) → 1 * (n / 1) ≡ n
   by_one n = omega arith
 
   on : (p : Pace) → p ≡ one_clock → (now by own : ℕ) (c : Clock) → IsTrue now c → IsTrue (now + by) (goes_on p by own c)
-  on p is now by own c h = record { exact = exact; shows = (λ i. exact i / (is i).grain) ∙ by_one (now + by) }
+  on p is now by own c h = record { exact = exact; shows = (λ i. (is i).tick * (exact i / period (is i))) ∙ by_one (now + by) }
     where
       exact : c.exact + steps p by own ≡ now + by
       exact = (λ i. h.exact i + steps (is i) by own) ∙ ap (λ (k : ℕ). now + k) (steps_so by own)
 
   anew : (p : Pace) → p ≡ one_clock → (now exact : ℕ) → exact ≡ now → IsTrue now (clock_at p exact)
-  anew p is now exact same = record { exact = same; shows = (λ i. same i / (is i).grain) ∙ by_one now }
+  anew p is now exact same = record { exact = same; shows = (λ i. (is i).tick * (same i / period (is i))) ∙ by_one now }
 
   -- clocks of which one begins anew
   begin_so : (w : World S) → Is w.net → (node exact : ℕ) → exact ≡ w.net.now → (clocks : ℕ → Clock) → ((m : ℕ) → IsTrue w.net.now (clocks m))

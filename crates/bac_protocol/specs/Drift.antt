@@ -1,8 +1,8 @@
 -- Where clocks go apart: at the bound on the life of a copy all is right; one part beyond it a request is performed twice, or an ask ends with another's answer.
 -- No time of the machines is changed here, nor any world: each run is one of the definitions, for clocks of that pace.
-use Rattle.std.specs.Prelude.{◌≡◌, ℕ, ◌+◌, ◌*◌, ◌<◌, ◌≤◌, true, List, [], ◌∷◌, ◌++◌}
+use Rattle.std.specs.Prelude.{◌≡◌, ℕ, ◌+◌, ◌*◌, ◌<◌, ◌≤◌, true, if◌then◌else◌, nat_eq, List, [], ◌∷◌, ◌++◌}
 use Rattle.bac_protocol.specs.Times.{DEADLINE, KEEP, REST}
-use Rattle.bac_protocol.specs.Pace.{Pace, most, least, IsTimely, one_clock}
+use Rattle.bac_protocol.specs.Pace.{Pace, period, most, least, IsTimely, one_clock}
 use Rattle.bac_protocol.specs.Service.Ending.{Expired}
 use Rattle.bac_protocol.specs.Log.{Fact, StoreModel}
 use Rattle.bac_protocol.specs.Log.Fact.{Ended}
@@ -14,11 +14,15 @@ use Rattle.bac_protocol.specs.Edges.{at_once, client_tick, server_tick, once, tw
 
 -- a clock that counts milliseconds, and is fast or slow by at most a part in a thousand
 abbrev pub thousandth : (life : ℕ) → Pace
-thousandth life = record { grain = 1; drift = 1000; life = life }
+thousandth life = record { grain = 1; tick = 1; drift = 1000; life = life }
 
 -- the same, which counts microseconds
 abbrev pub finer : (drift life : ℕ) → Pace
-finer drift life = record { grain = 1000; drift = drift; life = life }
+finer drift life = record { grain = 1000; tick = 1; drift = drift; life = life }
+
+-- one that neither gains nor loses, counts microseconds, and goes on by ticks of 10 milliseconds
+abbrev pub by_tens : (life : ℕ) → Pace
+by_tens life = record { grain = 1000; tick = 10; drift = 0; life = life }
 
 -- for which lives of a copy the times suffice
 pub record Lives : Type 0 where
@@ -30,17 +34,23 @@ pub record Lives : Type 0 where
   pub at_hundred : IsTimely (finer 100 4986502)
   pub at_five_hundred : IsTimely (finer 500 4936503)
   pub at_thousand : IsTimely (finer 1000 4874005)
+  pub at_tens : IsTimely (by_tens 4990001)
+  pub tens_no_more : most (by_tens 4990002) DEADLINE + 4990002 ≤ least (by_tens 4990002) KEEP → ⊥
 
--- they suffice where, in milliseconds, the life, one millisecond and 0.126 of the drift in millionths come to 5,000 at most
+-- they suffice where a second is so many whole ticks and, in milliseconds, the life, a tick and 0.126 of the drift in millionths come to 5,000 at most
 abbrev pub TimesSuffice : Type 0
-TimesSuffice = (p : Pace) → 0 < p.grain → 1000 * p.life + 1000 * p.grain + 126 * (p.drift * p.grain) ≤ 5000000 * p.grain → IsTimely p
+TimesSuffice = (p : Pace) (ticks : ℕ) → 0 < p.grain → p.tick * ticks ≡ 1000
+    → 1000 * p.life + 1000 * period p + 126 * (p.drift * p.grain) ≤ 5000000 * p.grain → IsTimely p
 
 -- so much time passes; the client's clock, node 0, goes on by that much, and the server's, node 1
 abbrev pub passes : (by client server : ℕ) → Event
 passes by client server = Advance by (λ node. client) (λ node. server)
 
+abbrev pub log_from : (clocks : ℕ → ℕ) → StoreModel ℕ → Pace → List Event → List Fact
+log_from clocks s pace events = (run ℕ s (rules 32) events (start ℕ pace clocks (λ node. 0))).net.log
+
 abbrev pub log_of : StoreModel ℕ → Pace → List Event → List Fact
-log_of s pace events = (run ℕ s (rules 32) events (start ℕ pace (λ node. 0) (λ node. 0))).net.log
+log_of = log_from (λ node. 0)
 
 -- a request is performed at 0, and its answer is lost; the client, whose clock is slow, repeats it in time, and the repeat arrives at the end of its life at a
 -- server whose clock is fast
@@ -50,6 +60,19 @@ slow_then_fast life = at_once ++ passes 60060 60000 60120 ∷ client_tick ∷ pa
 pub record Twice : Type 0 where
   pub beyond : log_of (model position) (thousandth 4877) (slow_then_fast 4877) ≡ twice
   pub within : log_of (model position) (thousandth 4876) (slow_then_fast 4876) ≡ once
+
+-- the server's clock, of node 1, is all but at its next tick when the client's is at one
+abbrev pub ticks_apart : (node : ℕ) → ℕ
+ticks_apart node = if nat_eq node 1 then 9999 else 0
+
+-- the same with clocks that go on by ticks: the client's still shows its DEADLINE a part before its next tick, and the server's shows more than KEEP a part
+-- after KEEP has passed
+abbrev pub late_in_tick : (life : ℕ) → List Event
+late_in_tick life = at_once ++ passes 60009999 60009999 60009999 ∷ client_tick ∷ passes life life life ∷ Deliver 2 true ∷ []
+
+pub record TwiceInTick : Type 0 where
+  pub beyond : log_from ticks_apart (model position) (by_tens 4990002) (late_in_tick 4990002) ≡ twice
+  pub within : log_from ticks_apart (model position) (by_tens 4990001) (late_in_tick 4990001) ≡ once
 
 -- a reply in segments: the request's last repeat arrives at the end of its life; the entry's server, whose clock is slow, sends segment 0 again at the last
 -- moment of the entry, and that copy arrives at the end of its life, at a client whose clock is fast and which asks again with that invoke ID

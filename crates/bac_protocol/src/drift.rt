@@ -1,7 +1,7 @@
 //! Clocks that go apart: the bound on the life of a copy, and what goes wrong beyond it.
 
 ghost use Rattle.std.specs.Prelude.{◌≡◌, ℕ, List};
-ghost use Rattle.bac_protocol.specs.Drift.{AllKeepTime, Lives, TimesSuffice, Twice, Mixed};
+ghost use Rattle.bac_protocol.specs.Drift.{AllKeepTime, Lives, TimesSuffice, Twice, TwiceInTick, Mixed};
 ghost use Rattle.bac_protocol.specs.Pace.{one_clock};
 ghost use Rattle.bac_protocol.specs.Log.{StoreModel};
 ghost use Rattle.bac_protocol.specs.Transaction.{Key, Rules};
@@ -13,7 +13,8 @@ pub fn lives_of_copies()
     ensures { Lives }
 {}
 
-/// At any pace the times of the machines suffice where L + 1 + 0.126 P <= 5,000: copies live for L milliseconds, and clocks are fast or slow by P millionths.
+/// At any pace the times of the machines suffice where L + q + 0.126 P <= 5,000: copies live for L milliseconds, clocks are fast or slow by P millionths, and
+/// what they show goes on by q milliseconds at a time, of which a second is a whole number.
 pub fn times_suffice()
     ensures { TimesSuffice }
 {}
@@ -22,6 +23,12 @@ pub fn times_suffice()
 #[tactic(auto, using(crate::proofs::AtDrift::performed_twice))]
 pub fn beyond_the_bound()
     ensures { Twice }
+{}
+
+/// With clocks that go on by ticks of 10 ms, and copies that live for a microsecond more than 4,990.001 ms, a request is performed twice; at 4,990.001 ms it is not.
+#[tactic(auto, using(crate::proofs::AtDrift::twice_in_tick))]
+pub fn beyond_the_bound_in_ticks()
+    ensures { TwiceInTick }
 {}
 
 /// With copies that live for 4,932 ms an ask with a reply in segments ends with a part of the answer of an ask before it, of its invoke ID or of its client's old life.

@@ -20,7 +20,8 @@ use Rattle.bac_transaction.specs.Keys.{same_key}
 use Rattle.bac_transaction.specs.Reuse.{slots_left}
 use Rattle.bac_transaction.specs.Sends.{Datagram}
 use Rattle.bac_transaction.specs.Services.{Performed as Done, service_of, store_after}
-use Rattle.bac_transaction.specs.Serving.{end_left}
+use Rattle.bac_transaction.specs.Serving.{end_left, has_place}
+use Rattle.bac_transaction.specs.Sharing.{EndRules, may_begin}
 use Rattle.bac_transaction.specs.Views.{code_same_key, peer_key_view, slots_view}
 use Rattle.bac_transaction.specs.declared.peer_key.PeerKey.{PeerKey}
 use Rattle.bac_transaction.proofs.Keyed.{value_viewed, without_viewed}
@@ -115,9 +116,9 @@ served_passed now e key v w s t o sent q same r dead =
       store = did.store ∙ ap (store_after s) (sym (after_acted key q));
     }
 
-module _ (rules : ServerRules) (c : Settings) (now : ℕ) (key : PeerKey) (a : Apdu) (slots : Slots) (capacity : ℕ) (restart : Option ℕ) (ends : Bool) (s : Store)
-    (ends_is : ends ≡ ends_entry rules now (value_at code_same_key key slots) a)
-    (none : is_none_live now (entry_left rules now (value_at code_same_key key slots) a) ≡ true) where
+module _ (rules : EndRules) (c : Settings) (now : ℕ) (key : PeerKey) (a : Apdu) (slots : Slots) (capacity : ℕ) (restart : Option ℕ) (ends : Bool) (s : Store)
+    (ends_is : ends ≡ ends_entry rules.machine now (value_at code_same_key key slots) a)
+    (none : is_none_live now (entry_left rules.machine now (value_at code_same_key key slots) a) ≡ true) where
   abbrev k : keys.PeerKey
   k = peer_key_view key
 
@@ -127,6 +128,10 @@ module _ (rules : ServerRules) (c : Settings) (now : ℕ) (key : PeerKey) (a : A
   abbrev pub rest : ServerEnd
   rest = end_of (code_slots_left ends key slots) capacity restart
 
+  -- whether an entry may begin
+  abbrev pub place : Bool
+  place = may_begin rules.share ends now k rest
+
   abbrev at : Context
   at = context_of c now k
 
@@ -134,45 +139,51 @@ module _ (rules : ServerRules) (c : Settings) (now : ℕ) (key : PeerKey) (a : A
   o = value_at same_key k (slots_view slots)
 
   abbrev pub left : Option ServerTransaction
-  left = entry_left rules now o a
+  left = entry_left rules.machine now o a
 
   pub none_there : is_none_live now left ≡ true
-  none_there = ap (λ (x : Option ServerTransaction). is_none_live now (entry_left rules now x a)) (sym (value_viewed ServerTransaction key slots)) ∙ none
+  none_there = ap (λ (x : Option ServerTransaction). is_none_live now (entry_left rules.machine now x a)) (sym (value_viewed ServerTransaction key slots)) ∙ none
 
   -- what begins, in a slot that was asked for
-  pub hears_as : (free : Bool) → free ≡ (begins_request a && is_free now rest)
-      → server_hears at (service_of s) rules o (is_free now rest) a ≡ idle_by at (service_of s) rules.reads left free a
+  pub hears_as : (free : Bool) → free ≡ (begins_request a && place)
+      → server_hears at (service_of s) rules.machine o place a ≡ idle_by at (service_of s) rules.machine.reads left free a
   hears_as free asked =
-      idle_left at (service_of s) rules o (is_free now rest) a none_there
-      ∙ begins_same at (service_of s) rules.reads left a (is_free now rest)
-      ∙ ap (λ (b : Bool). idle_by at (service_of s) rules.reads left b a) (sym asked)
+      idle_left at (service_of s) rules.machine o place a none_there
+      ∙ begins_same at (service_of s) rules.machine.reads left a place
+      ∙ ap (λ (b : Bool). idle_by at (service_of s) rules.machine.reads left b a) (sym asked)
 
-  away_there : (free away : Bool) → free ≡ (begins_request a && is_free now rest) → away ≡ (needs_slot at (service_of s) rules.reads a && not free)
-      → away ≡ is_turned_away at (service_of s) rules o (is_free now rest) a
+  away_there : (free away : Bool) → free ≡ (begins_request a && place) → away ≡ (needs_slot at (service_of s) rules.machine.reads a && not free)
+      → away ≡ is_turned_away at (service_of s) rules.machine o place a
   away_there free away asked told =
-      told ∙ ap (λ (b : Bool). needs_slot at (service_of s) rules.reads a && not b) asked
-      ∙ away_same at (service_of s) rules.reads left a (is_free now rest)
-      ∙ sym (ap (λ (b : Bool). b && (needs_slot at (service_of s) rules.reads a && not (is_free now rest))) none_there)
+      told ∙ ap (λ (b : Bool). needs_slot at (service_of s) rules.machine.reads a && not b) asked
+      ∙ away_same at (service_of s) rules.machine.reads left a place
+      ∙ sym (ap (λ (b : Bool). b && (needs_slot at (service_of s) rules.machine.reads a && not place)) none_there)
 
   -- as the end is left, so it was
-  pub heard : (free away : Bool) → free ≡ (begins_request a && is_free now rest) → away ≡ (needs_slot at (service_of s) rules.reads a && not free)
+  pub heard : (free away : Bool) → free ≡ (begins_request a && place) → away ≡ (needs_slot at (service_of s) rules.machine.reads a && not free)
       → (sent : List Datagram) (x : Option Acted) (new : ServerEnd) (t : Store)
-      → IsServed (server_goes now rest k (server_hears at (service_of s) rules o (is_free now rest) a)) s sent x new t → IsHeard rules c now k a e s sent x away new t
+      → IsServed (server_goes now rest k (server_hears at (service_of s) rules.machine o place a)) s sent x new t → IsHeard rules c now k a e s sent x away new t
   heard free away asked told sent x new t did =
-      let same : rest ≡ end_left rules now k a e = end_left_is rules now key a slots capacity restart ends ends_is in
+      let same : rest ≡ end_left rules.machine now k a e = end_left_is rules.machine now key a slots capacity restart ends ends_is in
+      let there : ends ≡ ends_entry rules.machine now o a =
+      ends_is ∙ ap (λ (x : Option ServerTransaction). ends_entry rules.machine now x a) (value_viewed ServerTransaction key slots) in
+      let so : place ≡ has_place rules now k a e =
+      ap (λ (b : Bool). may_begin rules.share b now k rest) there
+      ∙ ap (λ (d : ServerEnd). may_begin rules.share (ends_entry rules.machine now o a) now k d) same in
       record {
-        turn = subst (λ (d : ServerEnd). IsServed (server_goes now d k (server_hears at (service_of s) rules o (is_free now d) a)) s sent x new t) same did;
-        told = away_there free away asked told ∙ ap (λ (d : ServerEnd). is_turned_away at (service_of s) rules o (is_free now d) a) same;
+        turn = subst (λ (d : ServerEnd). IsServed (server_goes now d k (server_hears at (service_of s) rules.machine o (has_place rules now k a e) a)) s sent x new t) same
+            (subst (λ (b : Bool). IsServed (server_goes now rest k (server_hears at (service_of s) rules.machine o b a)) s sent x new t) so did);
+        told = away_there free away asked told ∙ ap (λ (b : Bool). is_turned_away at (service_of s) rules.machine o b a) so;
       }
 
-  pub passed : (free : Bool) → free ≡ (begins_request a && is_free now rest) → (sent : List Datagram) (q : Option Done) (t : Store)
-      → IsPassed (idle_by at (service_of s) rules.reads left free a) left k.peer s sent q t
-      → IsServed (server_goes now rest k (server_hears at (service_of s) rules o (is_free now rest) a)) s sent (acted_of k q) rest t
+  pub passed : (free : Bool) → free ≡ (begins_request a && place) → (sent : List Datagram) (q : Option Done) (t : Store)
+      → IsPassed (idle_by at (service_of s) rules.machine.reads left free a) left k.peer s sent q t
+      → IsServed (server_goes now rest k (server_hears at (service_of s) rules.machine o place a)) s sent (acted_of k q) rest t
   passed free asked sent q t did = served_passed now rest k _ _ s t left sent q (hears_as free asked) did none_there
 
   -- what memory has room for
-  pub adds_as : adds_nothing_at rules c now (service_of s) k a e ≡ needs_no_slot at (service_of s) rules.reads a
-  adds_as = ap (λ (b : Bool). if b then needs_no_slot at (service_of s) rules.reads a else grows_none_at left a) none_there
+  pub adds_as : adds_nothing_at rules.machine c now (service_of s) k a e ≡ needs_no_slot at (service_of s) rules.machine.reads a
+  adds_as = ap (λ (b : Bool). if b then needs_no_slot at (service_of s) rules.machine.reads a else grows_none_at left a) none_there
 
 -- The entry of the key is not live, or ends.
 
@@ -195,19 +206,19 @@ ended_left rules now d a live ended = ap (λ (b : Bool). is_none_live now (if b 
 
 -- An end that is the same hears as well.
 
-pub hears_still : (rules : ServerRules) (c : Settings) (now : ℕ) (key : keys.PeerKey) (a : Apdu) (e old : ServerEnd) (s : Store) (x : Result (Option Served) NoMemory)
+pub hears_still : (rules : EndRules) (c : Settings) (now : ℕ) (key : keys.PeerKey) (a : Apdu) (e old : ServerEnd) (s : Store) (x : Result (Option Served) NoMemory)
     (new : ServerEnd) (t : Store) → e ≡ old → Hears rules c now key a e s x new t → Hears rules c now key a old s x new t
 hears_still rules c now key a e old s x new t same h = subst (λ (d : ServerEnd). Hears rules c now key a d s x new t) same h
 
-pub heeds_still : (room : Bool) (rules : ServerRules) (c : Settings) (now : ℕ) (key : keys.PeerKey) (a : Apdu) (e old : ServerEnd) (s : Store)
+pub heeds_still : (room : Bool) (rules : EndRules) (c : Settings) (now : ℕ) (key : keys.PeerKey) (a : Apdu) (e old : ServerEnd) (s : Store)
     (x : Result (Option Served) NoMemory) → e ≡ old → HeedsRoomAt room rules c now key a e s x → HeedsRoomAt room rules c now key a old s x
 heeds_still room rules c now key a e old s x same h = subst (λ (d : ServerEnd). HeedsRoomAt room rules c now key a d s x) same h
 
 -- A live entry goes on.
 
-module _ (rules : ServerRules) (c : Settings) (now : ℕ) (key : PeerKey) (a : Apdu) (slots : Slots) (capacity : ℕ) (restart : Option ℕ) (s : Store)
+module _ (rules : EndRules) (c : Settings) (now : ℕ) (key : PeerKey) (a : Apdu) (slots : Slots) (capacity : ℕ) (restart : Option ℕ) (s : Store)
     (d : ServerTransaction) (there : value_at same_key (peer_key_view key) (slots_view slots) ≡ Some d) (live : is_live now d ≡ true)
-    (stays : is_ended rules now d a ≡ false) where
+    (stays : is_ended rules.machine now d a ≡ false) where
   abbrev live_key : keys.PeerKey
   live_key = peer_key_view key
 
@@ -220,34 +231,34 @@ module _ (rules : ServerRules) (c : Settings) (now : ℕ) (key : PeerKey) (a : A
   abbrev present : Option ServerTransaction
   present = value_at same_key live_key (slots_view slots)
 
-  ends_not : ends_entry rules now present a ≡ false
-  ends_not = ap (λ (x : Option ServerTransaction). ends_entry rules now x a) there ∙ ap (λ (b : Bool). b && is_ended rules now d a) live ∙ stays
+  ends_not : ends_entry rules.machine now present a ≡ false
+  ends_not = ap (λ (x : Option ServerTransaction). ends_entry rules.machine now x a) there ∙ ap (λ (b : Bool). b && is_ended rules.machine now d a) live ∙ stays
 
-  stays_there : entry_left rules now present a ≡ Some d
+  stays_there : entry_left rules.machine now present a ≡ Some d
   stays_there = ap (λ (b : Bool). if b then None else present) ends_not ∙ there
 
-  one_there : is_none_live now (entry_left rules now present a) ≡ false
+  one_there : is_none_live now (entry_left rules.machine now present a) ≡ false
   one_there = ap (is_none_live now) stays_there ∙ ap (λ (b : Bool). if b then false else true) live
 
-  all_left : live_end ≡ end_left rules now live_key a live_end
+  all_left : live_end ≡ end_left rules.machine now live_key a live_end
   all_left = sym (ap (λ (b : Bool). record live_end { slots = slots_left b live_key (slots_view slots) }) ends_not)
 
-  goes_on : (free : Bool) → server_hears live_at (service_of s) rules present free a ≡ live_on_apdu live_at (service_of s) d d.state a
+  goes_on : (free : Bool) → server_hears live_at (service_of s) rules.machine present free a ≡ live_on_apdu live_at (service_of s) d d.state a
   goes_on free =
-      ap (λ (x : Option ServerTransaction). server_hears live_at (service_of s) rules x free a) there ∙ at_live live_at (service_of s) rules d free a false live stays
+      ap (λ (x : Option ServerTransaction). server_hears live_at (service_of s) rules.machine x free a) there ∙ at_live live_at (service_of s) rules.machine d free a false live stays
 
   pub heard_live : (sent : List Datagram) (x : Option Acted) (away : Bool) (new : ServerEnd) (t : Store) → away ≡ false
       → IsServed (server_goes now live_end live_key (live_on_apdu live_at (service_of s) d d.state a)) s sent x new t
       → IsHeard rules c now live_key a live_end s sent x away new t
   heard_live sent x away new t none did =
-      let free : Bool = is_free now (end_left rules now live_key a live_end) in
+      let free : Bool = has_place rules now live_key a live_end in
       record {
-        turn = subst (λ (l : ServerEnd). IsServed (server_goes now l live_key (server_hears live_at (service_of s) rules present free a)) s sent x new t) all_left
+        turn = subst (λ (l : ServerEnd). IsServed (server_goes now l live_key (server_hears live_at (service_of s) rules.machine present free a)) s sent x new t) all_left
             (subst (λ (r : Reaction). IsServed (server_goes now live_end live_key r) s sent x new t) (sym (goes_on free)) did);
-        told = none ∙ sym (ap (λ (b : Bool). b && (needs_slot live_at (service_of s) rules.reads a && not free)) one_there);
+        told = none ∙ sym (ap (λ (b : Bool). b && (needs_slot live_at (service_of s) rules.machine.reads a && not free)) one_there);
       }
 
-  pub adds_live_as : adds_nothing_at rules c now (service_of s) live_key a live_end ≡ grows_none d.state a
+  pub adds_live_as : adds_nothing_at rules.machine c now (service_of s) live_key a live_end ≡ grows_none d.state a
   adds_live_as =
-      ap (λ (x : Option ServerTransaction). adds_nothing live_at (service_of s) rules.reads x a) stays_there
-      ∙ ap (λ (b : Bool). if (if b then false else true) then needs_no_slot live_at (service_of s) rules.reads a else grows_none d.state a) live
+      ap (λ (x : Option ServerTransaction). adds_nothing live_at (service_of s) rules.machine.reads x a) stays_there
+      ∙ ap (λ (b : Bool). if (if b then false else true) then needs_no_slot live_at (service_of s) rules.machine.reads a else grows_none d.state a) live

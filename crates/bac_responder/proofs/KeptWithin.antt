@@ -19,13 +19,14 @@ use Rattle.bac_store.specs.Replies.{reply_to}
 use Rattle.bac_store.specs.Stores.{Store}
 use Rattle.bac_protocol.specs.Context.{Settings}
 use Rattle.bac_protocol.specs.Server.{ServerTransaction, is_live, is_none_live, live_entry}
-use Rattle.bac_protocol.specs.Serving.{ServerRules, ends_entry, entry_left, is_ended, server_hears}
+use Rattle.bac_protocol.specs.Serving.{ends_entry, entry_left, is_ended, server_hears}
 use Rattle.bac_protocol.specs.Service.{Octets}
-use Rattle.bac_transaction.specs.Ends.{ServerEnd, ServerSlot, context_of, is_free, key_of, put_entry}
+use Rattle.bac_transaction.specs.Ends.{ServerEnd, ServerSlot, context_of, key_of, put_entry}
 use Rattle.bac_transaction.specs.Keys as keys
 use Rattle.bac_transaction.specs.Keys.{same_key}
 use Rattle.bac_transaction.specs.Reuse.{slots_left}
-use Rattle.bac_transaction.specs.Serving.{end_left, responder_by, turn_at}
+use Rattle.bac_transaction.specs.Serving.{has_place, responder_by, turn_at}
+use Rattle.bac_transaction.specs.Sharing.{EndRules}
 use Rattle.bac_transaction.specs.Services.{outcome_by, outcome_of, service_of}
 use Rattle.bac_transaction.specs.Views.{code_same_key, peer_key_view, settings_view, slot_view, slots_view}
 use Rattle.bac_transaction.specs.declared.settings.Settings.{Settings as CodeSettings}
@@ -59,53 +60,53 @@ short_service s short choice octets = go (request_at choice octets)
 
 -- An APDU comes for a key.
 
-module _ (rules : ServerRules) (now : ℕ) (key : keys.PeerKey) (a : Apdu) (e : ServerEnd) where
+module _ (rules : EndRules) (now : ℕ) (key : keys.PeerKey) (a : Apdu) (e : ServerEnd) where
   abbrev pub present : Option ServerTransaction
   present = value_at same_key key e.slots
 
   -- the slots without the entry that the APDU ends, if it ends one
   abbrev pub remaining : List ServerSlot
-  remaining = slots_left (ends_entry rules now present a) key e.slots
+  remaining = slots_left (ends_entry rules.machine now present a) key e.slots
 
   rest_within : kept_octets remaining ≤ kept_octets e.slots
-  rest_within = go (ends_entry rules now present a)
+  rest_within = go (ends_entry rules.machine now present a)
     where
       go : (b : Bool) → kept_octets (slots_left b key e.slots) ≤ kept_octets e.slots
       go true = let sum = without_octets key e.slots in omega (arith, sum)
       go false = omega arith
 
   rest_distinct : IsDistinct same_key e.slots → IsDistinct same_key remaining
-  rest_distinct distinct = go (ends_entry rules now present a)
+  rest_distinct distinct = go (ends_entry rules.machine now present a)
     where
       go : (b : Bool) → IsDistinct same_key (slots_left b key e.slots)
       go true = IsDistinct-without same_key key e.slots distinct
       go false = distinct
 
   rest_moves : kept_octets remaining + octets_of present ≤ kept_octets e.slots + octets_of (value_at same_key key remaining)
-  rest_moves = go (ends_entry rules now present a)
+  rest_moves = go (ends_entry rules.machine now present a)
     where
       go : (b : Bool) → kept_octets (slots_left b key e.slots) + octets_of present ≤ kept_octets e.slots + octets_of (value_at same_key key (slots_left b key e.slots))
       go true = let sum = without_octets key e.slots in omega (arith, sum)
       go false = omega arith
 
-  left_there : IsDistinct same_key e.slots → value_at same_key key remaining ≡ entry_left rules now present a
-  left_there distinct = go (ends_entry rules now present a)
+  left_there : IsDistinct same_key e.slots → value_at same_key key remaining ≡ entry_left rules.machine now present a
+  left_there distinct = go (ends_entry rules.machine now present a)
     where
       go : (b : Bool) → value_at same_key key (slots_left b key e.slots) ≡ (if b then None else present)
       go true = removed_none keys.PeerKey ServerTransaction same_key keys_equivalent key e.slots distinct
       go false = refl
 
   -- where none is live, none ends
-  none_ends : is_none_live now present ≡ true → ends_entry rules now present a ≡ false
+  none_ends : is_none_live now present ≡ true → ends_entry rules.machine now present a ≡ false
   none_ends none = go present none
     where
       dead : (b d : Bool) → (if b then false else true) ≡ true → b && d ≡ false
       dead true d none = absurd cc
       dead false d none = refl
 
-      go : (o : Option ServerTransaction) → is_none_live now o ≡ true → ends_entry rules now o a ≡ false
+      go : (o : Option ServerTransaction) → is_none_live now o ≡ true → ends_entry rules.machine now o a ≡ false
       go None none = refl
-      go (Some d) none = dead (is_live now d) (is_ended rules now d a) none
+      go (Some d) none = dead (is_live now d) (is_ended rules.machine now d a) none
 
   -- what the entry of the key keeps more or less, all keep
   pub left_moves : IsDistinct same_key e.slots → (o : Option ServerTransaction)
@@ -117,11 +118,11 @@ module _ (rules : ServerRules) (now : ℕ) (key : keys.PeerKey) (a : Apdu) (e : 
 
   module _ (c : Settings) (s : Store) (short : HasShortReplies s) (distinct : IsDistinct same_key e.slots) where
     abbrev left_after : Option ServerTransaction
-    left_after = (server_hears (context_of c now key) (service_of s) rules present (is_free now (end_left rules now key a e)) a).entry
+    left_after = (server_hears (context_of c now key) (service_of s) rules.machine present (has_place rules now key a e) a).entry
 
     left_fit : Fits now (octets_of (live_entry now (value_at same_key key remaining)) + growth a) left_after
     left_fit = subst (λ (o : Option ServerTransaction). Fits now (octets_of (live_entry now o) + growth a) left_after) (sym (left_there distinct))
-        (hears_fits (context_of c now key) (service_of s) (short_service s short) rules present (is_free now (end_left rules now key a e)) a)
+        (hears_fits (context_of c now key) (service_of s) (short_service s short) rules.machine present (has_place rules now key a e) a)
 
     pub turn_grows : kept_octets (put_entry now key left_after remaining) ≤ kept_octets e.slots + growth a
     turn_grows =
@@ -141,12 +142,12 @@ module _ (rules : ServerRules) (now : ℕ) (key : keys.PeerKey) (a : Apdu) (e : 
 
     -- it makes no entry keep more
 
-    pub turn_adds_nothing : adds_nothing (context_of c now key) (service_of s) rules.reads (entry_left rules now present a) a ≡ true
+    pub turn_adds_nothing : adds_nothing (context_of c now key) (service_of s) rules.machine.reads (entry_left rules.machine now present a) a ≡ true
         → kept_octets (put_entry now key left_after remaining) ≤ kept_octets e.slots
     turn_adds_nothing is =
         let fit : Fits now (octets_of (live_entry now (value_at same_key key remaining)) + 0) left_after =
         subst (λ (o : Option ServerTransaction). Fits now (octets_of (live_entry now o) + 0) left_after) (sym (left_there distinct))
-        (nothing_fits (context_of c now key) (service_of s) (short_service s short) rules present (is_free now (end_left rules now key a e)) a is) in
+        (nothing_fits (context_of c now key) (service_of s) (short_service s short) rules.machine present (has_place rules now key a e) a is) in
         let less = rest_within in
         let sum = put_grows now key remaining 0 left_after fit in
         omega (arith, less, sum)
@@ -224,7 +225,7 @@ module _ (now : ℕ) (peer : PeerView) (a : Apdu) (memory : ℕ) (slots : Slots)
 
 -- It makes no entry of the table keep more.
 
-pub nothing_within : (rules : ServerRules) (now : ℕ) (peer : PeerView) (a : Apdu) (slots : Slots) (capacity : ℕ) (restart : Option ℕ)
+pub nothing_within : (rules : EndRules) (now : ℕ) (peer : PeerView) (a : Apdu) (slots : Slots) (capacity : ℕ) (restart : Option ℕ)
     → IsDistinct code_same_key slots → (c : Settings) (s : Store) → keeps_no_more rules c now (service_of s) peer a (end_of slots capacity restart) ≡ true
     → HasShortReplies s
     → kept_octets (responder_by rules c now (service_of s) peer a (end_of slots capacity restart)).end.slots ≤ kept_octets (slots_view slots)
@@ -233,7 +234,7 @@ nothing_within rules now peer a slots capacity restart distinct c s is short =
 
 -- There was room, or it makes none keep more.
 
-pub heard_within : (memory : Option ℕ) (rules : ServerRules) (now : ℕ) (peer : PeerView) (a : Apdu) (slots : Slots) (capacity : ℕ) (restart : Option ℕ)
+pub heard_within : (memory : Option ℕ) (rules : EndRules) (now : ℕ) (peer : PeerView) (a : Apdu) (slots : Slots) (capacity : ℕ) (restart : Option ℕ)
     → IsDistinct code_same_key slots → (c : Settings) (s : Store) (old : ServerEnd) → end_of slots capacity restart ≡ old → (room : Bool)
     → (room ≡ true → StaysWithin memory now peer a old)
     → (room ≡ false → keeps_no_more rules c now (service_of s) peer a (end_of slots capacity restart) ≡ true) → (new : ServerEnd)
@@ -255,7 +256,7 @@ heard_within memory rules now peer a slots capacity restart distinct c s old sam
 
 -- what comes of an APDU, by what was asked before
 
-pub on_within : (memory : Option ℕ) (rules : ServerRules) (now : ℕ) (peer : PeerView) (a : Apdu) (slots : Slots) (capacity : ℕ) (restart : Option ℕ)
+pub on_within : (memory : Option ℕ) (rules : EndRules) (now : ℕ) (peer : PeerView) (a : Apdu) (slots : Slots) (capacity : ℕ) (restart : Option ℕ)
     → IsDistinct code_same_key slots → (c : Settings) (s : Store) (old : ServerEnd) → end_of slots capacity restart ≡ old → (room : Bool)
     → (room ≡ true → StaysWithin memory now peer a old) → (k : keys.PeerKey) → k ≡ key_of peer a → (x : Option Served) (new : ServerEnd) (t : Store)
     → Hears rules c now k a (end_of slots capacity restart) s (Ok x) new t → HeedsRoomAt room rules c now k a (end_of slots capacity restart) s (Ok x)
@@ -270,17 +271,17 @@ on_within memory rules now peer a slots capacity restart distinct c s old same r
     go (Some m) = λ short. omega (arith, all)
 on_within memory rules now peer a slots capacity restart distinct c s old same room stays k is (Some x) new t hears heeds =
     heard_within memory rules now peer a slots capacity restart distinct c s old same room stays
-    (λ none. ap (λ (q : keys.PeerKey). adds_nothing_at rules c now (service_of s) q a (end_of slots capacity restart)) (sym is) ∙ heeds none) new
+    (λ none. ap (λ (q : keys.PeerKey). adds_nothing_at rules.machine c now (service_of s) q a (end_of slots capacity restart)) (sym is) ∙ heeds none) new
     (hears.turn.end ∙ ap (λ (q : keys.PeerKey). (turn_at rules c now (service_of s) q a (end_of slots capacity restart)).end) is)
 
-pub on_needs : (memory : Option ℕ) (rules : ServerRules) (now : ℕ) (peer : PeerView) (a : Apdu) (e old : ServerEnd) → e ≡ old → (c : Settings) (s : Store)
+pub on_needs : (memory : Option ℕ) (rules : EndRules) (now : ℕ) (peer : PeerView) (a : Apdu) (e old : ServerEnd) → e ≡ old → (c : Settings) (s : Store)
     (room : Bool) → (growth a ≡ 0 → room ≡ true) → (memory ≡ None → room ≡ true) → (k : keys.PeerKey) → k ≡ key_of peer a → (x : Option Served)
     → HeedsRoomAt room rules c now k a e s (Ok x) → x ≡ None → NeedsRoom rules memory c now (service_of s) peer a old
 on_needs memory rules now peer a e old same c s room needless bound k is (Some x) heeds none = absurd cc
 on_needs memory rules now peer a e old same c s room needless bound k is None heeds none = record {
   request = needs_request a (λ grows. full (needless grows));
   more = ap (λ (d : ServerEnd). keeps_no_more rules c now (service_of s) peer a d) (sym same)
-      ∙ ap (λ (q : keys.PeerKey). adds_nothing_at rules c now (service_of s) q a e) (sym is) ∙ heeds.1;
+      ∙ ap (λ (q : keys.PeerKey). adds_nothing_at rules.machine c now (service_of s) q a e) (sym is) ∙ heeds.1;
   bound = there memory bound;
 }
   where
@@ -303,7 +304,7 @@ seen_moves key old new put is moves =
     let after = ap octets_of (value_viewed ServerTransaction key new ∙ ap (value_at same_key (peer_key_view key)) is) in
     omega (arith, moves, all, before, after)
 
-pub turn_moved : (rules : ServerRules) (c : Settings) (now : ℕ) (s : Store) (key : PeerKey) (a : Apdu) (old new : Slots) (capacity room : ℕ) (restart : Option ℕ)
+pub turn_moved : (rules : EndRules) (c : Settings) (now : ℕ) (s : Store) (key : PeerKey) (a : Apdu) (old new : Slots) (capacity room : ℕ) (restart : Option ℕ)
     → IsDistinct code_same_key old → end_of new room restart ≡ (turn_at rules c now (service_of s) (peer_key_view key) a (end_of old capacity restart)).end
     → kept_octets (slots_view new) + octets_of (value_at code_same_key key old) ≤ kept_octets (slots_view old) + octets_of (value_at code_same_key key new)
 turn_moved rules c now s key a old new capacity room restart distinct is =
@@ -311,9 +312,9 @@ turn_moved rules c now s key a old new capacity room restart distinct is =
     let k : keys.PeerKey = peer_key_view key in
     seen_moves key old new _ (ap (λ (x : ServerEnd). x.slots) is)
     (left_moves rules now k a e (apart old distinct)
-    (server_hears (context_of c now k) (service_of s) rules (value_at same_key k (slots_view old)) (is_free now (end_left rules now k a e)) a).entry)
+    (server_hears (context_of c now k) (service_of s) rules.machine (value_at same_key k (slots_view old)) (has_place rules now k a e) a).entry)
 
-pub on_moved : (rules : ServerRules) (c : Settings) (now : ℕ) (s : Store) (key : PeerKey) (a : Apdu) (old new : Slots) (capacity room : ℕ) (restart : Option ℕ)
+pub on_moved : (rules : EndRules) (c : Settings) (now : ℕ) (s : Store) (key : PeerKey) (a : Apdu) (old new : Slots) (capacity room : ℕ) (restart : Option ℕ)
     → IsDistinct code_same_key old → (x : Option Served) (t : Store)
     → Hears rules c now (peer_key_view key) a (end_of old capacity restart) s (Ok x) (end_of new room restart) t
     → kept_octets (slots_view new) + octets_of (value_at code_same_key key old) ≤ kept_octets (slots_view old) + octets_of (value_at code_same_key key new)

@@ -16,4 +16,5 @@ pub mod Growth
 pub mod KeptTables
 pub mod KeptWithin
 pub mod Hearings
+pub mod Shares
 pub mod NextFree

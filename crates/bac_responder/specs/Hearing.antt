@@ -11,13 +11,14 @@ use Rattle.bac_protocol.specs.Context.{Settings}
 use Rattle.bac_protocol.specs.Server as server
 use Rattle.bac_protocol.specs.Server.{ServerTransaction}
 use Rattle.bac_protocol.specs.Service.{Octets}
-use Rattle.bac_protocol.specs.Serving.{ReadRule, ServerRules}
+use Rattle.bac_protocol.specs.Serving.{ReadRule}
 use Rattle.bac_transaction.specs.Ends.{ServerEnd}
 use Rattle.bac_transaction.specs.Keys as keys
 use Rattle.bac_transaction.specs.Sends.{Datagram, IsSent, Pairwise, to_all}
 use Rattle.bac_transaction.specs.Services as services
 use Rattle.bac_transaction.specs.Services.{ArePerformed, service_of, store_after}
 use Rattle.bac_transaction.specs.Serving.{is_turned_away_at, turn_at}
+use Rattle.bac_transaction.specs.Sharing.{EndRules}
 use Rattle.bac_transaction.specs.Views.{code_same_key}
 use Rattle.bac_transaction.specs.declared.peer_key.PeerKey.{PeerKey}
 use Rattle.bac_responder.specs.Kept.{adds_nothing_at}
@@ -102,19 +103,19 @@ abbrev pub code_slots_left : (ends : Bool) → PeerKey → List (Slot PeerKey Se
 code_slots_left ends key slots = if ends then without code_same_key key slots else slots
 
 -- the turn is done, and it says whether a request was turned away
-pub record IsHeard (rules : ServerRules) (c : Settings) (now : ℕ) (key : keys.PeerKey) (a : Apdu) (old : ServerEnd) (s : Store) (sent : List Datagram)
+pub record IsHeard (rules : EndRules) (c : Settings) (now : ℕ) (key : keys.PeerKey) (a : Apdu) (old : ServerEnd) (s : Store) (sent : List Datagram)
     (x : Option Acted) (away : Bool) (new : ServerEnd) (t : Store) : Type 0 where
   pub turn : IsServed (turn_at rules c now (service_of s) key a old) s sent x new t
   pub told : away ≡ is_turned_away_at rules c now (service_of s) key a old
 
 -- or memory has no room, or ran out, and the end and the store are as they were
-abbrev pub Hears : ServerRules → Settings → (now : ℕ) → keys.PeerKey → Apdu → (old : ServerEnd) → Store → Result (Option Served) NoMemory → (new : ServerEnd)
+abbrev pub Hears : EndRules → Settings → (now : ℕ) → keys.PeerKey → Apdu → (old : ServerEnd) → Store → Result (Option Served) NoMemory → (new : ServerEnd)
     → Store → Type 0
 Hears rules c now key a old s (Ok (Some x)) new t = IsHeard rules c now key a old s x.sends.items (acted_view x.act) x.turned_away new t
 Hears rules c now key a old s (Ok None) new t = (new ≡ old) × (t ≡ s)
 Hears rules c now key a old s (Err e) new t = (new ≡ old) × (t ≡ s)
 
 -- where memory has no room, only an APDU that makes the end keep no more is heard, and always
-abbrev pub HeedsRoomAt : (room : Bool) → ServerRules → Settings → (now : ℕ) → keys.PeerKey → Apdu → (old : ServerEnd) → Store → Result (Option Served) NoMemory
+abbrev pub HeedsRoomAt : (room : Bool) → EndRules → Settings → (now : ℕ) → keys.PeerKey → Apdu → (old : ServerEnd) → Store → Result (Option Served) NoMemory
     → Type 0
-HeedsRoomAt room rules c now key a old s x = HeedsRoom room (adds_nothing_at rules c now (service_of s) key a old) x
+HeedsRoomAt room rules c now key a old s x = HeedsRoom room (adds_nothing_at rules.machine c now (service_of s) key a old) x

@@ -19,6 +19,7 @@ use Rattle.bac_transaction.specs.Keys as keys
 use Rattle.bac_transaction.specs.Keys.{same_key}
 use Rattle.bac_transaction.specs.Services.{service_of}
 use Rattle.bac_transaction.specs.Serving.{responder_by}
+use Rattle.bac_transaction.specs.Sharing.{EndRules}
 use Rattle.bac_transaction.specs.declared.peer_key.PeerKey.{PeerKey}
 
 -- of segments that were received: those of each, and four for its place
@@ -86,7 +87,7 @@ HasShortReplies s = (r : Request) → reply_length (reply_to s r) ≤ DATA_LIMIT
 abbrev pub StaysWithin : (memory : Option ℕ) → (now : ℕ) → PeerView → Apdu → ServerEnd → Type 0
 StaysWithin None now peer a e = Unit {0}
 StaysWithin (Some memory) now peer a e =
-    (rules : ServerRules) (c : Settings) (s : Store) → HasShortReplies s
+    (rules : EndRules) (c : Settings) (s : Store) → HasShortReplies s
     → kept_octets (responder_by rules c now (service_of s) peer a e).end.slots ≤ max (kept_octets e.slots) memory
 
 -- an end keeps no more octets than before, or no more than the bound, if there is one
@@ -129,11 +130,11 @@ adds_nothing_at rules c now service key a e =
     adds_nothing (context_of c now key) service rules.reads (entry_left rules now (value_at same_key key e.slots) a) a
 
 -- an APDU comes from a peer
-abbrev pub keeps_no_more : ServerRules → Settings → (now : ℕ) → Service → PeerView → Apdu → ServerEnd → Bool
-keeps_no_more rules c now service peer a e = adds_nothing_at rules c now service (key_of peer a) a e
+abbrev pub keeps_no_more : EndRules → Settings → (now : ℕ) → Service → PeerView → Apdu → ServerEnd → Bool
+keeps_no_more rules c now service peer a e = adds_nothing_at rules.machine c now service (key_of peer a) a e
 
 -- only such an APDU finds no room: it is a request, it can make the end keep more, and there is a bound
-pub record NeedsRoom (rules : ServerRules) (memory : Option ℕ) (c : Settings) (now : ℕ) (service : Service) (peer : PeerView) (a : Apdu) (e : ServerEnd) : Type 0 where
+pub record NeedsRoom (rules : EndRules) (memory : Option ℕ) (c : Settings) (now : ℕ) (service : Service) (peer : PeerView) (a : Apdu) (e : ServerEnd) : Type 0 where
   pub request : is_request a ≡ true
   pub more : keeps_no_more rules c now service peer a e ≡ false
   pub bound : is_some memory ≡ true

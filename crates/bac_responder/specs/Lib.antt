@@ -11,4 +11,5 @@ pub mod Reading
 pub mod Preparing
 pub mod Segments
 pub mod Hearing
+pub mod Sharing
 pub mod Timers

@@ -159,7 +159,7 @@ impl ServerTransaction {
 
     /// Whether an APDU ends it, by the rules of its end.
     pub(crate) fn is_ended(&self, rules: &Rules, now: u64, apdu: &Apdu<'_>) -> bool
-        ensures { result ≡ serving.is_ended (rules_view rules.now) now self.now (apdu_view apdu.now) }
+        ensures { result ≡ serving.is_ended (rules_view rules.now).machine now self.now (apdu_view apdu.now) }
     {
         self.is_used_again(rules.reads, apdu) || self.is_forgotten(rules.remember, now, apdu)
     }

@@ -1,11 +1,12 @@
 //! An APDU comes for one transaction, by the rules of its end: its entry goes on, or ends, or none is live. `Responder::on` calls `on_apdu`.
-ghost use Rattle.std.specs.Prelude.{◌≡◌, ◌&&◌, true, None};
+ghost use Rattle.std.specs.Prelude.{◌≡◌, ◌&&◌, ◌||◌, not, true, false, None};
 ghost use Rattle.bac_apdu.specs.Views.{apdu_view};
 ghost use Rattle.bac_slots.specs.Slots.{value_at};
 ghost use Rattle.bac_slots.specs.Ages.{IsKnownBy};
 ghost use Rattle.bac_protocol.specs.Server.{is_none_live, live_on_apdu};
 ghost use Rattle.bac_protocol.specs.Serving.{begins_request, ends_entry, entry_left};
 ghost use Rattle.bac_transaction.specs.Ends.{is_free};
+ghost use Rattle.bac_transaction.specs.Sharing.{address_of, has_share, may_begin};
 ghost use Rattle.bac_transaction.specs.Views.{code_same_key, context_view, peer_key_view, peer_of, rules_view, settings_view};
 ghost use Rattle.bac_transaction.specs.Services.{service_of};
 ghost use Rattle.bac_responder.specs.Aging.{AreAged};
@@ -19,6 +20,7 @@ use crate::aging::ServerAging;
 use crate::beginning::{Begun, Space, idle_by};
 use crate::ending::begins_request;
 use crate::served::{Act, Served};
+use crate::sharing::has_share;
 use crate::{Performed, ServerTransaction};
 use bac_apdu::Apdu;
 use bac_protocol::times::KEEP;
@@ -81,7 +83,7 @@ impl ServerTransaction {
 }
 
 /// Whether an APDU begins a request, a slot has no live entry, and the end does not wait after a restart. For any other APDU no entry is looked at.
-fn has_place<S: SlotTable<PeerKey, ServerTransaction>>(
+fn has_slot<S: SlotTable<PeerKey, ServerTransaction>>(
     aged: &AgedTable<ServerAging, S>,
     restart: Option<u64>,
     now: u64,
@@ -93,6 +95,37 @@ fn has_place<S: SlotTable<PeerKey, ServerTransaction>>(
     begins_request(apdu) && has_room(aged, now) && !is_waiting(restart, KEEP, now)
 }
 
+/// Whether slots are not shared, or the address of the key has a share.
+#[tactic(auto, using(crate::proofs::Shares::asked, crate::proofs::Shares::not_asked))]
+fn has_share_if_shared<S: SlotTable<PeerKey, ServerTransaction>>(
+    aged: &AgedTable<ServerAging, S>,
+    told: &Told,
+) -> bool
+    ensures { result ≡ (not (rules_view told.now.rules).share || (false || has_share told.now.context.moment (address_of (peer_key_view told.now.context.key).peer.link)
+        (end_of (S.slots aged.now.table) (S.capacity aged.now.table) told.now.restart))) }
+{
+    if told.rules.shares() {
+        has_share(aged, told.context.moment, &told.context.key.peer.link)
+    } else {
+        true
+    }
+}
+
+/// Whether an APDU begins a request that finds a free slot, as `has_slot` says, and where slots are shared, the address of the key has a share.
+#[tactic(auto, using(crate::proofs::Shares::in_turn))]
+fn has_place<S: SlotTable<PeerKey, ServerTransaction>>(
+    aged: &AgedTable<ServerAging, S>,
+    told: &Told,
+    apdu: &Apdu<'_>,
+) -> bool
+    requires { AreAged aged.now.ages (S.slots aged.now.table) }
+    ensures { result ≡ (begins_request (apdu_view apdu.now) && may_begin (rules_view told.now.rules).share false told.now.context.moment
+        (peer_key_view told.now.context.key) (end_of (S.slots aged.now.table) (S.capacity aged.now.table) told.now.restart)) }
+{
+    let is_there = has_slot(aged, told.restart, told.context.moment, apdu);
+    is_there && has_share_if_shared(aged, told)
+}
+
 /// Whether an APDU begins a request that finds a place, as `has_place` says. If the entry of its key ends, its own slot becomes free for it.
 fn has_place_left<S: SlotTable<PeerKey, ServerTransaction>>(
     aged: &AgedTable<ServerAging, S>,
@@ -101,20 +134,19 @@ fn has_place_left<S: SlotTable<PeerKey, ServerTransaction>>(
     apdu: &Apdu<'_>,
 ) -> bool
     requires aged { AreAged aged.now.ages (S.slots aged.now.table) }
-    requires ends { ends ≡ ends_entry (rules_view told.now.rules) told.now.context.moment (value_at code_same_key told.now.context.key (S.slots aged.now.table))
+    requires ends { ends ≡ ends_entry (rules_view told.now.rules).machine told.now.context.moment (value_at code_same_key told.now.context.key (S.slots aged.now.table))
         (apdu_view apdu.now) }
-    ensures { result ≡ (begins_request (apdu_view apdu.now) && is_free told.now.context.moment
+    ensures { result ≡ (begins_request (apdu_view apdu.now) && may_begin (rules_view told.now.rules).share ends told.now.context.moment
+        (peer_key_view told.now.context.key)
         (end_of (code_slots_left ends told.now.context.key (S.slots aged.now.table)) (S.capacity aged.now.table) told.now.restart)) }
 {
-    let now = told.context.moment;
-    let restart = told.restart;
     if !ends {
-        return has_place(aged, restart, now, apdu);
+        return has_place(aged, told, apdu);
     }
     // its own slot gets free: no more entries are live than there are slots
     let _len = aged.table.len();
     removing_a_slot::<PeerKey, ServerTransaction>();
-    begins_request(apdu) && !is_waiting(restart, KEEP, now)
+    begins_request(apdu) && !is_waiting(told.restart, KEEP, told.context.moment)
 }
 
 /// The entry of the key ends, if it does.
@@ -144,9 +176,9 @@ fn begin<S: SlotTable<PeerKey, ServerTransaction>>(
     apdu: &Apdu<'_>,
     store: &mut Store,
 ) -> Result<Option<Served>, NoMemory>
-    requires ends { ends ≡ ends_entry (rules_view told.now.rules) told.now.context.moment (value_at code_same_key told.now.context.key (S.slots aged.old.table))
+    requires ends { ends ≡ ends_entry (rules_view told.now.rules).machine told.now.context.moment (value_at code_same_key told.now.context.key (S.slots aged.old.table))
         (apdu_view apdu.now) }
-    requires none { is_none_live told.now.context.moment (entry_left (rules_view told.now.rules) told.now.context.moment
+    requires none { is_none_live told.now.context.moment (entry_left (rules_view told.now.rules).machine told.now.context.moment
         (value_at code_same_key told.now.context.key (S.slots aged.old.table)) (apdu_view apdu.now)) ≡ true }
     requires aged { AreAged aged.old.ages (S.slots aged.old.table) }
     ensures hears { Hears (rules_view told.now.rules) (settings_view told.now.context.settings) told.now.context.moment (peer_key_view told.now.context.key) (apdu_view apdu.now)

@@ -30,6 +30,7 @@ mod segmented_request;
 mod segmented_response;
 mod served;
 mod server_transaction;
+mod sharing;
 mod tick;
 mod ticking;
 mod timers;

@@ -14,6 +14,7 @@ ghost use Rattle.bac_transaction.specs.Views.{peer_key_view, rules_view, setting
 ghost use Rattle.bac_responder.specs.Timers.{LAST_MOMENT};
 ghost use Rattle.bac_responder.specs.Short.{AreRequestsShort};
 ghost use Rattle.bac_transaction.specs.Services.{service_of};
+ghost use Rattle.bac_transaction.specs.Sharing.{address_of, has_share};
 ghost use Rattle.bac_responder.specs.Hearing.{Hears};
 ghost use Rattle.bac_responder.specs.Kept.{IsWithin, NeedsRoom, StaysWithin, growth, kept_octets};
 
@@ -26,9 +27,10 @@ use crate::keeping::{
 };
 use crate::moments::{first_end, first_timer};
 use crate::served::Served;
+use crate::sharing::has_share;
 use crate::ticking::{nothing_due, prepare};
 use bac_apdu::Apdu;
-use bac_npdu::Peer;
+use bac_npdu::{LinkAddress, Peer};
 use bac_slots::{
     AgedTable, SlotTable, count_alive, each_slot, empty_table, remove_dead, same_tables, seek, tick,
 };
@@ -128,6 +130,14 @@ impl<S: SlotTable<PeerKey, ServerTransaction> + Drop> Responder<S> {
         from.max(first_dead(&self.aged.table))
     }
 
+    /// Whether the IP address of a link has a share in the slots: it holds at most 15 live entries for each slot that stays free once one more begins. Where slots
+    /// are shared, a new request that finds a free slot is turned away if it has none, unless it ends an entry.
+    pub fn has_share(&self, now: u64, link: &LinkAddress) -> bool
+        ensures { result ≡ has_share now (address_of link.now) self.now }
+    {
+        has_share(&self.aged, now, link)
+    }
+
     /// How many slots it was made with.
     pub fn capacity(&self) -> usize
         ensures { result ≡ self.now.capacity }
@@ -215,7 +225,8 @@ impl<S: SlotTable<PeerKey, ServerTransaction> + Drop> Responder<S> {
     ///
     /// A new request is performed, or begins to be received, where a slot is free. A copy of one with a live entry is answered from the entry, and
     /// not performed again. A live entry is never evicted. Where no slot is free, or while the end waits after a restart, a new request is turned
-    /// away, with an Abort of reason 0.
+    /// away, with an Abort of reason 0. So it is where slots are shared and the IP address of the peer has no share: it holds more than 15 live entries
+    /// for each slot that would stay free. A request that ends an entry takes its slot in any case.
     ///
     /// Where reads are performed anew, the entry of a read that came without segments ends with its reply in segments. The SegmentACK that finishes
     /// the reply ends it, and an Abort of its client. Another entry is over once its reply of one APDU was sent, its reply in segments was

@@ -177,6 +177,7 @@ impl Serving {
         LogSettings {
             format: self.log_format(start),
             serves_from: self.serves_from(start.moment),
+            shares: self.rules.shares(),
         }
     }
 

@@ -51,7 +51,7 @@ makers_are_many limits window first (suc count) = ap suc (makers_are_many limits
 
 timely : IsTimely (own_pace 1000 4873)
 unfolding most least
-timely = record { some = omega arith; slow = omega arith; keeps = omega arith; rests = omega arith }
+timely = record { some = omega arith; ticks = omega arith; slow = omega arith; keeps = omega arith; rests = omega arith }
 
 pub clocks_memory_alone : (limits : Limits) (f : NewClocksFault) (lines : List ScriptLine) (overtake window count : ℕ) (makers : List Maker) (starts : List ℕ)
     → makers ≡ makers_from limits window 0 count → starts ≡ starts_from lines 0 count → 1 ≤ window → window ≤ 64 → overtake + 2 * window ≤ 255

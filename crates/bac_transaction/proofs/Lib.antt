@@ -5,6 +5,7 @@ pub mod Keyed
 pub mod Computed
 pub mod ReuseComputed
 pub mod ServingComputed
+pub mod SharingComputed
 pub mod KeyOrder
 pub mod Holding
 pub mod KeyedSlots

@@ -9,8 +9,10 @@ pub mod Tables
 pub mod Meanings
 pub mod Examples
 pub mod Services
+pub mod Sharing
 pub mod Reuse
 pub mod Serving
 pub mod ServingLaws
 pub mod ReuseExamples
 pub mod ServingExamples
+pub mod SharingExamples

@@ -1,5 +1,5 @@
 -- A server's end that lets invoke IDs be used again, computed. Each type here is an equation that a law proves.
-use Rattle.std.specs.Prelude.{◌≡◌, ℕ, List, [], ◌∷◌, Some, None, true}
+use Rattle.std.specs.Prelude.{◌≡◌, ℕ, List, [], ◌∷◌, Some, None, true, false}
 use Rattle.bac_apdu.specs.Apdu.{Apdu}
 use Rattle.bac_apdu.specs.Apdu.Apdu.{ConfirmedRequest, SimpleAck, Abort}
 use Rattle.bac_protocol.specs.Service.{Octets, Reply}
@@ -13,7 +13,7 @@ use Rattle.bac_transaction.specs.Sends.{Send}
 
 -- an APDU comes from peer n to an end with one slot
 abbrev pub hears : (now n : ℕ) → Apdu → ServerEnd → ServerTurn
-hears now n a e = responder_reusing SETTINGS now SERVICE (peer n) a e
+hears now n a e = responder_reusing false SETTINGS now SERVICE (peer n) a e
 
 -- a write, or a read, with invoke ID 7
 abbrev pub write : Octets → Apdu

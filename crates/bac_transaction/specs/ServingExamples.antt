@@ -1,16 +1,16 @@
 -- A server's end by its rules, computed: what it remembers. The type here is an equation that a law proves.
-use Rattle.std.specs.Prelude.{◌≡◌, ℕ, [], ◌∷◌, Some, None}
-use Rattle.bac_protocol.specs.Serving.{ServerRules, fresh_rules}
+use Rattle.std.specs.Prelude.{◌≡◌, ℕ, [], ◌∷◌, Some, None, false}
 use Rattle.bac_transaction.specs.Ends.{ServerTurn}
 use Rattle.bac_transaction.specs.Examples.{REQUEST, SERVICE, SERVICE_DATA, SETTINGS}
 use Rattle.bac_transaction.specs.Reuse.{is_read}
 use Rattle.bac_transaction.specs.ReuseExamples.{act_of, answered, entry_at, with_slots}
 use Rattle.bac_transaction.specs.Serving.{responder_by}
+use Rattle.bac_transaction.specs.Sharing.{EndRules, fresh_rules}
 use Rattle.bac_transaction.specs.Examples as examples
 
 -- a request that is over is remembered for ten seconds
-abbrev pub TEN_SECONDS : ServerRules
-TEN_SECONDS = fresh_rules is_read (Some 10000)
+abbrev pub TEN_SECONDS : EndRules
+TEN_SECONDS = fresh_rules is_read (Some 10000) false
 
 -- the kept write comes again
 abbrev pub comes_again : (now : ℕ) → ServerTurn

@@ -1,5 +1,5 @@
 -- What contracts see of the types in code.
-use Rattle.std.specs.Prelude.{Bool, List, map}
+use Rattle.std.specs.Prelude.{Bool, false, List, map}
 use Rattle.std.specs.Ordering.{on}
 use Rattle.std.specs.declared.cmp.Ordering.{Ordering}
 use Rattle.bac_apdu.specs.Views.{limits_view}
@@ -16,6 +16,7 @@ use Rattle.bac_transaction.specs.declared.rules.ReadRule.TheVariants as rule_cas
 use Rattle.bac_transaction.specs.declared.rules.Rules.{Rules}
 use Rattle.bac_transaction.specs.Ends.{context_of}
 use Rattle.bac_transaction.specs.Reuse.{is_read}
+use Rattle.bac_transaction.specs.Sharing.{EndRules}
 use Rattle.bac_transaction.specs.Keys as keys
 
 -- a key in code, as a plain one
@@ -31,8 +32,13 @@ abbrev pub read_rule_view : rule.ReadRule → serving.ReadRule
 read_rule_view rule_case.Kept = serving.Kept
 read_rule_view rule_case.Fresh = serving.Fresh is_read
 
-abbrev pub rules_view : Rules → serving.ServerRules
-rules_view r = record { reads = read_rule_view r.reads; remember = r.remember }
+-- slots are shared only where reads are performed anew
+abbrev pub share_view : rule.ReadRule → Bool → Bool
+share_view rule_case.Kept share = false
+share_view rule_case.Fresh share = share
+
+abbrev pub rules_view : Rules → EndRules
+rules_view r = record { machine = record { reads = read_rule_view r.reads; remember = r.remember }; share = share_view r.reads r.share }
 
 -- what a machine is told
 abbrev pub context_view : Context → context.Context

@@ -2,6 +2,7 @@
 ghost use Rattle.bac_transaction.specs.Examples.{LeastInvokeId, LeastAround, HeldFor, SlotHeldFor, TickOrder, KeptReply, FullTable, WaitsToAsk, WaitsToServe};
 ghost use Rattle.bac_transaction.specs.ReuseExamples.{InSegments, UsedAgain, WithoutRoom};
 ghost use Rattle.bac_transaction.specs.ServingExamples.{RemembersSoLong};
+ghost use Rattle.bac_transaction.specs.SharingExamples.{OfFour, OfSixteen};
 
 /// Which invoke ID an ask takes, and how long a slot is held.
 #[tactic(auto, using(crate::proofs::Computed::least_invoke_id, crate::proofs::Computed::least_around, crate::proofs::Computed::held_for, crate::proofs::Computed::slot_held_for))]
@@ -44,4 +45,11 @@ pub fn invoke_ids_again()
 #[tactic(auto, using(crate::proofs::ServingComputed::remembers_so_long))]
 pub fn ends_by_their_rules()
     ensures { RemembersSoLong }
+{}
+
+/// How many slots one address fills, where a server's end shares them.
+#[tactic(auto, using(crate::proofs::SharingComputed::of_sixteen, crate::proofs::SharingComputed::of_four))]
+pub fn slots_that_are_shared()
+    ensures sixteen { OfSixteen }
+    ensures four { OfFour }
 {}

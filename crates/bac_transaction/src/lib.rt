@@ -29,6 +29,8 @@ pub use laws::{
 pub use peer_key::PeerKey;
 pub use restart::is_waiting;
 pub use rules::{ReadRule, Rules};
-pub use serving::{fresh_reads, remembers_all, requests_turned_away, strict_rules};
+pub use serving::{
+    fresh_reads, remembers_all, requests_turned_away, slots_are_shared, strict_rules,
+};
 pub use settings::Settings;
 pub use sizes::{allows_segments, apdu_size, transfer_size};

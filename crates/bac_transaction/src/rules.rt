@@ -1,6 +1,7 @@
 //! The rules of a server: what it does of its own beside the standard.
 ghost use Rattle.std.specs.Prelude.{◌≡◌, Some};
 ghost use Rattle.bac_transaction.specs.Given.{ANEW, STRICTLY, rules_of};
+ghost use Rattle.bac_transaction.specs.Views.{share_view};
 
 /// How reads are served: ReadProperty and AtomicReadFile (clauses 15.5 and 14.1).
 #[derive(Clone, Copy, Debug, PartialEq, Eq)]
@@ -23,10 +24,15 @@ pub struct Rules {
     pub remember: Option<u64>,
     /// How many octets of requests and replies the server keeps at the most; `None`: as many as can be allocated.
     pub memory: Option<usize>,
+    /// Whether slots are shared among IP addresses, where reads are performed anew (own rule of this profile). A new request then begins an entry only where its
+    /// address, whatever the port, holds at most 15 live entries for each slot that stays free. So one address alone fills at most 15/16 of the slots, and one
+    /// that holds no entry gets the last free slot. A request that ends an entry of its key takes its slot. Where replies to reads are kept too, slots are
+    /// never shared.
+    pub share: bool,
 }
 
 impl Rules {
-    /// The strict rules, without a bound on memory: each reply is kept, for as long as its entry lives.
+    /// The strict rules, without a bound on memory: each reply is kept, for as long as its entry lives, and one address may use all slots.
     pub const fn strict() -> Rules
         ensures { result ≡ STRICTLY }
     {
@@ -34,11 +40,12 @@ impl Rules {
             reads: ReadRule::Kept,
             remember: None,
             memory: None,
+            share: false,
         }
     }
 
     /// Reads are performed anew, without a bound on memory: a client may use an invoke ID again as soon as its transaction is over, and other requests that are
-    /// over are remembered for as long as their entries live.
+    /// over are remembered for as long as their entries live. Slots are shared among addresses, so that none shuts out the others.
     pub const fn fresh() -> Rules
         ensures { result ≡ ANEW }
     {
@@ -46,6 +53,17 @@ impl Rules {
             reads: ReadRule::Fresh,
             remember: None,
             memory: None,
+            share: true,
+        }
+    }
+
+    /// Whether slots are shared among addresses: only where reads are performed anew, too.
+    pub const fn shares(&self) -> bool
+        ensures { result ≡ share_view self.now.reads self.now.share }
+    {
+        match self.reads {
+            ReadRule::Kept => false,
+            ReadRule::Fresh => self.share,
         }
     }
 

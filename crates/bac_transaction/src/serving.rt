@@ -1,5 +1,5 @@
 //! Laws of the server's end by its rules: each function's contract is one.
-ghost use Rattle.bac_transaction.specs.ServingLaws.{FreshIsReusing, RemembersAll, StrictIsResponder, TurnsAwayBy};
+ghost use Rattle.bac_transaction.specs.ServingLaws.{FreshIsReusing, RemembersAll, SharesSlots, StrictIsResponder, TurnsAwayBy};
 
 /// Under the strict rules a server's end does what the standard with this profile's reply table says, word for word.
 #[tactic(auto, using(crate::proofs::ByRules::strict_is_responder))]
@@ -23,4 +23,11 @@ pub fn remembers_all()
 #[tactic(auto, using(crate::proofs::ByRules::turns_away_by))]
 pub fn requests_turned_away()
     ensures { TurnsAwayBy }
+{}
+
+/// Where slots are shared, the request of an address that has a share is served while a slot is free. An address that holds no entry has one. One that
+/// holds some leaves the last free slot to others, and alone it never fills more than 15/16 of the slots.
+#[tactic(auto, using(crate::proofs::ByRules::shares_slots))]
+pub fn slots_are_shared()
+    ensures { SharesSlots }
 {}

@@ -1,5 +1,4 @@
 //! What `decode`, `check` and `explain` take: the commands that read datagrams and captures.
-use crate::words::{Need, Word, WordForm};
 
 /// Examples for `decode`.
 pub(crate) const DECODE_EXAMPLES: &str = "\
@@ -11,50 +10,13 @@ Example: bac decode --form base64 gQoACAEAEBM=
 Example: bac decode --text --frame --form hexdump - < packet.txt";
 
 /// What `decode` takes.
-pub(crate) const DECODE: &[Word] = &[
-    Word {
-        name: "HEX",
-        form: WordForm::Bare,
-        need: Need::Always,
-        against: &[],
-        help: "The datagram in hexadecimal; spaces, tabs or colons may separate groups, and `0x` may begin one. `-` reads datagrams from standard input: one per line, or in another form that it recognizes",
-    },
-    Word {
-        name: "text",
-        form: WordForm::Flag,
-        need: Need::Never,
-        against: &[],
-        help: "Prints objects, properties, errors, reasons and faults by name, and values with their kinds",
-    },
-    Word {
-        name: "form",
-        form: WordForm::Text("FORM"),
-        need: Need::Never,
-        against: &["json"],
-        help: "The form of the datagrams, as Wireshark copies them: `hex`, `hexdump`, `escaped`, `c` (C arrays), `base64`, or `auto` to detect it. Give only the part from BACnet/IP (0x81) on, without the headers before it, unless --frame is given",
-    },
-    Word {
-        name: "number",
-        form: WordForm::Flag,
-        need: Need::Never,
-        against: &["json"],
-        help: "Prints a line `datagram N` before each datagram, counted from 1",
-    },
-    Word {
-        name: "frame",
-        form: WordForm::Flag,
-        need: Need::Never,
-        against: &["json"],
-        help: "Reads whole Ethernet frames, as Wireshark copies packets, and prints the datagram in each from or to UDP port 47808 to 47823",
-    },
-    Word {
-        name: "json",
-        form: WordForm::Flag,
-        need: Need::Never,
-        against: &["text"],
-        help: "Prints each datagram as a JSON object, one per line",
-    },
-];
+pub(crate) const DECODE: &str = "\
+HEX|bare|always||The datagram in hexadecimal; spaces, tabs or colons may separate groups, and `0x` may begin one. `-` reads datagrams from standard input: one per line, or in another form that it recognizes
+text|flag|never||Prints objects, properties, errors, reasons and faults by name, and values with their kinds
+form|text FORM|never|json|The form of the datagrams, as Wireshark copies them: `hex`, `hexdump`, `escaped`, `c` (C arrays), `base64`, or `auto` to detect it. Give only the part from BACnet/IP (0x81) on, without the headers before it, unless --frame is given
+number|flag|never|json|Prints a line `datagram N` before each datagram, counted from 1
+frame|flag|never|json|Reads whole Ethernet frames, as Wireshark copies packets, and prints the datagram in each from or to UDP port 47808 to 47823
+json|flag|never|text|Prints each datagram as a JSON object, one per line";
 
 /// Examples for `check`.
 pub(crate) const CHECK_EXAMPLES: &str = "\
@@ -62,43 +24,12 @@ Example: bac check capture.txt
 Example: bac check capture.pcapng";
 
 /// What `check` takes.
-pub(crate) const CHECK: &[Word] = &[
-    Word {
-        name: "FILE",
-        form: WordForm::Bare,
-        need: Need::Always,
-        against: &[],
-        help: "The capture: pcap, pcapng, or lines `moment from to hex`; - is standard input",
-    },
-    Word {
-        name: "port",
-        form: WordForm::Number("P", 65_535),
-        need: Need::Never,
-        against: &[],
-        help: "Another UDP port that carries BACnet/IP, besides 47808 to 47823",
-    },
-    Word {
-        name: "notes",
-        form: WordForm::Flag,
-        need: Need::Never,
-        against: &["port"],
-        help: "Accepts lines that end in CRLF, and skips blank lines and lines that begin with `#`",
-    },
-    Word {
-        name: "text",
-        form: WordForm::Flag,
-        need: Need::Never,
-        against: &[],
-        help: "Prints faults in words; for pcap and pcapng also how many frames carry each other BVLC function, by name",
-    },
-    Word {
-        name: "json",
-        form: WordForm::Flag,
-        need: Need::Never,
-        against: &["text"],
-        help: "Prints each invalid frame or line, and the counts, as a JSON object, one per line",
-    },
-];
+pub(crate) const CHECK: &str = "\
+FILE|bare|always||The capture: pcap, pcapng, or lines `moment from to hex`; - is standard input
+port|number P 65535|never||Another UDP port that carries BACnet/IP, besides 47808 to 47823
+notes|flag|never|port|Accepts lines that end in CRLF, and skips blank lines and lines that begin with `#`
+text|flag|never||Prints faults in words; for pcap and pcapng also how many frames carry each other BVLC function, by name
+json|flag|never|text|Prints each invalid frame or line, and the counts, as a JSON object, one per line";
 
 /// Examples for `explain`.
 pub(crate) const EXPLAIN_EXAMPLES: &str = "\
@@ -112,140 +43,22 @@ Example: tcpdump -i eth0 -U -w - udp port 47808 | bac explain -
 Example: bac explain --json capture.pcapng | jq 'select(.unanswered)'
 Example: bac explain --html capture.pcapng > capture.html";
 
-/// The words of `explain` that go with no chart.
-const TRANSACTIONS: &[&str] = &[
-    "unanswered",
-    "errors",
-    "repeated",
-    "findings",
-    "slower",
-    "peer",
-    "fail",
-    "json",
-    "html",
-    "frames",
-    "strict-ids",
-];
-
 /// What `explain` takes.
-pub(crate) const EXPLAIN: &[Word] = &[
-    Word {
-        name: "FILE",
-        form: WordForm::Bare,
-        need: Need::Always,
-        against: &[],
-        help: "The capture: pcap or pcapng; - is standard input",
-    },
-    Word {
-        name: "port",
-        form: WordForm::Number("P", 65_535),
-        need: Need::Never,
-        against: &[],
-        help: "Another UDP port that carries BACnet/IP, besides 47808 to 47823",
-    },
-    Word {
-        name: "chart",
-        form: WordForm::Flag,
-        need: Need::Never,
-        against: &[],
-        help: "Draws a sequence chart instead, with a column of 41 characters for each peer, at most 16",
-    },
-    Word {
-        name: "mermaid",
-        form: WordForm::Flag,
-        need: Need::Never,
-        against: &["chart"],
-        help: "Prints that chart as a Mermaid `sequenceDiagram`",
-    },
-    Word {
-        name: "unanswered",
-        form: WordForm::Flag,
-        need: Need::Never,
-        against: &["chart", "mermaid"],
-        help: "Prints only transactions without an answer",
-    },
-    Word {
-        name: "errors",
-        form: WordForm::Flag,
-        need: Need::Never,
-        against: &["chart", "mermaid"],
-        help: "Prints only transactions that ended with an Error, a Reject or an Abort",
-    },
-    Word {
-        name: "repeated",
-        form: WordForm::Flag,
-        need: Need::Never,
-        against: &["chart", "mermaid"],
-        help: "Prints only transactions whose request, or a segment of it, was sent more than once, answered or not; where the capture lacks segments of a request, a repeated one may go unnoticed",
-    },
-    Word {
-        name: "findings",
-        form: WordForm::Flag,
-        need: Need::Never,
-        against: &["chart", "mermaid"],
-        help: "Prints only transactions with a finding",
-    },
-    Word {
-        name: "slower",
-        form: WordForm::Text("TIME"),
-        need: Need::Never,
-        against: &["chart", "mermaid"],
-        help: "Prints only transactions whose answer took more than TIME, or that have no answer: 300ms, 2s, 1m, or a number of milliseconds, 1 to 1000000000",
-    },
-    Word {
-        name: "peer",
-        form: WordForm::Text("A.B.C.D[:P]"),
-        need: Need::Never,
-        against: &["chart", "mermaid"],
-        help: "Prints only transactions whose client or server has this IPv4 address, and this UDP port if one is given",
-    },
-    Word {
-        name: "fail",
-        form: WordForm::Flag,
-        need: Need::Never,
-        against: &["chart", "mermaid"],
-        help: "Ends with status 1 if it prints a transaction without an answer or with a finding, or an answer to no request, or if a frame cannot be read",
-    },
-    Word {
-        name: "json",
-        form: WordForm::Flag,
-        need: Need::Never,
-        against: &["chart", "mermaid"],
-        help: "Prints each transaction, and the counts, as a JSON object, one per line",
-    },
-    Word {
-        name: "html",
-        form: WordForm::Flag,
-        need: Need::Never,
-        against: &["chart", "mermaid", "json"],
-        help: "Prints an HTML page: the transactions as a table that sorts and filters, with a picture of each",
-    },
-    Word {
-        name: "values",
-        form: WordForm::Flag,
-        need: Need::Never,
-        against: TRANSACTIONS,
-        help: "Draws a chart (with --mermaid a Mermaid one) with the values of each answer that fits in one APDU",
-    },
-    Word {
-        name: "pairs",
-        form: WordForm::Flag,
-        need: Need::Never,
-        against: TRANSACTIONS,
-        help: "Draws a chart for each client and server, one after the other, however many there are; with --mermaid as sections of Markdown",
-    },
-    Word {
-        name: "frames",
-        form: WordForm::Flag,
-        need: Need::Never,
-        against: &["chart", "mermaid", "json", "html"],
-        help: "Prints a line for each transaction with the numbers of its frames, as Wireshark counts them",
-    },
-    Word {
-        name: "strict-ids",
-        form: WordForm::Flag,
-        need: Need::Never,
-        against: &["chart", "mermaid"],
-        help: "Counts it as a finding too if a client uses an invoke ID again within 65 seconds, although the first transaction was over",
-    },
-];
+pub(crate) const EXPLAIN: &str = "\
+FILE|bare|always||The capture: pcap or pcapng; - is standard input
+port|number P 65535|never||Another UDP port that carries BACnet/IP, besides 47808 to 47823
+chart|flag|never||Draws a sequence chart instead, with a column of 41 characters for each peer, at most 16
+mermaid|flag|never|chart|Prints that chart as a Mermaid `sequenceDiagram`
+unanswered|flag|never|chart mermaid|Prints only transactions without an answer
+errors|flag|never|chart mermaid|Prints only transactions that ended with an Error, a Reject or an Abort
+repeated|flag|never|chart mermaid|Prints only transactions whose request, or a segment of it, was sent more than once, answered or not; where the capture lacks segments of a request, a repeated one may go unnoticed
+findings|flag|never|chart mermaid|Prints only transactions with a finding
+slower|text TIME|never|chart mermaid|Prints only transactions whose answer took more than TIME, or that have no answer: 300ms, 2s, 1m, or a number of milliseconds, 1 to 1000000000
+peer|text A.B.C.D[:P]|never|chart mermaid|Prints only transactions whose client or server has this IPv4 address, and this UDP port if one is given
+fail|flag|never|chart mermaid|Ends with status 1 if it prints a transaction without an answer or with a finding, or an answer to no request, or if a frame cannot be read
+json|flag|never|chart mermaid|Prints each transaction, and the counts, as a JSON object, one per line
+html|flag|never|chart mermaid json|Prints an HTML page: the transactions as a table that sorts and filters, with a picture of each
+values|flag|never|unanswered errors repeated findings slower peer fail json html frames strict-ids|Draws a chart (with --mermaid a Mermaid one) with the values of each answer that fits in one APDU
+pairs|flag|never|unanswered errors repeated findings slower peer fail json html frames strict-ids|Draws a chart for each client and server, one after the other, however many there are; with --mermaid as sections of Markdown
+frames|flag|never|chart mermaid json html|Prints a line for each transaction with the numbers of its frames, as Wireshark counts them
+strict-ids|flag|never|chart mermaid|Counts it as a finding too if a client uses an invoke ID again within 65 seconds, although the first transaction was over";

@@ -1,6 +1,5 @@
 //! The script that completes words in bash.
-use crate::backup_words::backups;
-use crate::help_words::{about, of_clients, of_servers, offline};
+use crate::help_words::{about, others};
 use crate::people_words::people;
 use crate::words::{Grammar, Word, WordForm};
 use std::io;
@@ -28,8 +27,11 @@ const TAIL: &str = "        esac
 complete -o default -F _bac bac
 ";
 
-/// The forms of datagrams.
-const FORMS: &str = "auto base64 c escaped hex hexdump";
+/// What completes a form of datagrams.
+const FORMS: &str = "words=\"auto base64 c escaped hex hexdump\"";
+
+/// What completes a text of which nothing is known.
+const NOTHING: &str = "words=; compopt +o default";
 
 /// What stands in requests: the requests, and the kinds of values.
 const REQUESTS: &str = "read write append put get priority null boolean: unsigned: signed: \
@@ -57,10 +59,7 @@ pub(crate) fn write_names<O: Write>(out: &mut O, grammars: &[Grammar]) -> io::Re
 /// Writes the names of all commands, each behind a space.
 pub(crate) fn write_all_names<O: Write>(out: &mut O) -> io::Result<()> {
     write_names(out, people())?;
-    write_names(out, offline())?;
-    write_names(out, of_servers())?;
-    write_names(out, of_clients())?;
-    write_names(out, backups())?;
+    write_names(out, others())?;
     write_names(out, about())
 }
 
@@ -80,27 +79,34 @@ pub(crate) fn write_choices<O: Write>(out: &mut O, words: &[&str]) -> io::Result
     Ok(())
 }
 
-/// Writes what completes the text behind a word, where it has one: the names of files, words, or nothing.
+/// What completes the text behind a word, by what help calls that text: the names of files, forms, or nothing.
+fn completed(text: &str) -> &'static str {
+    match text {
+        "FILE" | "DIR" => "words=",
+        "FORM" => FORMS,
+        _ => NOTHING,
+    }
+}
+
+/// Writes the line of what completes the text behind a word.
+fn write_line<O: Write>(out: &mut O, name: &str, completed: &str) -> io::Result<()> {
+    writeln!(out, "                    --{name}) {completed} ;;")
+}
+
+/// Writes the line of the words of which one stands behind a word.
+fn write_choice<O: Write>(out: &mut O, name: &str, words: &[&str]) -> io::Result<()> {
+    write!(out, "                    --{name}) words=\"")?;
+    write_choices(out, words)?;
+    out.writeln("\" ;;")
+}
+
+/// Writes what completes the text behind a word, where it has one.
 fn write_behind<O: Write>(out: &mut O, word: &Word) -> io::Result<()> {
-    let name = word.name;
     match word.form {
         WordForm::Bare | WordForm::Several | WordForm::OneOf(_) | WordForm::Flag => Ok(()),
-        WordForm::Text("FILE" | "DIR") => writeln!(out, "                    --{name}) words= ;;"),
-        WordForm::Text("FORM") => writeln!(
-            out,
-            "                    --{name}) words=\"{FORMS}\" ;;"
-        ),
-        WordForm::Choice(_, names) => {
-            write!(out, "                    --{name}) words=\"")?;
-            write_choices(out, names)?;
-            out.writeln("\" ;;")
-        }
-        WordForm::Text(_) | WordForm::Number(_, _) | WordForm::Index(_, _) => {
-            writeln!(
-                out,
-                "                    --{name}) words=; compopt +o default ;;"
-            )
-        }
+        WordForm::Text(text) => write_line(out, word.name, completed(text)),
+        WordForm::Choice(_, names) => write_choice(out, word.name, names),
+        WordForm::Number(_, _) | WordForm::Index(_, _) => write_line(out, word.name, NOTHING),
     }
 }
 
@@ -118,24 +124,37 @@ fn write_bare<O: Write>(out: &mut O, word: &Word) -> io::Result<()> {
     }
 }
 
-/// Writes the lines of a command: its words that begin with two hyphens, and what completes others.
-fn write_case<O: Write>(out: &mut O, grammar: &Grammar) -> io::Result<()> {
-    let name = grammar.name;
-    write!(out, "            {name})\n                words=\"--help")?;
-    for word in grammar.words {
-        if has_hyphens(word) {
+/// Writes the words of a command that begin with two hyphens, each behind a space.
+pub(crate) fn write_options<O: Write>(out: &mut O, grammar: &Grammar) -> io::Result<()> {
+    for line in grammar.words.lines() {
+        let word = Word::of(line);
+        if has_hyphens(&word) {
             let name = word.name;
             write!(out, " --{name}")?;
         }
     }
+    Ok(())
+}
+
+/// Writes what completes the words of a command: first the texts behind others, and then what stands by itself.
+fn write_words<O: Write>(out: &mut O, grammar: &Grammar) -> io::Result<()> {
+    for line in grammar.words.lines() {
+        write_behind(out, &Word::of(line))?;
+    }
+    for line in grammar.words.lines() {
+        write_bare(out, &Word::of(line))?;
+    }
+    Ok(())
+}
+
+/// Writes the lines of a command: its words that begin with two hyphens, and what completes others.
+fn write_case<O: Write>(out: &mut O, grammar: &Grammar) -> io::Result<()> {
+    let name = grammar.name;
+    write!(out, "            {name})\n                words=\"--help")?;
+    write_options(out, grammar)?;
     out.writeln("\"")?;
     out.writeln("                case \"$before\" in")?;
-    for word in grammar.words {
-        write_behind(out, word)?;
-    }
-    for word in grammar.words {
-        write_bare(out, word)?;
-    }
+    write_words(out, grammar)?;
     out.writeln("                esac ;;")
 }
 
@@ -154,10 +173,7 @@ pub(crate) fn write_completion<O: Write>(out: &mut O) -> io::Result<()> {
     write_all_names(out)?;
     out.write_all(MIDDLE.as_bytes())?;
     write_cases(out, people())?;
-    write_cases(out, offline())?;
-    write_cases(out, of_servers())?;
-    write_cases(out, of_clients())?;
-    write_cases(out, backups())?;
+    write_cases(out, others())?;
     out.writeln("            completion) words=\"bash zsh fish\" ;;")?;
     out.write_all(b"            help) words=\"--all --man")?;
     write_all_names(out)?;

@@ -1,12 +1,11 @@
 //! Command lines, read by the table of commands.
-use crate::backup_words::backups;
-use crate::help_words::{about, of_clients, of_servers, offline};
+use crate::help_words::{about, others};
 use crate::people_words::people;
 use crate::unexpected::clearer;
 use crate::words::{Grammar, Need, Word, WordForm};
 use clap::builder::ValueParser;
 use clap::{Arg, ArgAction, ArgGroup, ArgMatches, Command};
-use std::alloc::Global;
+use std::alloc::{AllocError, Global};
 
 /// An argument that has a text behind its name.
 fn text<'a>(arg: Arg<'a>, name: &'a str, value: &'a str) -> Arg<'a> {
@@ -52,9 +51,15 @@ fn needed<'a>(arg: Arg<'a>, need: Need) -> Result<Arg<'a>, clap::Error> {
     }
 }
 
+/// The words of a text with spaces between.
+fn words_in(alloc: Global, text: &'static str) -> Result<Vec<&'static str>, AllocError> {
+    text.split_whitespace().collect(alloc)
+}
+
 fn argument<'a>(alloc: Global, word: &Word) -> Result<Arg<'a>, clap::Error> {
+    let against = words_in(alloc, word.against)?;
     let arg = Arg::new(alloc, word.name).help(word.help);
-    let arg = arg.conflicts_with_all(word.against)?;
+    let arg = arg.conflicts_with_all(&against)?;
     needed(formed(arg, word.name, word.form), word.need)
 }
 
@@ -74,16 +79,18 @@ fn grouped<'a>(
     let Need::One(names) = need else {
         return Ok(command);
     };
+    let names = words_in(alloc, names)?;
     let group = ArgGroup::new(alloc, "the node");
-    let group = group.args(names)?.multiple(true).required(true);
+    let group = group.args(&names)?.multiple(true).required(true);
     Ok(command.group(group)?)
 }
 
 /// A command with its words.
 pub(crate) fn command_of<'a>(alloc: Global, grammar: &Grammar) -> Result<Command<'a>, clap::Error> {
     let mut command = titled(alloc, grammar);
-    for word in grammar.words {
-        command = command.arg(argument(alloc, word)?)?;
+    for line in grammar.words.lines() {
+        let word = Word::of(line);
+        command = command.arg(argument(alloc, &word)?)?;
         command = grouped(alloc, command, word.need)?;
     }
     Ok(command)
@@ -111,29 +118,14 @@ fn with_people<'a>(alloc: Global) -> Result<Command<'a>, clap::Error> {
     with_commands(alloc, bac, people())
 }
 
-/// The program with those and the commands that need no link.
-fn with_offline<'a>(alloc: Global) -> Result<Command<'a>, clap::Error> {
-    with_commands(alloc, with_people(alloc)?, offline())
-}
-
-/// The program with those and the commands of servers.
-fn with_servers<'a>(alloc: Global) -> Result<Command<'a>, clap::Error> {
-    with_commands(alloc, with_offline(alloc)?, of_servers())
-}
-
-/// The program with those and the commands that ask.
-fn with_clients<'a>(alloc: Global) -> Result<Command<'a>, clap::Error> {
-    with_commands(alloc, with_servers(alloc)?, of_clients())
-}
-
-/// The program with those, and the commands that keep whole files.
-fn with_backups<'a>(alloc: Global) -> Result<Command<'a>, clap::Error> {
-    with_commands(alloc, with_clients(alloc)?, backups())
+/// The program with those and the others that do what it is for.
+fn with_others<'a>(alloc: Global) -> Result<Command<'a>, clap::Error> {
+    with_commands(alloc, with_people(alloc)?, others())
 }
 
 /// The program with all of its commands: a table a function.
 fn commands<'a>(alloc: Global) -> Result<Command<'a>, clap::Error> {
-    with_commands(alloc, with_backups(alloc)?, about())
+    with_commands(alloc, with_others(alloc)?, about())
 }
 
 /// The error, or a clearer one in its place where one word was meant to be another.

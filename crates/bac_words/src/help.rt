@@ -2,14 +2,14 @@
 ghost use Rattle.std.specs.Prelude.{◌≡◌, false, IfOk};
 ghost use Rattle.std.specs.Io.KnownBytes.{Keeps};
 
-use crate::backup_words::backups;
-use crate::help_words::{about, command_named, more_example, of_clients, of_servers, offline};
+use crate::completion::has_hyphens;
+use crate::help_words::{about, command_named, more_example, others};
 use crate::manual::write_manual;
 use crate::people_words::people;
 use crate::shells::{Shell, write_script};
 use crate::value_names::list_named;
 use crate::words::{Grammar, Need, Word, WordForm};
-use crate::wrapping::{SCREEN, write_lines, write_wrapped};
+use crate::wrapping::{Layout, SCREEN, write_lines, write_wrapped};
 use std::alloc::Global;
 use std::io;
 use std::io::Write;
@@ -32,17 +32,19 @@ pub enum Telling<'a> {
     Completion(Shell),
 }
 
-/// Writes how a word is written, with these hyphens: `--port P`, `--text`, `FILE`.
-pub(crate) fn write_form<O: Write>(out: &mut O, hyphens: &str, word: &Word) -> io::Result<()> {
-    let name = word.name;
+/// Writes how a word is written, in that layout: `--port P`, `--text`, `FILE`.
+pub(crate) fn write_form<O: Write>(out: &mut O, layout: Layout, word: &Word) -> io::Result<()> {
+    if has_hyphens(word) {
+        layout.write_text(out, "--")?;
+    }
+    layout.write_text(out, word.name)?;
     match word.form {
-        WordForm::Bare | WordForm::OneOf(_) => out.write_all(name.as_bytes()),
-        WordForm::Several => write!(out, "{name}.."),
-        WordForm::Flag => write!(out, "{hyphens}{name}"),
+        WordForm::Bare | WordForm::OneOf(_) | WordForm::Flag => Ok(()),
+        WordForm::Several => out.write_all(b".."),
         WordForm::Text(value)
         | WordForm::Number(value, _)
         | WordForm::Index(value, _)
-        | WordForm::Choice(value, _) => { write!(out, "{hyphens}{name} {value}") }
+        | WordForm::Choice(value, _) => write!(out, " {value}"),
     }
 }
 
@@ -58,7 +60,7 @@ fn need_words(need: Need) -> &'static str {
 /// Writes a word, and below it what it means.
 fn write_word<O: Write>(out: &mut O, word: &Word) -> io::Result<()> {
     out.write_all(b"  ")?;
-    write_form(out, "--", word)?;
+    write_form(out, SCREEN, word)?;
     out.writeln(need_words(word.need))?;
     write_wrapped(out, SCREEN, 6, word.help)
 }
@@ -69,8 +71,8 @@ fn write_command<O: Write>(out: &mut O, grammar: &Grammar) -> io::Result<()> {
     writeln!(out, "bac {name}")?;
     write_wrapped(out, SCREEN, 2, grammar.about)?;
     out.write_all(b"\n")?;
-    for word in grammar.words {
-        write_word(out, word)?;
+    for line in grammar.words.lines() {
+        write_word(out, &Word::of(line))?;
     }
     if !grammar.words.is_empty() {
         out.write_all(b"\n")?;
@@ -125,10 +127,7 @@ fn write_all_commands<O: Write>(out: &mut O) -> io::Result<()> {
     out.writeln("BACnet confirmed services: bac COMMAND ARGUMENTS..\n\nFor people:")?;
     write_names(out, people())?;
     out.writeln("\nOther commands:")?;
-    write_names(out, offline())?;
-    write_names(out, of_servers())?;
-    write_names(out, of_clients())?;
-    write_names(out, backups())?;
+    write_names(out, others())?;
     write_names(out, about())?;
     out.write_all(b"\n")?;
     out.writeln("Example: bac help serve")?;

@@ -1,41 +1,16 @@
 //! The commands that tell of the program itself, and more examples for help.
-use crate::backup_words::backups;
 use crate::people_words::people;
-use crate::words::{ASKING, Grammar, Need, OFFLINE, SERVING, Word, WordForm};
+use crate::words::{Grammar, OTHERS};
 
 /// What `help` takes.
-const HELP: &[Word] = &[
-    Word {
-        name: "COMMAND",
-        form: WordForm::Bare,
-        need: Need::Never,
-        against: &["man", "all"],
-        help: "The command to explain; without it, the commands are listed on one screen. Or names to list: those of object `types`, of `properties`, or of an enumeration; `values` lists the enumerations",
-    },
-    Word {
-        name: "all",
-        form: WordForm::Flag,
-        need: Need::Never,
-        against: &["man"],
-        help: "Lists all commands, and says what each does",
-    },
-    Word {
-        name: "man",
-        form: WordForm::Flag,
-        need: Need::Never,
-        against: &[],
-        help: "Prints the manual page, for `man`",
-    },
-];
+const HELP: &str = "\
+COMMAND|bare|never|man all|The command to explain; without it, the commands are listed on one screen. Or names to list: those of object `types`, of `properties`, or of an enumeration; `values` lists the enumerations
+all|flag|never|man|Lists all commands, and says what each does
+man|flag|never||Prints the manual page, for `man`";
 
 /// What `completion` takes.
-const COMPLETION: &[Word] = &[Word {
-    name: "SHELL",
-    form: WordForm::OneOf(&["bash", "zsh", "fish"]),
-    need: Need::Never,
-    against: &[],
-    help: "The shell: bash, zsh or fish; bash by default",
-}];
+const COMPLETION: &str = "\
+SHELL|one-of|never||The shell: bash, zsh or fish; bash by default";
 
 /// The commands that tell of the program, which help lists last.
 const TOLD: &[Grammar] = &[
@@ -49,7 +24,7 @@ const TOLD: &[Grammar] = &[
         name: "version",
         about: "Prints the version of the program",
         after: "Example: bac version",
-        words: &[],
+        words: "",
     },
     Grammar {
         name: "completion",
@@ -72,19 +47,9 @@ pub(crate) fn more_example(name: &str) -> Option<&'static str> {
     }
 }
 
-/// The commands that need no link. The prover writes out the tables that a function names, so only these functions name them.
-pub(crate) fn offline() -> &'static [Grammar] {
-    OFFLINE
-}
-
-/// The commands of servers.
-pub(crate) fn of_servers() -> &'static [Grammar] {
-    SERVING
-}
-
-/// The commands that ask.
-pub(crate) fn of_clients() -> &'static [Grammar] {
-    ASKING
+/// The commands that are neither for people nor tell of the program. The prover writes out the table that a function names, so only this function names it.
+pub(crate) fn others() -> &'static [Grammar] {
+    OTHERS
 }
 
 /// The commands that tell of the program.
@@ -102,16 +67,7 @@ pub(crate) fn command_named(name: &str) -> Option<&'static Grammar> {
     if let Some(found) = among(name, people()) {
         return Some(found);
     }
-    if let Some(found) = among(name, offline()) {
-        return Some(found);
-    }
-    if let Some(found) = among(name, of_servers()) {
-        return Some(found);
-    }
-    if let Some(found) = among(name, of_clients()) {
-        return Some(found);
-    }
-    if let Some(found) = among(name, backups()) {
+    if let Some(found) = among(name, others()) {
         return Some(found);
     }
     among(name, about())

@@ -1,7 +1,6 @@
 //! The page of the manual.
-use crate::backup_words::backups;
 use crate::help::write_form;
-use crate::help_words::{about, more_example, of_clients, of_servers, offline};
+use crate::help_words::{about, more_example, others};
 use crate::people_words::people;
 use crate::words::{Grammar, Word};
 use crate::wrapping::{FILLED, SHOWN, write_lines, write_wrapped};
@@ -46,7 +45,7 @@ What reads the output has ended.
 /// Writes a word and what it means.
 fn write_word<O: Write>(out: &mut O, word: &Word) -> io::Result<()> {
     out.write_all(b".TP\n.B ")?;
-    write_form(out, "\\-\\-", word)?;
+    write_form(out, FILLED, word)?;
     out.write_all(b"\n")?;
     write_wrapped(out, FILLED, 0, word.help)
 }
@@ -56,8 +55,8 @@ fn write_command<O: Write>(out: &mut O, grammar: &Grammar) -> io::Result<()> {
     let name = grammar.name;
     writeln!(out, ".SS bac {name}")?;
     write_wrapped(out, FILLED, 0, grammar.about)?;
-    for word in grammar.words {
-        write_word(out, word)?;
+    for line in grammar.words.lines() {
+        write_word(out, &Word::of(line))?;
     }
     out.write_all(b".PP\n.nf\n")?;
     write_lines(out, SHOWN, grammar.after)?;
@@ -79,10 +78,7 @@ fn write_commands<O: Write>(out: &mut O, grammars: &[Grammar]) -> io::Result<()>
 pub(crate) fn write_manual<O: Write>(out: &mut O) -> io::Result<()> {
     out.write_all(HEAD.as_bytes())?;
     write_commands(out, people())?;
-    write_commands(out, offline())?;
-    write_commands(out, of_servers())?;
-    write_commands(out, of_clients())?;
-    write_commands(out, backups())?;
+    write_commands(out, others())?;
     write_commands(out, about())?;
     out.write_all(TAIL.as_bytes())
 }

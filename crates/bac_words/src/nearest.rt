@@ -1,6 +1,5 @@
 //! The command whose name is most like a misspelled one.
-use crate::backup_words::backups;
-use crate::help_words::{about, of_clients, of_servers, offline};
+use crate::help_words::{about, others};
 use crate::people_words::people;
 use crate::words::Grammar;
 use std::alloc::{AllocError, Global};
@@ -43,10 +42,7 @@ pub fn nearest_command(alloc: Global, word: &str) -> Result<Option<&'static str>
         return Ok(None);
     }
     let near = nearer(alloc, word, None, people())?;
-    let near = nearer(alloc, word, near, offline())?;
-    let near = nearer(alloc, word, near, of_servers())?;
-    let near = nearer(alloc, word, near, of_clients())?;
-    let near = nearer(alloc, word, near, backups())?;
+    let near = nearer(alloc, word, near, others())?;
     let near = nearer(alloc, word, near, about())?;
     Ok(near.map(|near| near.name))
 }

@@ -1,32 +1,5 @@
 //! What `read`, `write` and `points` take: the commands for people.
-use crate::words::{Grammar, Need, Word, WordForm};
-
-/// The address of the node to ask.
-const TO: Word = Word {
-    name: "to",
-    form: WordForm::Text("A.B.C.D[:P]"),
-    need: Need::Never,
-    against: &[],
-    help: "The IPv4 address of the node to ask, and its UDP port, 47808 by default; without it, the node at 127.0.0.1:47808",
-};
-
-/// The way on from there.
-const ROUTE: Word = Word {
-    name: "route",
-    form: WordForm::Text("NET:MAC"),
-    need: Need::Never,
-    against: &[],
-    help: "The node to ask is behind the router at that address: its network number, 1 to 65534, and its address there, 1 to 8 octets in hexadecimal",
-};
-
-/// How long it is waited for.
-const TIMEOUT: Word = Word {
-    name: "timeout",
-    form: WordForm::Text("S"),
-    need: Need::Never,
-    against: &[],
-    help: "Stops waiting for an answer after S seconds, 0.001 to 60; by default after four requests, 12 seconds",
-};
+use crate::words::Grammar;
 
 /// Examples for `read`.
 const READ_EXAMPLES: &str = "\
@@ -37,32 +10,13 @@ Example: bac read --to 192.168.1.20 analog-input:1 present-value units analog-in
 Example: bac read --to 192.168.1.20 --json analog-value:1 priority-array";
 
 /// What `read` takes.
-const READ: &[Word] = &[
-    Word {
-        name: "OBJECT",
-        form: WordForm::Several,
-        need: Need::Always,
-        against: &[],
-        help: "The properties to read: OBJECT [PROPERTY].., as often as you like. With more than one property, each value follows its object and property, with tabs between",
-    },
-    TO,
-    ROUTE,
-    TIMEOUT,
-    Word {
-        name: "json",
-        form: WordForm::Flag,
-        need: Need::Never,
-        against: &[],
-        help: "Prints each result as a JSON object, one per line, as `bac ask` does",
-    },
-    Word {
-        name: "csv",
-        form: WordForm::Flag,
-        need: Need::Never,
-        against: &["json"],
-        help: "Prints each result as a CSV row, below a row with the names of the columns, as `bac ask` does",
-    },
-];
+const READ: &str = "\
+OBJECT|several|always||The properties to read: OBJECT [PROPERTY].., as often as you like. With more than one property, each value follows its object and property, with tabs between
+to|text A.B.C.D[:P]|never||The IPv4 address of the node to ask, and its UDP port, 47808 by default; without it, the node at 127.0.0.1:47808
+route|text NET:MAC|never||The node to ask is behind the router at that address: its network number, 1 to 65534, and its address there, 1 to 8 octets in hexadecimal
+timeout|text S|never||Stops waiting for an answer after S seconds, 0.001 to 60; by default after four requests, 12 seconds
+json|flag|never||Prints each result as a JSON object, one per line, as `bac ask` does
+csv|flag|never|json|Prints each result as a CSV row, below a row with the names of the columns, as `bac ask` does";
 
 /// Examples for `write`.
 const WRITE_EXAMPLES: &str = "\
@@ -74,49 +28,13 @@ Example: bac write --to 192.168.1.20 --priority 8 binary-output:1 null
 Example: bac write analog-value:1 description 'Zone setpoint'";
 
 /// What `write` takes.
-const WRITE: &[Word] = &[
-    Word {
-        name: "OBJECT",
-        form: WordForm::Several,
-        need: Need::Always,
-        against: &[],
-        help: "The property to write, and its new value: OBJECT [PROPERTY] VALUE; without a property, the present-value",
-    },
-    Word {
-        name: "priority",
-        form: WordForm::Number("N", 16),
-        need: Need::Never,
-        against: &[],
-        help: "The priority of the write, 1 (highest) to 16 (lowest)",
-    },
-    Word {
-        name: "kind",
-        form: WordForm::Choice(
-            "KIND",
-            &[
-                "null",
-                "boolean",
-                "unsigned",
-                "signed",
-                "real",
-                "double",
-                "octets",
-                "text",
-                "bits",
-                "enumerated",
-                "date",
-                "time",
-                "object",
-            ],
-        ),
-        need: Need::Never,
-        against: &[],
-        help: "The kind of the value, where the property has no value whose kind it could be",
-    },
-    TO,
-    ROUTE,
-    TIMEOUT,
-];
+const WRITE: &str = "\
+OBJECT|several|always||The property to write, and its new value: OBJECT [PROPERTY] VALUE; without a property, the present-value
+priority|number N 16|never||The priority of the write, 1 (highest) to 16 (lowest)
+kind|choice KIND|never||The kind of the value, where the property has no value whose kind it could be
+to|text A.B.C.D[:P]|never||The IPv4 address of the node to ask, and its UDP port, 47808 by default; without it, the node at 127.0.0.1:47808
+route|text NET:MAC|never||The node to ask is behind the router at that address: its network number, 1 to 65534, and its address there, 1 to 8 octets in hexadecimal
+timeout|text S|never||Stops waiting for an answer after S seconds, 0.001 to 60; by default after four requests, 12 seconds";
 
 /// Examples for `points`.
 const POINTS_EXAMPLES: &str = "\
@@ -125,32 +43,13 @@ Example: bac points --to 192.168.1.20
 Example: bac points --to 192.168.1.20 --device 100 --csv > points.csv";
 
 /// What `points` takes.
-const POINTS: &[Word] = &[
-    TO,
-    ROUTE,
-    TIMEOUT,
-    Word {
-        name: "device",
-        form: WordForm::Index("N", 4_194_303),
-        need: Need::Never,
-        against: &[],
-        help: "The instance of the device; by default 4194303, which stands for any instance, and which not every device accepts",
-    },
-    Word {
-        name: "json",
-        form: WordForm::Flag,
-        need: Need::Never,
-        against: &[],
-        help: "Prints each object as a JSON object, one per line",
-    },
-    Word {
-        name: "csv",
-        form: WordForm::Flag,
-        need: Need::Never,
-        against: &["json"],
-        help: "Prints each object as a CSV row, below a row with the names of the columns",
-    },
-];
+const POINTS: &str = "\
+to|text A.B.C.D[:P]|never||The IPv4 address of the node to ask, and its UDP port, 47808 by default; without it, the node at 127.0.0.1:47808
+route|text NET:MAC|never||The node to ask is behind the router at that address: its network number, 1 to 65534, and its address there, 1 to 8 octets in hexadecimal
+timeout|text S|never||Stops waiting for an answer after S seconds, 0.001 to 60; by default after four requests, 12 seconds
+device|index N 4194303|never||The instance of the device; by default 4194303, which stands for any instance, and which not every device accepts
+json|flag|never||Prints each object as a JSON object, one per line
+csv|flag|never|json|Prints each object as a CSV row, below a row with the names of the columns";
 
 /// The commands for people.
 const PEOPLE: &[Grammar] = &[

@@ -1,7 +1,8 @@
 //! The scripts that complete words, by shell.
-use crate::backup_words::backups;
-use crate::completion::{has_hyphens, write_all_names, write_choices, write_completion};
-use crate::help_words::{about, of_clients, of_servers, offline};
+use crate::completion::{
+    has_hyphens, write_all_names, write_choices, write_completion, write_options,
+};
+use crate::help_words::{about, others};
 use crate::people_words::people;
 use crate::words::{Grammar, Word, WordForm};
 use std::io;
@@ -62,12 +63,7 @@ complete -c bac -n __fish_use_subcommand -f
 fn write_zsh_case<O: Write>(out: &mut O, grammar: &Grammar) -> io::Result<()> {
     let name = grammar.name;
     write!(out, "            {name}) compadd -- --help")?;
-    for word in grammar.words {
-        if has_hyphens(word) {
-            let name = word.name;
-            write!(out, " --{name}")?;
-        }
-    }
+    write_options(out, grammar)?;
     out.writeln(" ;;")
 }
 
@@ -85,10 +81,7 @@ fn write_zsh<O: Write>(out: &mut O) -> io::Result<()> {
     write_all_names(out)?;
     out.write_all(ZSH_MIDDLE.as_bytes())?;
     write_zsh_cases(out, people())?;
-    write_zsh_cases(out, offline())?;
-    write_zsh_cases(out, of_servers())?;
-    write_zsh_cases(out, of_clients())?;
-    write_zsh_cases(out, backups())?;
+    write_zsh_cases(out, others())?;
     write_zsh_cases(out, about())?;
     out.write_all(ZSH_TAIL.as_bytes())
 }
@@ -111,14 +104,15 @@ fn write_fish_text<O: Write>(out: &mut O, word: &Word) -> io::Result<()> {
 fn write_fish_command<O: Write>(out: &mut O, grammar: &Grammar) -> io::Result<()> {
     let command = grammar.name;
     writeln!(out, "complete -c bac -n __fish_use_subcommand -a {command}")?;
-    for word in grammar.words {
-        if has_hyphens(word) {
+    for line in grammar.words.lines() {
+        let word = Word::of(line);
+        if has_hyphens(&word) {
             let name = word.name;
             write!(
                 out,
                 "complete -c bac -n '__fish_seen_subcommand_from {command}' -l {name}"
             )?;
-            write_fish_text(out, word)?;
+            write_fish_text(out, &word)?;
         }
     }
     Ok(())
@@ -136,10 +130,7 @@ fn write_fish_commands<O: Write>(out: &mut O, grammars: &[Grammar]) -> io::Resul
 fn write_fish<O: Write>(out: &mut O) -> io::Result<()> {
     out.write_all(FISH_HEAD.as_bytes())?;
     write_fish_commands(out, people())?;
-    write_fish_commands(out, offline())?;
-    write_fish_commands(out, of_servers())?;
-    write_fish_commands(out, of_clients())?;
-    write_fish_commands(out, backups())?;
+    write_fish_commands(out, others())?;
     write_fish_commands(out, about())
 }
 

@@ -2,7 +2,7 @@
 use crate::completion::has_hyphens;
 use crate::grammar::command_of;
 use crate::help_words::command_named;
-use crate::words::Grammar;
+use crate::words::{Grammar, Word};
 use clap::error::ErrorKind;
 use std::alloc::{AllocError, Global};
 
@@ -22,6 +22,12 @@ fn is_about(alloc: Global, text: &str, word: &str) -> Result<bool, AllocError> {
     Ok(text.starts_with(front.as_str()))
 }
 
+/// Whether a line of a command's words has the option of that name.
+fn is_option(line: &'static str, name: &str) -> bool {
+    let word = Word::of(line);
+    has_hyphens(&word) && word.name == name
+}
+
 /// The name of the option that is meant by a word with one hyphen, as by `-to` or `-to=10.0.0.1`.
 fn option_meant(grammar: &Grammar, word: &str) -> Option<&'static str> {
     let name = word.strip_prefix('-')?;
@@ -29,17 +35,14 @@ fn option_meant(grammar: &Grammar, word: &str) -> Option<&'static str> {
         Some((name, _)) => name,
         None => name,
     };
-    let option = grammar
-        .words
-        .iter()
-        .find(|word| has_hyphens(word) && word.name == name)?;
-    Some(option.name)
+    let line = grammar.words.lines().find(|line| is_option(*line, name))?;
+    Some(Word::of(line).name)
 }
 
 /// Whether a command takes an address behind `--to`, and a word may be one: it begins with a digit.
 fn is_address(grammar: &Grammar, word: &str) -> bool {
     let begins = matches!(word.as_bytes(), [first, ..] if first.is_ascii_digit());
-    begins && grammar.words.iter().any(|word| word.name == "to")
+    begins && grammar.words.lines().any(|line| is_option(line, "to"))
 }
 
 /// What is meant by a word that a command does not take, if that is known.

@@ -1,4 +1,10 @@
 //! The commands, what each takes, and their help.
+//!
+//! What a command takes is a text with a line for each word, in the order in which help lists them: `NAME|FORM|NEED|AGAINST|HELP`.
+//! FORM is `bare`, `several`, `flag`, `one-of` (one of those that [`names_of`] has for NAME), `text VALUE`, `number VALUE MOST` (from 1), `index VALUE MOST` (from 0)
+//! or `choice VALUE` (one of those names); VALUE is what help calls the text behind the name. NEED is `always`, `never`, `unless WORD`, `beside WORD` or, at the first of
+//! words of which one is required, `one WORD..`. AGAINST is the words that it conflicts with, with spaces between.
+use crate::backup_words::{BACKUP, RESTORE};
 use crate::capture_words::{
     CHECK, CHECK_EXAMPLES, DECODE, DECODE_EXAMPLES, EXPLAIN, EXPLAIN_EXAMPLES,
 };
@@ -30,20 +36,21 @@ pub(crate) enum Need {
     Always,
     /// If that word is absent.
     Unless(&'static str),
-    /// One of these words, of which it is the first, is required.
-    One(&'static [&'static str]),
+    /// One of these words, of which it is the first, is required; spaces stand between them.
+    One(&'static str),
     Never,
     /// Never, and it is allowed only together with that word.
     Beside(&'static str),
 }
 
 /// A word of a command.
+#[derive(Clone, Copy)]
 pub(crate) struct Word {
     pub(crate) name: &'static str,
     pub(crate) form: WordForm,
     pub(crate) need: Need,
-    /// The words that it conflicts with.
-    pub(crate) against: &'static [&'static str],
+    /// The words that it conflicts with, with spaces between.
+    pub(crate) against: &'static str,
     pub(crate) help: &'static str,
 }
 
@@ -53,26 +60,92 @@ pub(crate) struct Grammar {
     pub(crate) about: &'static str,
     /// What help prints after the words.
     pub(crate) after: &'static str,
-    pub(crate) words: &'static [Word],
+    /// A line for each word, which [`Word::of`] reads.
+    pub(crate) words: &'static str,
 }
 
-/// What `answer` takes.
-const ANSWER: &[Word] = &[
-    Word {
-        name: "HEX",
-        form: WordForm::Bare,
-        need: Need::Always,
-        against: &[],
-        help: "The datagram, in hexadecimal",
-    },
-    Word {
-        name: "objects",
-        form: WordForm::Text("FILE"),
-        need: Need::Never,
-        against: &[],
-        help: "The node's objects, as a TOML document; by default an example, a device and four objects",
-    },
+/// The names that a word may be, or have after it: the shells of `completion`, what a server logs, and the kinds of values.
+fn names_of(word: &str) -> &'static [&'static str] {
+    match word {
+        "SHELL" => &["bash", "zsh", "fish"],
+        "log-level" => &["changes", "requests", "all"],
+        "kind" => KINDS,
+        _ => &[],
+    }
+}
+
+/// The part of a text before the first such mark, and the part after it: all of it and nothing, where the mark is not in it.
+fn parts(text: &'static str, mark: char) -> (&'static str, &'static str) {
+    text.split_once(mark).unwrap_or((text, ""))
+}
+
+/// The form of a word of that name, as a line says it; bare where it says none.
+fn form_of(name: &'static str, text: &'static str) -> WordForm {
+    let (form, value) = parts(text, ' ');
+    let (value, most) = parts(value, ' ');
+    let most = most.parse::<u64>().unwrap_or(0);
+    match form {
+        "several" => WordForm::Several,
+        "one-of" => WordForm::OneOf(names_of(name)),
+        "flag" => WordForm::Flag,
+        "text" => WordForm::Text(value),
+        "number" => WordForm::Number(value, most),
+        "index" => WordForm::Index(value, most),
+        "choice" => WordForm::Choice(value, names_of(name)),
+        _ => WordForm::Bare,
+    }
+}
+
+/// When a word is required, as a line says it; never where it says nothing.
+fn need_of(text: &'static str) -> Need {
+    let (need, words) = parts(text, ' ');
+    match need {
+        "always" => Need::Always,
+        "unless" => Need::Unless(words),
+        "one" => Need::One(words),
+        "beside" => Need::Beside(words),
+        _ => Need::Never,
+    }
+}
+
+impl Word {
+    /// The word of a line of a command's words.
+    pub(crate) fn of(line: &'static str) -> Word {
+        let (name, line) = parts(line, '|');
+        let (form, line) = parts(line, '|');
+        let (need, line) = parts(line, '|');
+        let (against, help) = parts(line, '|');
+        Word {
+            name,
+            form: form_of(name, form),
+            need: need_of(need),
+            against,
+            help,
+        }
+    }
+}
+
+/// The kinds of values.
+const KINDS: &[&str] = &[
+    "null",
+    "boolean",
+    "unsigned",
+    "signed",
+    "real",
+    "double",
+    "octets",
+    "text",
+    "bits",
+    "enumerated",
+    "date",
+    "time",
+    "object",
 ];
+
+/// What `answer` takes.
+const ANSWER: &str = "\
+HEX|bare|always||The datagram, in hexadecimal
+objects|text FILE|never||The node's objects, as a TOML document; by default an example, a device and four objects";
 
 /// The form of a script, and examples for `simulate`.
 const SIMULATE_EXAMPLES: &str = "\
@@ -102,57 +175,14 @@ Example: bac simulate --chart script.txt
 Example: bac simulate --pcap script.txt > script.pcap";
 
 /// What `simulate` takes.
-const SIMULATE: &[Word] = &[
-    Word {
-        name: "FILE",
-        form: WordForm::Bare,
-        need: Need::Always,
-        against: &[],
-        help: "The script: the network, then one event per line; - is standard input",
-    },
-    Word {
-        name: "notes",
-        form: WordForm::Flag,
-        need: Need::Never,
-        against: &[],
-        help: "Accepts lines that end in CRLF, and skips blank lines and lines that begin with `#`",
-    },
-    Word {
-        name: "chart",
-        form: WordForm::Flag,
-        need: Need::Never,
-        against: &[],
-        help: "Draws a sequence chart instead, with a column of 41 characters for each node",
-    },
-    Word {
-        name: "mermaid",
-        form: WordForm::Flag,
-        need: Need::Never,
-        against: &["chart"],
-        help: "Prints that chart as a Mermaid `sequenceDiagram`",
-    },
-    Word {
-        name: "pcap",
-        form: WordForm::Flag,
-        need: Need::Never,
-        against: &["chart", "mermaid"],
-        help: "Writes the datagrams as a pcap file, each when it was sent",
-    },
-    Word {
-        name: "text",
-        form: WordForm::Flag,
-        need: Need::Never,
-        against: &["chart", "mermaid", "pcap"],
-        help: "Prints each event with its time and what it did, or why it did nothing",
-    },
-    Word {
-        name: "json",
-        form: WordForm::Flag,
-        need: Need::Never,
-        against: &["chart", "mermaid", "pcap", "text"],
-        help: "Prints each line as a JSON object",
-    },
-];
+const SIMULATE: &str = "\
+FILE|bare|always||The script: the network, then one event per line; - is standard input
+notes|flag|never||Accepts lines that end in CRLF, and skips blank lines and lines that begin with `#`
+chart|flag|never||Draws a sequence chart instead, with a column of 41 characters for each node
+mermaid|flag|never|chart|Prints that chart as a Mermaid `sequenceDiagram`
+pcap|flag|never|chart mermaid|Writes the datagrams as a pcap file, each when it was sent
+text|flag|never|chart mermaid pcap|Prints each event with its time and what it did, or why it did nothing
+json|flag|never|chart mermaid pcap text|Prints each line as a JSON object";
 
 /// Examples for `serve`.
 const SERVE_EXAMPLES: &str = "\
@@ -164,148 +194,27 @@ Example: bac serve --port 47808 --at 192.168.1.20 --restarted
 Example: bac serve --port 47808 --turns 600";
 
 /// What `serve` takes.
-const SERVE: &[Word] = &[
-    Word {
-        name: "port",
-        form: WordForm::Number("P", 65_535),
-        need: Need::Never,
-        against: &[],
-        help: "The UDP port to listen on, 1 to 65535; 47808 by default",
-    },
-    Word {
-        name: "turns",
-        form: WordForm::Number("N", 1_000_000),
-        need: Need::Never,
-        against: &[],
-        help: "Ends after N turns, 1 to 1000000; each waits at most 100 milliseconds for a datagram. By default it serves until you stop it",
-    },
-    Word {
-        name: "seconds",
-        form: WordForm::Number("S", 1_000_000_000),
-        need: Need::Never,
-        against: &[],
-        help: "Ends after S seconds, 1 to 1000000000",
-    },
-    Word {
-        name: "at",
-        form: WordForm::Text("A.B.C.D"),
-        need: Need::Never,
-        against: &[],
-        help: "The IPv4 address of this machine to listen on, and the one that clients ask. By default 127.0.0.1, which other machines cannot reach",
-    },
-    Word {
-        name: "slots",
-        form: WordForm::Number("N", 65_536),
-        need: Need::Never,
-        against: &[],
-        help: "How many requests it can remember at once, 1 to 65536; by default 65536, or 64 with --turns",
-    },
-    Word {
-        name: "peers",
-        form: WordForm::Text("CIDR[,CIDR..]"),
-        need: Need::Never,
-        against: &[],
-        help: "The IPv4 addresses that it hears: at most 32 blocks such as 10.0.0.0/8,192.168.1.7, or `any`; it ignores datagrams from others. By default loopback, private (RFC 1918), shared (RFC 6598) and link-local addresses",
-    },
-    Word {
-        name: "rate",
-        form: WordForm::Index("KIB", 1_048_576),
-        need: Need::Never,
-        against: &[],
-        help: "Sends one IPv4 address at most KIB KiB a second, 0 to 1048576, beside three times what came from it, and 256 KiB or two seconds' worth at once; 0 for no limit. By default 128, and no limit for loopback addresses",
-    },
-    Word {
-        name: "restarted",
-        form: WordForm::Flag,
-        need: Need::Never,
-        against: &[],
-        help: "The server ran before and lost what it remembered: for 65 seconds, until no repeat of an old request should arrive, it refuses new requests, except (without --strict) reads whose request and response fit in one APDU each",
-    },
-    Word {
-        name: "strict",
-        form: WordForm::Flag,
-        need: Need::Never,
-        against: &[],
-        help: "Lets no client reuse an invoke ID within 65 seconds: an equal request gets the kept response, any other is refused. --turns without --reuse implies it",
-    },
-    Word {
-        name: "reuse",
-        form: WordForm::Flag,
-        need: Need::Never,
-        against: &["strict"],
-        help: "Lets clients reuse an invoke ID at once, also with --turns; without --turns this is the default, unless --strict is given",
-    },
-    Word {
-        name: "remember",
-        form: WordForm::Number("S", 65),
-        need: Need::Never,
-        against: &["strict"],
-        help: "An equal write gets the kept response for S seconds, 1 to 65, and is then performed again: for clients that use one invoke ID for all requests. 65 by default; with --turns it requires --reuse",
-    },
-    Word {
-        name: "memory",
-        form: WordForm::Text("OCTETS"),
-        need: Need::Never,
-        against: &[],
-        help: "How many octets of requests and responses it may keep, 65540 to 1099511627776, also written as 512K or 64M; 64M by default. A request that may need more is ignored",
-    },
-    Word {
-        name: "objects",
-        form: WordForm::Text("FILE"),
-        need: Need::Never,
-        against: &[],
-        help: "The node's objects, as a TOML document; by default an example, a device and four objects",
-    },
-    Word {
-        name: "keep",
-        form: WordForm::Text("FILE"),
-        need: Need::Never,
-        against: &[],
-        help: "Keeps each write in FILE, a database, before the response; a server started with FILE again has the kept values, and starts as with --restarted",
-    },
-    Word {
-        name: "log",
-        form: WordForm::Flag,
-        need: Need::Never,
-        against: &[],
-        help: "Logs each datagram that arrives, in full, and what was done for it, on standard error; --log-level can log less, and shortens long lines",
-    },
-    Word {
-        name: "log-level",
-        form: WordForm::Choice("LEVEL", &["changes", "requests", "all"]),
-        need: Need::Never,
-        against: &["log"],
-        help: "Logs on standard error each write that was performed (changes), each request that was performed (requests), or each datagram (all); of more than 32 octets it shows the first 32 and the number of octets",
-    },
-    Word {
-        name: "json",
-        form: WordForm::Flag,
-        need: Need::Never,
-        against: &[],
-        help: "Prints each line of the log, and the lines at the start, as a JSON object",
-    },
-    Word {
-        name: "follow",
-        form: WordForm::Flag,
-        need: Need::Beside("objects"),
-        against: &["turns"],
-        help: "Reads the document of --objects, a regular file, again when it changes, at most once a second, and gives the objects the values that changed in it, which --keep keeps too; other values that clients wrote stay",
-    },
-    Word {
-        name: "follow-limit",
-        form: WordForm::Number("MIB", 1_024),
-        need: Need::Beside("follow"),
-        against: &[],
-        help: "Follows a document of at most MIB MiB, 1 to 1024; 8 by default. A larger one is not followed until it is smaller",
-    },
-    Word {
-        name: "until-eof",
-        form: WordForm::Flag,
-        need: Need::Never,
-        against: &["keep", "turns"],
-        help: "Ends when standard input ends, within a second",
-    },
-];
+const SERVE: &str = "\
+port|number P 65535|never||The UDP port to listen on, 1 to 65535; 47808 by default
+turns|number N 1000000|never||Ends after N turns, 1 to 1000000; each waits at most 100 milliseconds for a datagram. By default it serves until you stop it
+seconds|number S 1000000000|never||Ends after S seconds, 1 to 1000000000
+at|text A.B.C.D|never||The IPv4 address of this machine to listen on, and the one that clients ask. By default 127.0.0.1, which other machines cannot reach
+slots|number N 65536|never||How many requests it can remember at once, 1 to 65536; by default 65536, or 64 with --turns
+peers|text CIDR[,CIDR..]|never||The IPv4 addresses that it hears: at most 32 blocks such as 10.0.0.0/8,192.168.1.7, or `any`; it ignores datagrams from others. By default loopback, private (RFC 1918), shared (RFC 6598) and link-local addresses
+rate|index KIB 1048576|never||Sends one IPv4 address at most KIB KiB a second, 0 to 1048576, beside three times what came from it, and 256 KiB or two seconds' worth at once; 0 for no limit. By default 128, and no limit for loopback addresses
+restarted|flag|never||The server ran before and lost what it remembered: for 65 seconds, until no repeat of an old request should arrive, it refuses new requests, except (without --strict) reads whose request and response fit in one APDU each
+strict|flag|never||Lets no client reuse an invoke ID within 65 seconds: an equal request gets the kept response, any other is refused. --turns without --reuse implies it
+reuse|flag|never|strict|Lets clients reuse an invoke ID at once, also with --turns; without --turns this is the default, unless --strict is given
+remember|number S 65|never|strict|An equal write gets the kept response for S seconds, 1 to 65, and is then performed again: for clients that use one invoke ID for all requests. 65 by default; with --turns it requires --reuse
+memory|text OCTETS|never||How many octets of requests and responses it may keep, 65540 to 1099511627776, also written as 512K or 64M; 64M by default. A request that may need more is ignored
+objects|text FILE|never||The node's objects, as a TOML document; by default an example, a device and four objects
+keep|text FILE|never||Keeps each write in FILE, a database, before the response; a server started with FILE again has the kept values, and starts as with --restarted
+log|flag|never||Logs each datagram that arrives, in full, and what was done for it, on standard error; --log-level can log less, and shortens long lines
+log-level|choice LEVEL|never|log|Logs on standard error each write that was performed (changes), each request that was performed (requests), or each datagram (all); of more than 32 octets it shows the first 32 and the number of octets
+json|flag|never||Prints each line of the log, and the lines at the start, as a JSON object
+follow|flag|beside objects|turns|Reads the document of --objects, a regular file, again when it changes, at most once a second, and gives the objects the values that changed in it, which --keep keeps too; other values that clients wrote stay
+follow-limit|number MIB 1024|beside follow||Follows a document of at most MIB MiB, 1 to 1024; 8 by default. A larger one is not followed until it is smaller
+until-eof|flag|never|keep turns|Ends when standard input ends, within a second";
 
 /// Examples for `keep`.
 const KEEP_EXAMPLES: &str = "\
@@ -316,47 +225,12 @@ Example: bac keep plant.db --json
 Example: bac keep copy.db --accept-loss";
 
 /// What `keep` takes.
-const KEEP: &[Word] = &[
-    Word {
-        name: "FILE",
-        form: WordForm::Bare,
-        need: Need::Always,
-        against: &[],
-        help: "The file that a server was given with --keep; no server may have it open",
-    },
-    Word {
-        name: "accept-loss",
-        form: WordForm::Flag,
-        need: Need::Never,
-        against: &["forget"],
-        help: "Accepts the loss where FILE-wal is missing, cut off or damaged, or where FILE was copied alone: keeps what is left, and prints it",
-    },
-    Word {
-        name: "forget",
-        form: WordForm::Text("T:I"),
-        need: Need::Never,
-        against: &[],
-        help: "Forgets what is kept of an object, by type and instance, each by number or name, and prints only that: a server started with FILE again has the values of its document",
-    },
-    Word {
-        name: "P",
-        form: WordForm::Bare,
-        need: Need::Beside("forget"),
-        against: &[],
-        help: "The property to forget, by number or name; without it --forget forgets everything kept of the object, including its file",
-    },
-    Word {
-        name: "json",
-        form: WordForm::Flag,
-        need: Need::Never,
-        against: &["forget"],
-        help: "Prints each property and each file as a JSON object, one per line",
-    },
-];
-
-/// The requests of `ask`.
-const WORDS_HELP: &str =
-    "The request: `read T:I P`, `write T:I P VALUE..`, `append T:I HEX`, `put T:I POS HEX` or `get T:I POS COUNT`; for a whole file `get T:I` or `put T:I @FILE`";
+const KEEP: &str = "\
+FILE|bare|always||The file that a server was given with --keep; no server may have it open
+accept-loss|flag|never|forget|Accepts the loss where FILE-wal is missing, cut off or damaged, or where FILE was copied alone: keeps what is left, and prints it
+forget|text T:I|never||Forgets what is kept of an object, by type and instance, each by number or name, and prints only that: a server started with FILE again has the values of its document
+P|bare|beside forget||The property to forget, by number or name; without it --forget forgets everything kept of the object, including its file
+json|flag|never|forget|Prints each property and each file as a JSON object, one per line";
 
 /// The parts of a request, and examples for `ask`.
 const ASK_EXAMPLES: &str = "\
@@ -381,123 +255,26 @@ Example: bac ask --port 47808 --out log.bin get file:1
 Example: bac ask --port 47808 put file:1 @log.bin";
 
 /// What `ask` takes.
-const ASK: &[Word] = &[
-    Word {
-        name: "port",
-        form: WordForm::Number("P", 65_535),
-        need: Need::One(&["port", "to", "lines"]),
-        against: &[],
-        help: "The UDP port of the node to ask, on 127.0.0.1; 1 to 65535",
-    },
-    Word {
-        name: "to",
-        form: WordForm::Text("A.B.C.D[:P]"),
-        need: Need::Never,
-        against: &["port"],
-        help: "The IPv4 address of the node to ask, and its UDP port, 47808 by default",
-    },
-    Word {
-        name: "route",
-        form: WordForm::Text("NET:MAC"),
-        need: Need::Never,
-        against: &[],
-        help: "The node to ask is behind the router at that address: its network number, 1 to 65534, and its address there, 1 to 8 octets in hexadecimal",
-    },
-    Word {
-        name: "timeout",
-        form: WordForm::Number("S", 60),
-        need: Need::Never,
-        against: &[],
-        help: "Stops waiting after S whole seconds, 1 to 60, and prints `no ending`; a request ends by itself after at most 60 seconds",
-    },
-    Word {
-        name: "text",
-        form: WordForm::Flag,
-        need: Need::Never,
-        against: &[],
-        help: "Prints values with their kinds, errors and reasons by name, and the invalid argument",
-    },
-    Word {
-        name: "fail",
-        form: WordForm::Flag,
-        need: Need::Never,
-        against: &[],
-        help: "Ends with status 1 also if the response is an Error, or is for another object, property or index",
-    },
-    Word {
-        name: "raw",
-        form: WordForm::Flag,
-        need: Need::Never,
-        against: &["text"],
-        help: "For `get`: writes only the octets of the file; if there are none, standard error says how the request ended, and the status is 1",
-    },
-    Word {
-        name: "out",
-        form: WordForm::Text("FILE"),
-        need: Need::Never,
-        against: &["raw", "json", "csv", "lines", "every"],
-        help: "For `get T:I`: writes the octets of the whole file to FILE once it has read them all, and prints how many they are",
-    },
-    Word {
-        name: "json",
-        form: WordForm::Flag,
-        need: Need::Never,
-        against: &["text", "raw"],
-        help: "Prints each result as a JSON object, one per line",
-    },
-    Word {
-        name: "csv",
-        form: WordForm::Flag,
-        need: Need::Never,
-        against: &["text", "raw", "json"],
-        help: "Prints each result as a CSV row, below a row with the names of the columns: time,peer,object,property,kind,value,status",
-    },
-    Word {
-        name: "raw-text",
-        form: WordForm::Flag,
-        need: Need::Beside("csv"),
-        against: &[],
-        help: "Prints texts as they came. By default a text that a spreadsheet would compute has an apostrophe before it, and what would act on a terminal is escaped",
-    },
-    Word {
-        name: "lines",
-        form: WordForm::Text("FILE"),
-        need: Need::Never,
-        against: &["WORDS", "raw"],
-        help: "Sends the requests in FILE, one per line, in turn, and prefixes each result with its line number; `-` reads standard input. A line may begin with a name, such as `flow:`, which its result carries, and then with the address of its own node, `@A.B.C.D[:P]` or `@A.B.C.D[:P]/NET:MAC`; the other requests go to the node that --to or --port gives. Skips blank lines, and comments that begin with `#`; blanks separate words, a word with blanks in it needs quotes, and `@FILE` is not allowed. An invalid line is reported before anything is sent",
-    },
-    Word {
-        name: "window",
-        form: WordForm::Number("N", 256),
-        need: Need::Beside("lines"),
-        against: &["WORDS"],
-        help: "Has up to N requests in progress, 1 to 256, with an equal share for each node in the list; results are printed in the order of the lines. By default each waits for the one before",
-    },
-    Word {
-        name: "every",
-        form: WordForm::Text("S"),
-        need: Need::Never,
-        against: &[],
-        help: "Repeats the requests in rounds: each begins S seconds, 0.001 to 1000000000, after the one before was due, or at once if that one took longer. Then standard error says how late it is; for a list it also says so before the round ends",
-    },
-    Word {
-        name: "times",
-        form: WordForm::Number("N", 1_000_000_000),
-        need: Need::Beside("every"),
-        against: &[],
-        help: "The number of rounds, 1 to 1000000000; by default it goes on until you stop it",
-    },
-    Word {
-        name: "WORDS",
-        form: WordForm::Several,
-        need: Need::Unless("lines"),
-        against: &[],
-        help: WORDS_HELP,
-    },
-];
+const ASK: &str = "\
+port|number P 65535|one port to lines||The UDP port of the node to ask, on 127.0.0.1; 1 to 65535
+to|text A.B.C.D[:P]|never|port|The IPv4 address of the node to ask, and its UDP port, 47808 by default
+route|text NET:MAC|never||The node to ask is behind the router at that address: its network number, 1 to 65534, and its address there, 1 to 8 octets in hexadecimal
+timeout|number S 60|never||Stops waiting after S whole seconds, 1 to 60, and prints `no ending`; a request ends by itself after at most 60 seconds
+text|flag|never||Prints values with their kinds, errors and reasons by name, and the invalid argument
+fail|flag|never||Ends with status 1 also if the response is an Error, or is for another object, property or index
+raw|flag|never|text|For `get`: writes only the octets of the file; if there are none, standard error says how the request ended, and the status is 1
+out|text FILE|never|raw json csv lines every|For `get T:I`: writes the octets of the whole file to FILE once it has read them all, and prints how many they are
+json|flag|never|text raw|Prints each result as a JSON object, one per line
+csv|flag|never|text raw json|Prints each result as a CSV row, below a row with the names of the columns: time,peer,object,property,kind,value,status
+raw-text|flag|beside csv||Prints texts as they came. By default a text that a spreadsheet would compute has an apostrophe before it, and what would act on a terminal is escaped
+lines|text FILE|never|WORDS raw|Sends the requests in FILE, one per line, in turn, and prefixes each result with its line number; `-` reads standard input. A line may begin with a name, such as `flow:`, which its result carries, and then with the address of its own node, `@A.B.C.D[:P]` or `@A.B.C.D[:P]/NET:MAC`; the other requests go to the node that --to or --port gives. Skips blank lines, and comments that begin with `#`; blanks separate words, a word with blanks in it needs quotes, and `@FILE` is not allowed. An invalid line is reported before anything is sent
+window|number N 256|beside lines|WORDS|Has up to N requests in progress, 1 to 256, with an equal share for each node in the list; results are printed in the order of the lines. By default each waits for the one before
+every|text S|never||Repeats the requests in rounds: each begins S seconds, 0.001 to 1000000000, after the one before was due, or at once if that one took longer. Then standard error says how late it is; for a list it also says so before the round ends
+times|number N 1000000000|beside every||The number of rounds, 1 to 1000000000; by default it goes on until you stop it
+WORDS|several|unless lines||The request: `read T:I P`, `write T:I P VALUE..`, `append T:I HEX`, `put T:I POS HEX` or `get T:I POS COUNT`; for a whole file `get T:I` or `put T:I @FILE`";
 
-/// The commands that need no link, in the order in which help lists them.
-pub(crate) const OFFLINE: &[Grammar] = &[
+/// The commands that are neither for people nor tell of the program, in the order in which help lists them.
+pub(crate) const OTHERS: &[Grammar] = &[
     Grammar {
         name: "answer",
         about: "Prints what a server sends back for a datagram, one datagram per line, or `none`",
@@ -528,10 +305,6 @@ pub(crate) const OFFLINE: &[Grammar] = &[
         after: SIMULATE_EXAMPLES,
         words: SIMULATE,
     },
-];
-
-/// The commands of servers, which help lists after those.
-pub(crate) const SERVING: &[Grammar] = &[
     Grammar {
         name: "serve",
         about: "Serves a device over UDP, and prints how many requests it performed",
@@ -544,10 +317,6 @@ pub(crate) const SERVING: &[Grammar] = &[
         after: KEEP_EXAMPLES,
         words: KEEP,
     },
-];
-
-/// The commands of clients, which help lists next.
-pub(crate) const ASKING: &[Grammar] = &[
     Grammar {
         name: "ask",
         about: "Sends a request to a node, and prints how it ended",
@@ -558,6 +327,18 @@ pub(crate) const ASKING: &[Grammar] = &[
         name: "pair",
         about: "Runs two nodes on free UDP ports: one appends AABBCC to a file of the other, and then reads a value",
         after: "Example: bac pair",
-        words: &[],
+        words: "",
+    },
+    Grammar {
+        name: "backup",
+        about: "Saves files of a device in a folder, with their digests",
+        after: "Example: bac backup --device 100 --folder saved\nExample: bac backup --to 192.168.1.20 --folder saved file:1 file:2",
+        words: BACKUP,
+    },
+    Grammar {
+        name: "restore",
+        about: "Restores files that `bac backup` saved, reads them back from the device, and compares their digests",
+        after: "Example: bac restore --folder saved\nExample: bac restore --to 192.168.1.20 --folder saved",
+        words: RESTORE,
     },
 ];

@@ -47,7 +47,7 @@ impl Layout {
     }
 
     /// Writes a text without a line feed in it.
-    fn write_text<O: Write>(self, out: &mut O, text: &str) -> io::Result<()> {
+    pub(crate) fn write_text<O: Write>(self, out: &mut O, text: &str) -> io::Result<()> {
         if !self.is_page {
             return out.write_all(text.as_bytes());
         }

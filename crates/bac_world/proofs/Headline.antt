@@ -46,8 +46,8 @@ use Rattle.bac_world.proofs.Bridge.{AreIdle, LifeFits, changed_fresh, lives_as, 
 use Rattle.bac_world.proofs.Steps.{Over, Goes, acts_quiet, each_with, linked_with}
 use Rattle.bac_world.proofs.AsEver.{once_as, once_ever, run_as}
 use Rattle.bac_world.proofs.Heard.{IsHeardIn, IsHeardInBy, heard_in}
-use Rattle.bac_world.proofs.Settings.{Setting, always, end_heard, ever_in, reuses_in}
-use Rattle.bac_world.proofs.Serving.{serves_post, served_so}
+use Rattle.bac_world.proofs.Settings.{Setting, always, ever_in, free_for, reuses_in}
+use Rattle.bac_world.proofs.Serving.{serves_post, served_if}
 use Rattle.bac_world.proofs.StrangersHeard.{hears_stranger}
 use Rattle.bac_world.proofs.Clients.{hears_post, quiet}
 use Rattle.bac_world.proofs.Asking.{asks_over}
@@ -63,7 +63,7 @@ use Rattle.bac_world.proofs.ReplyLengths.{acts_fit, effect_fits, run_fits}
 use Rattle.bac_world.proofs.Leads.{aside_short, leads_short}
 use Rattle.bac_world.specs.LongApdus.{AllAskLong, AsksLong, RepliesFit, TakeLongApdus}
 use Rattle.bac_world.specs.Services.{ArePerformed}
-use Rattle.bac_transaction.specs.Ends.{act_at, is_free}
+use Rattle.bac_transaction.specs.Ends.{act_at}
 use Rattle.bac_transaction.specs.Keys.{PeerKey}
 use Rattle.bac_transaction.specs.Reuse.{is_read}
 use Rattle.bac_protocol.specs.LongApdus.{AllTakeLong, TakesLong}
@@ -104,30 +104,31 @@ module _ (links : ℕ → Option Octets) (apart : (i j : ℕ) (l : Octets) → l
       (a b : Node) (o : Outcome) (node : slice_get w.nodes c.to ≡ Some a) (l : Octets) (link : links c.from ≡ Some l)
       (acts : ActsSo (reuses_in set c.to) w c.to b o w') where
     -- what its server makes of it
-    abbrev served : server.Reaction
-    served = served_so links apart W x set n p (service_of a.store) l a.servers
+    abbrev served : Bool → server.Reaction
+    served allowed = served_if links apart W x set allowed n p (service_of a.store) l a.servers
 
-    abbrev Serves : Type 0
-    Serves = Goes links apart W x set w w' (server_acts n p.key served) × ArePerformed a.store (act_at (slot_key l p.key.invoke_id) served.effect) o.performed
+    abbrev Serves : Bool → Type 0
+    Serves allowed = Goes links apart W x set w w' (server_acts n p.key (served allowed))
+        × ArePerformed a.store (act_at (slot_key l p.key.invoke_id) (served allowed).effect) o.performed
 
-    served_short : Serves → AllTakeLong x → RepliesFit w'.log → IsShortNet n → IsShortNet (server_acts n p.key served)
-    served_short s long fits short =
+    served_short : (allowed : Bool) → Serves allowed → AllTakeLong x → RepliesFit w'.log → IsShortNet n → IsShortNet (server_acts n p.key (served allowed))
+    served_short allowed s long fits short =
         let key : PeerKey = slot_key l p.key.invoke_id in
-        let free : Bool = is_free (server_now n p.key) (end_heard (reuses_in set p.key.server) (server_now n p.key) key p.copy.apdu a.servers) in
+        let free : Bool = free_for allowed (reuses_in set p.key.server) (server_now n p.key) key p.copy.apdu a.servers in
         server_gets_short x long n short number p at (service_of a.store) is_read (reuses_in set p.key.server) free
-        (effect_fits a.store key served.effect o.performed s.1 (acts_fit (reuses_in set c.to) w w' c.to b o acts fits).0)
-        (keeps_replies p.key.invoke_id served.entry (subst (IsOwnEntry p.key.invoke_id) (set_same n.entries p.key served.entry)
-        (own_of W x set bound (server_acts n p.key served) s.0.bridge.sound p.key)))
-        (all_replies p.key.invoke_id served.sends (hears_own (server_context x p.key (server_now n p.key)) (service_of a.store) free
+        (effect_fits a.store key (served allowed).effect o.performed s.1 (acts_fit (reuses_in set c.to) w w' c.to b o acts fits).0)
+        (keeps_replies p.key.invoke_id (served allowed).entry (subst (IsOwnEntry p.key.invoke_id) (set_same n.entries p.key (served allowed).entry)
+        (own_of W x set bound (server_acts n p.key (served allowed)) s.0.bridge.sound p.key)))
+        (all_replies p.key.invoke_id (served allowed).sends (hears_own (server_context x p.key (server_now n p.key)) (service_of a.store) free
         (reuses_in set p.key.server) (n.entries p.key) (own_of W x set bound n h.sound p.key) p.copy.apdu))
 
     heard_by : (up : Bool) → is_from_client p.copy.apdu ≡ up → IsBetween up p.key c.from c.to
         → IsHeardInBy (reuses_in set c.to) up (peer_at l) p.copy.apdu (told w c.to) a b o
         → Follows e w w' n
     heard_by true up between turn =
-        let s : Serves =
-        serves_post links apart W x set bound w w' n h number p c at copied may up between.0 between.1 a b o node l link (service_of a.store) turn acts in
-        (server_acts n p.key served, s.0, λ long asks fits short. served_short s long fits short)
+        let s : Serves turn.0 =
+        serves_post links apart W x set bound w w' n h number p c at copied may up between.0 between.1 a b o node l link (service_of a.store) turn.0 turn.1 acts in
+        (server_acts n p.key (served turn.0), s.0, λ long asks fits short. served_short turn.0 s long fits short)
     heard_by false down between turn = (
       taken_by_client x n p (n.tickets p.key),
       hears_post links apart W x set bound readable w w' n h number p c at copied may down between.0 between.1 a b o node l link turn

@@ -42,7 +42,7 @@ use Rattle.bac_world.proofs.Bridge.{here_at, there_at}
 use Rattle.bac_protocol.specs.Pace.{Clock}
 use Rattle.bac_world.proofs.Machines.{Sound, orderly, asked_of, own_of, gets_at_server, may_arrive, ticket_of}
 use Rattle.bac_reuse.proofs.Orderly.{one_ask}
-use Rattle.bac_world.proofs.Settings.{Setting, reuses_in, reusing_in, end_heard, hears_at, ever_in}
+use Rattle.bac_world.proofs.Settings.{Setting, reuses_in, reusing_in, end_heard, free_for, hears_at, ever_in}
 use Rattle.bac_world.proofs.Pairs.{pairwise_join}
 use Rattle.bac_world.proofs.Logs.{FactMeans, WasAskedAs, asked_as, unperformed}
 use Rattle.bac_world.proofs.Bridge.{NodeFits, ServersFit, IsKnown, IsStranger, IsCopyOf, IsWay, EntryFits, key_of, slot_key, stranger_key, copies_of, copied_to}
@@ -77,6 +77,12 @@ room_is n key e from =
     twice true true = refl
     twice true false = refl
     twice false b = refl
+
+-- nor where the end allows one that is free
+pub room_for : (n : Net) (key : Key) (allowed : Bool) (e : ServerEnd) → e.serves_from ≡ n.serves_from key.server
+    → machine.is_room n key (allowed && is_free (server_now n key) e) ≡ (allowed && is_free (server_now n key) e)
+room_for n key true e from = room_is n key e from
+room_for n key false e from = refl
 
 module _ (links : ℕ → Option Octets) (apart : (i j : ℕ) (l : Octets) → links i ≡ Some l → links j ≡ Some l → i ≡ j) (W : ℕ) (x : Rules)
     (set : Setting) where
@@ -249,21 +255,24 @@ module _ (links : ℕ → Option Octets) (apart : (i j : ℕ) (l : Octets) → l
 
   -- An APDU of a client was heard.
 
-  abbrev pub served_so : Net → Post → Service → Octets → ServerEnd → server.Reaction
-  served_so n p service l e =
+  abbrev pub served_if : (allowed : Bool) → Net → Post → Service → Octets → ServerEnd → server.Reaction
+  served_if allowed n p service l e =
       server_hears (reuses_in set p.key.server) (server_context x p.key (server_now n p.key)) service is_read (n.entries p.key)
-      (is_free (server_now n p.key) (end_heard (reuses_in set p.key.server) (server_now n p.key) (slot_key l p.key.invoke_id) p.copy.apdu e)) p.copy.apdu
+      (free_for allowed (reuses_in set p.key.server) (server_now n p.key) (slot_key l p.key.invoke_id) p.copy.apdu e) p.copy.apdu
+
+  abbrev pub served_so : Net → Post → Service → Octets → ServerEnd → server.Reaction
+  served_so n p service l e = served_if true n p service l e
 
   module _ (bound : IsBounded W x) where
     pub serves_post : (w w' : World) (n : Net) → Over links apart W x set w n → (number : ℕ) (p : Post) (c : Copy) → slice_get n.posts number ≡ Some p
         → IsCopyOf links apart p c → machine.is_deliverable x n number p ≡ true
         → is_from_client p.copy.apdu ≡ true → c.from ≡ p.key.client → c.to ≡ p.key.server
-        → (a b : Node) (o : Outcome) → slice_get w.nodes c.to ≡ Some a → (l : Octets) → links c.from ≡ Some l → (service : Service)
-        → IsServerTurn (hears_at (reuses_in set c.to) a.settings (told w c.to) service (slot_key l (invoke_id_of p.copy.apdu)) p.copy.apdu a.servers) (told w c.to) a b o
+        → (a b : Node) (o : Outcome) → slice_get w.nodes c.to ≡ Some a → (l : Octets) → links c.from ≡ Some l → (service : Service) → (allowed : Bool)
+        → IsServerTurn (hears_at allowed (reuses_in set c.to) a.settings (told w c.to) service (slot_key l (invoke_id_of p.copy.apdu)) p.copy.apdu a.servers) (told w c.to) a b o
         → ActsSo (reuses_in set c.to) w c.to b o w'
-        → Goes links apart W x set w w' (server_acts n p.key (served_so n p service l a.servers))
-        × ArePerformed a.store (act_at (slot_key l p.key.invoke_id) (served_so n p service l a.servers).effect) o.performed
-    serves_post w w' n h number p c at copied may up from_is to_is a b o node l link service turn acts =
+        → Goes links apart W x set w w' (server_acts n p.key (served_if allowed n p service l a.servers))
+        × ArePerformed a.store (act_at (slot_key l p.key.invoke_id) (served_if allowed n p service l a.servers).effect) o.performed
+    serves_post w w' n h number p c at copied may up from_is to_is a b o node l link service allowed turn acts =
         (record { bridge = over; once = logged.once }, done)
       where
         key : Key
@@ -296,12 +305,12 @@ module _ (links : ℕ → Option Octets) (apart : (i j : ℕ) (l : Octets) → l
         q : PeerKey
         q = slot_key l key.invoke_id
 
-        turn' : IsServerTurn (hears_at reuse s (there_at n key.server) service q apdu a.servers) (there_at n key.server) a b o
-        turn' = subst (λ (y : Settings). IsServerTurn (hears_at reuse y (there_at n key.server) service q apdu a.servers) (there_at n key.server) a b o) fits.settings
-            (subst (λ (t : ℕ). IsServerTurn (hears_at reuse a.settings t service q apdu a.servers) t a b o) (sym there_is)
-            (subst (λ (id : ℕ). IsServerTurn (hears_at reuse a.settings (told w key.server) service (slot_key l id) apdu a.servers) (told w key.server) a b o)
+        turn' : IsServerTurn (hears_at allowed reuse s (there_at n key.server) service q apdu a.servers) (there_at n key.server) a b o
+        turn' = subst (λ (y : Settings). IsServerTurn (hears_at allowed reuse y (there_at n key.server) service q apdu a.servers) (there_at n key.server) a b o) fits.settings
+            (subst (λ (t : ℕ). IsServerTurn (hears_at allowed reuse a.settings t service q apdu a.servers) t a b o) (sym there_is)
+            (subst (λ (id : ℕ). IsServerTurn (hears_at allowed reuse a.settings (told w key.server) service (slot_key l id) apdu a.servers) (told w key.server) a b o)
             copied.invoke
-            (subst (λ (i : ℕ). IsServerTurn (hears_at (reuses_in set i) a.settings (told w i) service (slot_key l (invoke_id_of apdu)) apdu a.servers) (told w i) a b o)
+            (subst (λ (i : ℕ). IsServerTurn (hears_at allowed (reuses_in set i) a.settings (told w i) service (slot_key l (invoke_id_of apdu)) apdu a.servers) (told w i) a b o)
             to_is turn)))
 
         context : Context
@@ -311,7 +320,7 @@ module _ (links : ℕ → Option Octets) (apart : (i j : ℕ) (l : Octets) → l
         end = end_heard reuse (there_at n key.server) q apdu a.servers
 
         free : Bool
-        free = is_free (there_at n key.server) end
+        free = free_for allowed reuse (there_at n key.server) q apdu a.servers
 
         gets : Option ServerTransaction → server.Reaction
         gets e = server_hears reuse context service is_read e free apdu
@@ -335,7 +344,7 @@ module _ (links : ℕ → Option Octets) (apart : (i j : ℕ) (l : Octets) → l
         m = server_acts n key u
 
         sound : Sound W x set m
-        sound = gets_at_server W x set bound n h.sound number p at may up service free (room_is n key end fits.serves)
+        sound = gets_at_server W x set bound n h.sound number p at may up service free (room_for n key allowed end fits.serves)
 
         made : Node
         made = record a {
@@ -408,9 +417,9 @@ module _ (links : ℕ → Option Octets) (apart : (i j : ℕ) (l : Octets) → l
         → IsCopyOf links apart p c → n.now - p.copy.moment ≤ n.pace.life → machine.later p.key number n.posts ≤ x.overtake
         → is_from_client p.copy.apdu ≡ true → c.from ≡ p.key.client → c.to ≡ p.key.server
         → (a b : Node) (o : Outcome) → slice_get w.nodes c.to ≡ Some a → (l : Octets) → links c.from ≡ Some l → (service : Service)
-        → IsServerTurn (hears_at (reuses_in set c.to) a.settings (told w c.to) service (slot_key l (invoke_id_of p.copy.apdu)) p.copy.apdu a.servers) (told w c.to) a b o
+        → IsServerTurn (hears_at true (reuses_in set c.to) a.settings (told w c.to) service (slot_key l (invoke_id_of p.copy.apdu)) p.copy.apdu a.servers) (told w c.to) a b o
         → ActsSo (reuses_in set c.to) w c.to b o w'
         → Goes links apart W x set w w' (server_acts n p.key (served_so n p service l a.servers))
         × ArePerformed a.store (act_at (slot_key l p.key.invoke_id) (served_so n p service l a.servers).effect) o.performed
     serves w w' n h number p c at copied young few up from_is to_is a b o node l link service turn acts =
-        serves_post w w' n h number p c at copied (may_arrive W x set bound n number p young few) up from_is to_is a b o node l link service turn acts
+        serves_post w w' n h number p c at copied (may_arrive W x set bound n number p young few) up from_is to_is a b o node l link service true turn acts

@@ -1,5 +1,5 @@
 -- Whether nodes let invoke IDs be used again: what both laws of worlds are proved by.
-use Rattle.std.proofs.Common.{◌≡◌, ℕ, Bool, true, false, List, Option, Some, None, refl, sym, ◌∙◌}
+use Rattle.std.proofs.Common.{◌≡◌, ℕ, Bool, true, false, ◌&&◌, List, Option, Some, None, refl, sym, ◌∙◌}
 use Rattle.bac_apdu.specs.Apdu.{Apdu}
 use Rattle.bac_protocol.specs.Context.{Settings}
 use Rattle.bac_protocol.specs.Reuse.{ends_entry, server_hears}
@@ -53,8 +53,12 @@ slots_heard false now key a slots = slots
 abbrev pub end_heard : (reuse : Bool) → (now : ℕ) → PeerKey → Apdu → ServerEnd → ServerEnd
 end_heard reuse now key a e = record e { slots = slots_heard reuse now key a e.slots }
 
+-- whether an entry may begin then: a slot is free, and the end allows it, which one that shares its slots may not
+abbrev pub free_for : (allowed reuse : Bool) → (now : ℕ) → PeerKey → Apdu → ServerEnd → Bool
+free_for allowed reuse now key a e = allowed && is_free now (end_heard reuse now key a e)
+
 -- the turn that such an APDU makes of the end
-abbrev pub hears_at : (reuse : Bool) → Settings → (now : ℕ) → Service → PeerKey → Apdu → ServerEnd → ServerTurn
-hears_at reuse c now service key a e =
+abbrev pub hears_at : (allowed reuse : Bool) → Settings → (now : ℕ) → Service → PeerKey → Apdu → ServerEnd → ServerTurn
+hears_at allowed reuse c now service key a e =
     server_goes now (end_heard reuse now key a e) key
-    (server_hears reuse (context_of c now key) service is_read (value_at same_key key e.slots) (is_free now (end_heard reuse now key a e)) a)
+    (server_hears reuse (context_of c now key) service is_read (value_at same_key key e.slots) (free_for allowed reuse now key a e) a)

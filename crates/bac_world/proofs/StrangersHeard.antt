@@ -23,7 +23,7 @@ use Rattle.bac_slots.specs.Slots.{value_at, with_value}
 use Rattle.bac_transaction.specs.Keys.{PeerKey, same_key}
 use Rattle.bac_transaction.specs.Sends.{Pairwise, IsSent}
 use Rattle.bac_transaction.specs.Meanings.{IsEndedView}
-use Rattle.bac_transaction.specs.Ends.{Client, ClientEnd, ClientTurn, TransactionSlot, client_after, client_goes, requester_on_apdu_in_slot, stays, ServerEnd, ServerSlot, act_at, is_free, put_entry, requester_on_apdu_at, key_of as heard_key}
+use Rattle.bac_transaction.specs.Ends.{Client, ClientEnd, ClientTurn, TransactionSlot, client_after, client_goes, requester_on_apdu_in_slot, stays, ServerEnd, ServerSlot, act_at, put_entry, requester_on_apdu_at, key_of as heard_key}
 use Rattle.bac_transaction.specs.Reuse.{is_read}
 use Rattle.bac_transaction.specs.Ends.TransactionSlot.{Open, Closed}
 use Rattle.bac_transaction.proofs.KeyedSlots.{with_same, with_other, with_distinct, each_with, each_at}
@@ -52,8 +52,8 @@ use Rattle.bac_world.proofs.Pairs.{pairwise_none, append_none}
 use Rattle.bac_world.proofs.Logs.{FactMeans, begun_if}
 use Rattle.bac_world.proofs.Bridge.{here_at, there_at, NodeFits, ServersFit, IsKnown, IsStranger, IsCopyOf, EntryFits, key_of, slot_key, stranger_key, out_key, copied_none}
 use Rattle.bac_world.proofs.Steps.{Over, Fits, Goes, served_elsewhere, set_elsewhere, acts_over, acts_quiet, once_same, stores_same}
-use Rattle.bac_world.proofs.Settings.{Setting, reuses_in, end_heard, hears_at, ever_in, not_now}
-use Rattle.bac_world.proofs.Serving.{Logged, room_is}
+use Rattle.bac_world.proofs.Settings.{Setting, reuses_in, end_heard, free_for, hears_at, ever_in, not_now}
+use Rattle.bac_world.proofs.Serving.{Logged, room_for}
 use Rattle.bac_world.proofs.Heard.{IsHeardIn, IsHeardInBy}
 use Rattle.bac_world.proofs.Clients.{quiet, arrived}
 use Rattle.bac_protocol.proofs.Aside.{IsAside, still_aside, client_aside, server_aside}
@@ -218,9 +218,10 @@ module _ (links : ℕ → Option Octets) (apart : (i j : ℕ) (l : Octets) → l
     -- a stranger's request
     serves_stranger : (w w' : World) (n : Net) → Over links apart W x set w n → (i : ℕ) (p : PeerKey) → IsStranger links apart p → (apdu : Apdu)
         → is_from_client apdu ≡ true → (a b : Node) (o : Outcome) → slice_get w.nodes i ≡ Some a
-        → IsServerTurn (hears_at (reuses_in set i) a.settings (told w i) (service_of a.store) p apdu a.servers) (told w i) a b o
+        → (allowed : Bool)
+        → IsServerTurn (hears_at allowed (reuses_in set i) a.settings (told w i) (service_of a.store) p apdu a.servers) (told w i) a b o
         → ActsSo (reuses_in set i) w i b o w' → Aside w w' n
-    serves_stranger w w' n h i p g apdu up a b o node turn acts = (m, record { bridge = over; once = logged.once }, server_aside n key (u reuse))
+    serves_stranger w w' n h i p g apdu up a b o node allowed turn acts = (m, record { bridge = over; once = logged.once }, server_aside n key (u reuse))
       where
         key : Key
         key = stranger_key i p
@@ -234,9 +235,9 @@ module _ (links : ℕ → Option Octets) (apart : (i j : ℕ) (l : Octets) → l
         reuse : Bool
         reuse = reuses_in set i
 
-        turn' : IsServerTurn (hears_at reuse (x.settings i) (there_at n i) service p apdu a.servers) (there_at n i) a b o
-        turn' = subst (λ (y : Settings). IsServerTurn (hears_at reuse y (there_at n i) service p apdu a.servers) (there_at n i) a b o) fits.settings
-            (subst (λ (t : ℕ). IsServerTurn (hears_at reuse a.settings t service p apdu a.servers) t a b o) (sym (ap (λ (y : Clock). y.shows) (h.there i))) turn)
+        turn' : IsServerTurn (hears_at allowed reuse (x.settings i) (there_at n i) service p apdu a.servers) (there_at n i) a b o
+        turn' = subst (λ (y : Settings). IsServerTurn (hears_at allowed reuse y (there_at n i) service p apdu a.servers) (there_at n i) a b o) fits.settings
+            (subst (λ (t : ℕ). IsServerTurn (hears_at allowed reuse a.settings t service p apdu a.servers) t a b o) (sym (ap (λ (y : Clock). y.shows) (h.there i))) turn)
 
         context : Context
         context = server_context x key (there_at n i)
@@ -244,8 +245,11 @@ module _ (links : ℕ → Option Octets) (apart : (i j : ℕ) (l : Octets) → l
         end : Bool → ServerEnd
         end r = end_heard r (there_at n i) p apdu a.servers
 
+        free : Bool → Bool
+        free r = free_for allowed r (there_at n i) p apdu a.servers
+
         gets : Bool → Option ServerTransaction → server.Reaction
-        gets r e = server_hears r context service is_read e (is_free (there_at n i) (end r)) apdu
+        gets r e = server_hears r context service is_read e (free r) apdu
 
         v : Bool → server.Reaction
         v r = gets r (value_at same_key p a.servers.slots)
@@ -257,16 +261,16 @@ module _ (links : ℕ → Option Octets) (apart : (i j : ℕ) (l : Octets) → l
         same r =
             let y : Option ServerTransaction = value_at same_key p a.servers.slots in
             let e : Option ServerTransaction = n.far.entries key in
-            same_then (there_at n i) (v r) (gets r (live_entry (there_at n i) y)) (u r) (hears_same context service (is_free (there_at n i) (end r)) r y apdu)
+            same_then (there_at n i) (v r) (gets r (live_entry (there_at n i) y)) (u r) (hears_same context service (free r) r y apdu)
             (same_then (there_at n i) (gets r (live_entry (there_at n i) y)) (gets r (live_entry (there_at n i) e)) (u r)
             (same_of (there_at n i) (gets r (live_entry (there_at n i) y)) (gets r (live_entry (there_at n i) e)) (ap (gets r) (fits.servers.strangers p g)))
-            (same_back (there_at n i) (u r) (gets r (live_entry (there_at n i) e)) (hears_same context service (is_free (there_at n i) (end r)) r e apdu)))
+            (same_back (there_at n i) (u r) (gets r (live_entry (there_at n i) e)) (hears_same context service (free r) r e apdu)))
 
         m : Net
         m = server_acts_away n key (u reuse)
 
         sound : Sound W x set m
-        sound = strays_at_server W x set bound n h.sound key (is_free (there_at n i) (end reuse)) (room_is n key (end reuse) fits.serves) service apdu up
+        sound = strays_at_server W x set bound n h.sound key (free reuse) (room_for n key allowed (end reuse) fits.serves) service apdu up
 
         made : Node
         made = record a {
@@ -284,7 +288,7 @@ module _ (links : ℕ → Option Octets) (apart : (i j : ℕ) (l : Octets) → l
           clients = record { distinct = fits.clients.distinct; known = fits.clients.known; found = fits.clients.found; strangers = fits.clients.strangers };
           servers = stranger_fits (there_at n i) n i p g (v reuse) (u reuse) (same reuse).entry a.servers fits.servers (end reuse).slots
               (heard_left p reuse (there_at n i) apdu a.servers.slots)
-              (heard_none p reuse context service (is_free (there_at n i) (end reuse)) apdu a.servers.slots fits.servers.distinct);
+              (heard_none p reuse context service (free reuse) apdu a.servers.slots fits.servers.distinct);
         }
 
         sent_is : acts.sent ≡ []
@@ -305,15 +309,14 @@ module _ (links : ℕ → Option Octets) (apart : (i j : ℕ) (l : Octets) → l
             → (y : ServerTransaction) → value_at same_key p b.servers.slots ≡ Some y → y.begin ≡ begin_of (u r).entry
         begun true off slots e is y at = absurd cc
         begun false off slots e is y at =
-            let free : Bool = is_free (there_at n i) (end false) in
-            let k = effects_are_kept.gets context service (n.far.entries key) free apdu e is in
+            let k = effects_are_kept.gets context service (n.far.entries key) (free false) apdu e is in
             let live : live_entry (there_at n i) (u false).entry ≡ Some k.entry = ap (live_entry (there_at n i)) k.after
             ∙ ap (λ z. if z then Some k.entry else None) (live_for (there_at n i) apdu (n.far.entries key) k.entry k.for) in
             let there : value_at same_key p (put_entry (there_at n i) p (v false).entry a.servers.slots) ≡ Some y =
             ap (value_at same_key p) (sym slots) ∙ at in
             let here : live_entry (there_at n i) (Some y) ≡ live_entry (there_at n i) (v false).entry = ap (live_entry (there_at n i)) (sym there)
             ∙ entry_here (there_at n i) p a.servers.slots fits.servers.distinct (v false).entry
-            (none_left context service (value_at same_key p a.servers.slots) free apdu) in
+            (none_left context service (value_at same_key p a.servers.slots) (free false) apdu) in
             let one : y ≡ k.entry = live_one (there_at n i) y k.entry (here ∙ (same false).entry ∙ live) in
             ap (λ (d : ServerTransaction). d.begin) one ∙ ap begin_of (sym k.after)
 
@@ -423,5 +426,5 @@ module _ (links : ℕ → Option Octets) (apart : (i j : ℕ) (l : Octets) → l
         g = record { none = λ k e. foreign k (h.linked k ∙ e ∙ ap (λ (q : PeerView). Some q.link) z.means.carries.sender) }
 
         go : (up : Bool) → is_from_client z.apdu ≡ up → IsHeardInBy (reuses_in set i) up z.peer z.apdu (told w i) a b o → Aside w w' n
-        go true up turn = serves_stranger w w' n h i p g z.apdu up a b o node turn acts
+        go true up turn = serves_stranger w w' n h i p g z.apdu up a b o node turn.0 turn.1 acts
         go false down turn = to_client readable w w' n h i p g z.apdu down a b o node (acts_quiet (reuses_in set i) w w' i b o turn.performed acts) turn

@@ -2,13 +2,14 @@
 use Rattle.std.proofs.Common.{◌≡◌, ◌+◌, ◌≤◌, ◌<◌, ◌⊎◌, ◌||◌, ℕ, Bool, true, false, not, List, [], ◌∷◌, ◌++◌, map, filter, count_by, Option, Some, None, slice_get}
 use Rattle.std.proofs.Common.{if◌then◌else◌, nat_eq, nat_le, refl, sym, ap, subst, inl, inr, ◌∙◌, arith}
 use Rattle.std.proofs.lemmas.Bool.Decides.{nat_tests}
+use Rattle.std.proofs.Math.Nat.{mul-le-mul_left}
 use Rattle.bac_apdu.specs.Apdu.{Apdu, Limits}
 use Rattle.bac_apdu.specs.Apdu.Apdu.{ConfirmedRequest, UnconfirmedRequest, SimpleAck, ComplexAck, SegmentAck, Error, Reject, Abort}
 use Rattle.bac_npdu.specs.Peers.{PeerView}
 use Rattle.bac_service.specs.Values.{Request, choice_of}
 use Rattle.bac_service.specs.Services.{reads_reply}
 use Rattle.bac_protocol.specs.Context.{Settings, Context}
-use Rattle.bac_protocol.specs.Pace.{Pace, Clock, clock_at, goes_on, steps}
+use Rattle.bac_protocol.specs.Pace.{Pace, Clock, period, clock_at, goes_on, steps}
 use Rattle.bac_protocol.specs.Sizes.{Way, RequestFault, request_way_of}
 use Rattle.bac_protocol.specs.Sizes.Way.{InOne, InSegments, Refused}
 use Rattle.bac_protocol.specs.Service.{Octets, OTHER}
@@ -16,6 +17,7 @@ use Rattle.bac_protocol.specs.Wire.{is_from_client}
 use Rattle.bac_protocol.specs.Client.{Ask, client_on_apdu}
 use Rattle.bac_protocol.specs.Server as server
 use Rattle.bac_protocol.specs.Server.{ServerTransaction, Service, is_live, is_none_live, server_on_apdu, server_ticks, live_ticks, idle_on_apdu, rests}
+use Rattle.bac_protocol.proofs.Paces.{divided}
 use Rattle.bac_slots.specs.Slots.{value_at}
 use Rattle.bac_transaction.specs.Keys.{PeerKey, same_key}
 use Rattle.bac_transaction.specs.Sends.{Datagram}
@@ -37,7 +39,6 @@ use Rattle.bac_world.proofs.Lives.{step_idle}
 use Rattle.bac_world.proofs.Steps.{decide_number}
 use Rattle.bac_world.proofs.Asking.{accepted_is}
 use Rattle.bac_liveness.specs.Room.{HasRoom, HaveRoom}
-use Rattle.bac_liveness.proofs.Clocks.{divided}
 use Rattle.bac_liveness.proofs.StraightRuns.Counts.{count, count_changed, count_passing, count_weaker, count_put, count_with}
 
 -- Entries.
@@ -256,7 +257,7 @@ fresh_room now n fresh = record {
 
 -- Clocks.
 
--- each clock shows its whole milliseconds
+-- each clock shows the milliseconds of its whole ticks
 abbrev AreShown : Time → Type 0
 AreShown t = (i : ℕ) → t.clocks i ≡ clock_at t.pace (t.clocks i).exact
 
@@ -264,7 +265,7 @@ AreShown t = (i : ℕ) → t.clocks i ≡ clock_at t.pace (t.clocks i).exact
 goes_on_later : (p : Pace) (by own : ℕ) (c : Clock) → c ≡ clock_at p c.exact → c.shows ≤ (goes_on p by own c).shows
 goes_on_later p by own c told =
     subst (λ (k : ℕ). k ≤ (goes_on p by own c).shows) (sym (ap (λ (y : Clock). y.shows) told))
-    (divided c.exact (c.exact + steps p by own) p.grain (omega arith))
+    (mul-le-mul_left p.tick (divided c.exact (c.exact + steps p by own) (period p) (omega arith)))
 
 with_shown : (t : Time) (i exact : ℕ) → AreShown t → AreShown (with_clock t i exact)
 with_shown t i exact h j = go (nat_eq j i)

@@ -10,9 +10,9 @@ use Rattle.bac_slots.proofs.Aging.{stays_known}
 use Rattle.bac_store.specs.Stores.{Store}
 use Rattle.bac_protocol.specs.Context.{Settings}
 use Rattle.bac_protocol.specs.Server.{ServerTransaction, is_live, is_none_live}
-use Rattle.bac_protocol.specs.Serving.{ServerRules}
 use Rattle.bac_transaction.specs.Ends.{ServerEnd, is_free}
 use Rattle.bac_transaction.specs.Keys.{same_key}
+use Rattle.bac_transaction.specs.Sharing.{EndRules, may_begin}
 use Rattle.bac_transaction.specs.Views.{code_same_key, peer_key_view, rules_view, settings_view, slots_view}
 use Rattle.bac_transaction.specs.declared.peer_key.PeerKey.{PeerKey as CodeKey}
 use Rattle.bac_transaction.proofs.Keyed.{value_viewed}
@@ -30,7 +30,7 @@ pub returns-in_default-clause-room : goal.returns-in_default-clause-room
 returns-in_default-clause-room g c =
     let key : CodeKey = c.args.told.now.context.key in
     let now : ℕ = c.args.told.now.context.moment in
-    let rules : ServerRules = rules_view c.args.told.now.rules in
+    let rules : EndRules = rules_view c.args.told.now.rules in
     let set : Settings = settings_view c.args.told.now.context.settings in
     let slots : List (Slot CodeKey ServerTransaction) = g.S.SlotTable.slots c.args.aged.now.table in
     let capacity : ℕ = g.S.SlotTable.capacity c.args.aged.now.table in
@@ -46,7 +46,7 @@ pub returns-in-None-clause-hears : goal.returns-in-None-clause-hears
 returns-in-None-clause-hears g c =
     let key : CodeKey = c.args.told.now.context.key in
     let now : ℕ = c.args.told.now.context.moment in
-    let rules : ServerRules = rules_view c.args.told.now.rules in
+    let rules : EndRules = rules_view c.args.told.now.rules in
     let set : Settings = settings_view c.args.told.now.context.settings in
     let slots : List (Slot CodeKey ServerTransaction) = g.S.SlotTable.slots c.args.aged.now.table in
     let capacity : ℕ = g.S.SlotTable.capacity c.args.aged.now.table in
@@ -77,7 +77,7 @@ pub returns-in-Some-entry-clause-hears : goal.returns-in-Some-entry-clause-hears
 returns-in-Some-entry-clause-hears g c =
     let key : CodeKey = c.args.told.now.context.key in
     let now : ℕ = c.args.told.now.context.moment in
-    let rules : ServerRules = rules_view c.args.told.now.rules in
+    let rules : EndRules = rules_view c.args.told.now.rules in
     let set : Settings = settings_view c.args.told.now.context.settings in
     let slots : List (Slot CodeKey ServerTransaction) = g.S.SlotTable.slots c.args.aged.now.table in
     let capacity : ℕ = g.S.SlotTable.capacity c.args.aged.now.table in
@@ -89,7 +89,7 @@ returns-in-Some-entry-clause-hears g c =
     let x : ServerTransaction = c.in-Some-entry.transaction in
     let did = rw c.in-Some-entry.is at (rw c.in-Some.is at c.in_ok-begun.ensures.does) in
     let begin = rw c.in-Some-entry.is at (rw c.in-Some.is at c.in_ok-begun.ensures.begin) in
-    let gone = none_left rules now key a slots _ ends c.requires.ends c.end_entry.ensures.slots c.end_entry.ensures.absent c.requires.none in
+    let gone = none_left rules.machine now key a slots _ ends c.requires.ends c.end_entry.ensures.slots c.end_entry.ensures.absent c.requires.none in
     let rest : List (Slot CodeKey ServerTransaction) = code_slots_left ends key slots in
     let none : is_none_live now (value_at same_key (peer_key_view key) (slots_view rest)) ≡ true =
     ap (is_none_live now) (sym (value_viewed ServerTransaction key rest))
@@ -118,7 +118,7 @@ enter-requires-clause-begins g c = rw c.in-Some-entry.is at (rw c.in-Some.is at 
 
 pub enter-requires-clause-absent : goal.enter-requires-clause-absent
 enter-requires-clause-absent g c =
-    keep_none c.args.told.now.context.moment _ (none_left (rules_view c.args.told.now.rules) c.args.told.now.context.moment c.args.told.now.context.key
+    keep_none c.args.told.now.context.moment _ (none_left (rules_view c.args.told.now.rules).machine c.args.told.now.context.moment c.args.told.now.context.key
     (apdu_view c.args.apdu.now) (g.S.SlotTable.slots c.args.aged.now.table) _ c.args.ends c.requires.ends c.end_entry.ensures.slots c.end_entry.ensures.absent
     c.requires.none)
 
@@ -129,7 +129,9 @@ enter-requires-clause-room g c =
     let slots : List (Slot CodeKey ServerTransaction) = g.S.SlotTable.slots c.args.aged.now.table in
     let left_end : ServerEnd = end_of (code_slots_left c.args.ends key slots) (g.S.SlotTable.capacity c.args.aged.now.table) c.args.told.now.restart in
     let free = rw c.in-Some-entry.is at (rw c.in-Some.is at c.in_ok-begun.ensures.free) in
-    let there : is_free now left_end ≡ true = both_true _ (is_free now left_end) (sym c.has_place_left.ensures ∙ free refl) in
+    let place : may_begin (rules_view c.args.told.now.rules).share c.args.ends now (peer_key_view key) left_end ≡ true =
+    both_true _ (may_begin (rules_view c.args.told.now.rules).share c.args.ends now (peer_key_view key) left_end) (sym c.has_place_left.ensures ∙ free refl) in
+    let there : is_free now left_end ≡ true = both_true _ (is_free now left_end) place in
     let after : List (Slot CodeKey ServerTransaction) = g.S.SlotTable.slots c.end_entry.new.aged.table in
     let places : ℕ = g.S.SlotTable.capacity c.end_entry.new.aged.table in
     let same : end_of after places c.args.told.now.restart ≡ left_end =

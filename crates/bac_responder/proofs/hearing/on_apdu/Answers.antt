@@ -12,7 +12,8 @@ use Rattle.bac_transaction.specs.Views.{peer_key_view, code_same_key}
 use Rattle.bac_transaction.specs.declared.peer_key.PeerKey.{PeerKey as CodeKey}
 use Rattle.bac_transaction.proofs.Keyed.{value_viewed}
 use Rattle.bac_transaction.specs.Services.{service_of}
-use Rattle.bac_protocol.specs.Serving.{ServerRules, ends_entry, entry_left}
+use Rattle.bac_protocol.specs.Serving.{ends_entry, entry_left}
+use Rattle.bac_transaction.specs.Sharing.{EndRules}
 use Rattle.bac_transaction.specs.Views.{context_view, rules_view, settings_view}
 use Rattle.bac_responder.specs.Timers.{IsQuiet}
 use Rattle.bac_slots.proofs.Aging.{goes_on}
@@ -30,31 +31,31 @@ use Rattle.bac_responder.proofs.hearing.on_apdu.Goals as goal
 pub begin-requires-then-not-is_live-clause-ends : goal.begin-requires-then-not-is_live-clause-ends
 begin-requires-then-not-is_live-clause-ends g c =
     let d : ServerTransaction = c.in-Some.slot.now in
-    let rules : ServerRules = rules_view c.args.told.now.rules in
+    let rules : EndRules = rules_view c.args.told.now.rules in
     let now : ℕ = c.args.told.now.context.moment in
     let a : Apdu = apdu_view c.args.apdu.now in
     let unchanged = put_back ServerTransaction c.args.told.now.context.key d d (g.S.SlotTable.slots c.args.aged.now.table) _ (sym c.in-Some.ensures.value) refl (c.get_mut.follows.holds d).0 in
     let there : value_at code_same_key c.args.told.now.context.key (g.S.SlotTable.slots (c.get_mut.follows.lender d)) ≡ Some d =
     ap (λ (l : List (Slot CodeKey ServerTransaction)). value_at code_same_key c.args.told.now.context.key l) unchanged ∙ sym c.in-Some.ensures.value in
     let dead : is_live now d ≡ false = sym c.is_live.ensures ∙ c.if-not-is_live.true in
-    dead_ends rules now d a dead ∙ sym (ap (λ (o : Option ServerTransaction). ends_entry rules now o a) there)
+    dead_ends rules.machine now d a dead ∙ sym (ap (λ (o : Option ServerTransaction). ends_entry rules.machine now o a) there)
 
 pub begin-requires-then-not-is_live-clause-none : goal.begin-requires-then-not-is_live-clause-none
 begin-requires-then-not-is_live-clause-none g c =
     let d : ServerTransaction = c.in-Some.slot.now in
-    let rules : ServerRules = rules_view c.args.told.now.rules in
+    let rules : EndRules = rules_view c.args.told.now.rules in
     let now : ℕ = c.args.told.now.context.moment in
     let a : Apdu = apdu_view c.args.apdu.now in
     let unchanged = put_back ServerTransaction c.args.told.now.context.key d d (g.S.SlotTable.slots c.args.aged.now.table) _ (sym c.in-Some.ensures.value) refl (c.get_mut.follows.holds d).0 in
     let there : value_at code_same_key c.args.told.now.context.key (g.S.SlotTable.slots (c.get_mut.follows.lender d)) ≡ Some d =
     ap (λ (l : List (Slot CodeKey ServerTransaction)). value_at code_same_key c.args.told.now.context.key l) unchanged ∙ sym c.in-Some.ensures.value in
     let dead : is_live now d ≡ false = sym c.is_live.ensures ∙ c.if-not-is_live.true in
-    ap (λ (o : Option ServerTransaction). is_none_live now (entry_left rules now o a)) there ∙ dead_left rules now d a dead
+    ap (λ (o : Option ServerTransaction). is_none_live now (entry_left rules.machine now o a)) there ∙ dead_left rules.machine now d a dead
 
 pub begin-requires-then-not-is_live-clause-aged : goal.begin-requires-then-not-is_live-clause-aged
 begin-requires-then-not-is_live-clause-aged g c =
     let d : ServerTransaction = c.in-Some.slot.now in
-    let rules : ServerRules = rules_view c.args.told.now.rules in
+    let rules : EndRules = rules_view c.args.told.now.rules in
     let now : ℕ = c.args.told.now.context.moment in
     let a : Apdu = apdu_view c.args.apdu.now in
     let unchanged = put_back ServerTransaction c.args.told.now.context.key d d (g.S.SlotTable.slots c.args.aged.now.table) _ (sym c.in-Some.ensures.value) refl (c.get_mut.follows.holds d).0 in
@@ -65,7 +66,7 @@ begin-requires-then-not-is_live-clause-aged g c =
 pub returns-then-not-is_live-clause-hears : goal.returns-then-not-is_live-clause-hears
 returns-then-not-is_live-clause-hears g c =
     let d : ServerTransaction = c.in-Some.slot.now in
-    let rules : ServerRules = rules_view c.args.told.now.rules in
+    let rules : EndRules = rules_view c.args.told.now.rules in
     let now : ℕ = c.args.told.now.context.moment in
     let a : Apdu = apdu_view c.args.apdu.now in
     let unchanged = put_back ServerTransaction c.args.told.now.context.key d d (g.S.SlotTable.slots c.args.aged.now.table) _ (sym c.in-Some.ensures.value) refl (c.get_mut.follows.holds d).0 in
@@ -78,7 +79,7 @@ returns-then-not-is_live-clause-hears g c =
 pub returns-then-not-is_live-clause-room : goal.returns-then-not-is_live-clause-room
 returns-then-not-is_live-clause-room g c =
     let d : ServerTransaction = c.in-Some.slot.now in
-    let rules : ServerRules = rules_view c.args.told.now.rules in
+    let rules : EndRules = rules_view c.args.told.now.rules in
     let now : ℕ = c.args.told.now.context.moment in
     let a : Apdu = apdu_view c.args.apdu.now in
     let unchanged = put_back ServerTransaction c.args.told.now.context.key d d (g.S.SlotTable.slots c.args.aged.now.table) _ (sym c.in-Some.ensures.value) refl (c.get_mut.follows.holds d).0 in
@@ -91,7 +92,7 @@ returns-then-not-is_live-clause-room g c =
 pub begin-requires-then-is_ended-clause-ends : goal.begin-requires-then-is_ended-clause-ends
 begin-requires-then-is_ended-clause-ends g c =
     let d : ServerTransaction = c.in-Some.slot.now in
-    let rules : ServerRules = rules_view c.args.told.now.rules in
+    let rules : EndRules = rules_view c.args.told.now.rules in
     let now : ℕ = c.args.told.now.context.moment in
     let a : Apdu = apdu_view c.args.apdu.now in
     let unchanged = put_back ServerTransaction c.args.told.now.context.key d d (g.S.SlotTable.slots c.args.aged.now.table) _ (sym c.in-Some.ensures.value) refl (c.get_mut.follows.holds d).0 in
@@ -99,12 +100,12 @@ begin-requires-then-is_ended-clause-ends g c =
     ap (λ (l : List (Slot CodeKey ServerTransaction)). value_at code_same_key c.args.told.now.context.key l) unchanged ∙ sym c.in-Some.ensures.value in
     let live : is_live now d ≡ true = sym c.is_live.ensures ∙ c.if-not-is_live.false in
     let ended = sym c.is_ended.ensures ∙ c.if-is_ended.true in
-    ended_ends rules now d a live ended ∙ sym (ap (λ (o : Option ServerTransaction). ends_entry rules now o a) there)
+    ended_ends rules.machine now d a live ended ∙ sym (ap (λ (o : Option ServerTransaction). ends_entry rules.machine now o a) there)
 
 pub begin-requires-then-is_ended-clause-none : goal.begin-requires-then-is_ended-clause-none
 begin-requires-then-is_ended-clause-none g c =
     let d : ServerTransaction = c.in-Some.slot.now in
-    let rules : ServerRules = rules_view c.args.told.now.rules in
+    let rules : EndRules = rules_view c.args.told.now.rules in
     let now : ℕ = c.args.told.now.context.moment in
     let a : Apdu = apdu_view c.args.apdu.now in
     let unchanged = put_back ServerTransaction c.args.told.now.context.key d d (g.S.SlotTable.slots c.args.aged.now.table) _ (sym c.in-Some.ensures.value) refl (c.get_mut.follows.holds d).0 in
@@ -112,12 +113,12 @@ begin-requires-then-is_ended-clause-none g c =
     ap (λ (l : List (Slot CodeKey ServerTransaction)). value_at code_same_key c.args.told.now.context.key l) unchanged ∙ sym c.in-Some.ensures.value in
     let live : is_live now d ≡ true = sym c.is_live.ensures ∙ c.if-not-is_live.false in
     let ended = sym c.is_ended.ensures ∙ c.if-is_ended.true in
-    ap (λ (o : Option ServerTransaction). is_none_live now (entry_left rules now o a)) there ∙ ended_left rules now d a live ended
+    ap (λ (o : Option ServerTransaction). is_none_live now (entry_left rules.machine now o a)) there ∙ ended_left rules.machine now d a live ended
 
 pub begin-requires-then-is_ended-clause-aged : goal.begin-requires-then-is_ended-clause-aged
 begin-requires-then-is_ended-clause-aged g c =
     let d : ServerTransaction = c.in-Some.slot.now in
-    let rules : ServerRules = rules_view c.args.told.now.rules in
+    let rules : EndRules = rules_view c.args.told.now.rules in
     let now : ℕ = c.args.told.now.context.moment in
     let a : Apdu = apdu_view c.args.apdu.now in
     let unchanged = put_back ServerTransaction c.args.told.now.context.key d d (g.S.SlotTable.slots c.args.aged.now.table) _ (sym c.in-Some.ensures.value) refl (c.get_mut.follows.holds d).0 in
@@ -128,7 +129,7 @@ begin-requires-then-is_ended-clause-aged g c =
 pub returns-then-is_ended-clause-hears : goal.returns-then-is_ended-clause-hears
 returns-then-is_ended-clause-hears g c =
     let d : ServerTransaction = c.in-Some.slot.now in
-    let rules : ServerRules = rules_view c.args.told.now.rules in
+    let rules : EndRules = rules_view c.args.told.now.rules in
     let now : ℕ = c.args.told.now.context.moment in
     let a : Apdu = apdu_view c.args.apdu.now in
     let unchanged = put_back ServerTransaction c.args.told.now.context.key d d (g.S.SlotTable.slots c.args.aged.now.table) _ (sym c.in-Some.ensures.value) refl (c.get_mut.follows.holds d).0 in
@@ -141,7 +142,7 @@ returns-then-is_ended-clause-hears g c =
 pub returns-then-is_ended-clause-room : goal.returns-then-is_ended-clause-room
 returns-then-is_ended-clause-room g c =
     let d : ServerTransaction = c.in-Some.slot.now in
-    let rules : ServerRules = rules_view c.args.told.now.rules in
+    let rules : EndRules = rules_view c.args.told.now.rules in
     let now : ℕ = c.args.told.now.context.moment in
     let a : Apdu = apdu_view c.args.apdu.now in
     let unchanged = put_back ServerTransaction c.args.told.now.context.key d d (g.S.SlotTable.slots c.args.aged.now.table) _ (sym c.in-Some.ensures.value) refl (c.get_mut.follows.holds d).0 in
@@ -157,7 +158,7 @@ pub returns-in-Ok-Some-clause-hears : goal.returns-in-Ok-Some-clause-hears
 returns-in-Ok-Some-clause-hears g c =
     let key : CodeKey = c.args.told.now.context.key in
     let now : ℕ = c.args.told.now.context.moment in
-    let rules : ServerRules = rules_view c.args.told.now.rules in
+    let rules : EndRules = rules_view c.args.told.now.rules in
     let a : Apdu = apdu_view c.args.apdu.now in
     let slots : List (Slot CodeKey ServerTransaction) = g.S.SlotTable.slots c.args.aged.now.table in
     let capacity : ℕ = g.S.SlotTable.capacity c.args.aged.now.table in
