@@ -21,14 +21,13 @@ use Rattle.bac_transaction.specs.Keys.{PeerKey, same_key}
 use Rattle.bac_transaction.specs.Sends.{IsSent, to_all}
 use Rattle.bac_transaction.specs.Meanings.{EndedView, IsEndedView}
 use Rattle.bac_transaction.specs.Ends.{Client, ClientTurn, TransactionSlot, act_at, put_entry, context_of, client_goes, requester_on_apdu_at}
-use Rattle.bac_transaction.specs.Ends.{ServerEnd, requester_on_apdu_in_slot, stays, key_of as heard_key}
+use Rattle.bac_transaction.specs.Ends.{requester_on_apdu_in_slot, stays, key_of as heard_key}
 use Rattle.bac_transaction.specs.Reuse.{is_read}
 use Rattle.bac_transaction.specs.Ends.TransactionSlot.{Open, Closed}
 use Rattle.bac_transaction.specs.Services.{service_of}
 use Rattle.bac_transaction.proofs.Entries.{entry_here}
 use Rattle.bac_world.specs.Services.{Performed, ArePerformed}
 use Rattle.bac_world.specs.Node.{Node, Outcome, IsServerTurn, IsClientTurn}
-use Rattle.bac_world.specs.ReusingLogs.{Reuses}
 use Rattle.bac_world.specs.World.{World, told}
 use Rattle.bac_world.proofs.Pairs.{pairwise_none}
 use Rattle.bac_world.proofs.Bridge.{IsStranger, TicketFits, here_at, there_at, out_key, stranger_key}

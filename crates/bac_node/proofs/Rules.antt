@@ -1,12 +1,11 @@
 -- What a node makes of a datagram by its rules, and what it makes of one that is told none.
-use Rattle.std.proofs.Common.{◌≡◌, ◌∙◌, ◌≤◌, ◌↔◌, ℕ, Bool, true, false, Option, Some, None, Result, Ok, Err, max, ap, refl, sym, subst, inl, inr, arith}
+use Rattle.std.proofs.Common.{◌≡◌, ◌∙◌, ◌≤◌, ◌↔◌, ℕ, Bool, true, false, Option, Some, None, Result, Ok, Err, ap, refl, sym, subst, inl, inr, arith}
 use Rattle.std.specs.Prelude.{IfOk}
 use Rattle.bac_apdu.specs.Apdu.{Apdu}
 use Rattle.bac_npdu.specs.Peers.{PeerView}
 use Rattle.bac_protocol.specs.Service.{Octets}
 use Rattle.bac_protocol.specs.Serving.{ReadRule}
 use Rattle.bac_protocol.specs.Wire.{is_from_client}
-use Rattle.bac_protocol.specs.declared.times.TheConstants.{KEEP}
 use Rattle.bac_transaction.specs.Ends.{ServerEnd, ServerTurn}
 use Rattle.bac_transaction.specs.Reuse.{is_read}
 use Rattle.bac_transaction.specs.Services.{service_of}

@@ -4,7 +4,7 @@
 //! due, and [`Node::ask`] to begin a request; it sends what they return, and waits until [`Node::next_due`]. The methods, their contracts and [`Outcome`] are the
 //! interface; the fields and the private methods may change.
 ghost use Rattle.std.specs.Prelude.{◌≡◌, ◌≢◌, ◌↔◌, ℕ, ◌<◌, ◌≤◌, [], true, false, max, count_by};
-ghost use Rattle.std.specs.Prelude.{IfErr, IfOk, IsErr, IsErrOf, IsSome, IfSome, IsTrue, OnErr, OnOk, MatchOption, None};
+ghost use Rattle.std.specs.Prelude.{IfErr, IfOk, IsErr, IsErrOf, IfSome, IsTrue, OnErr, OnOk, MatchOption, None};
 ghost use Rattle.std.specs.Option.{option_map};
 ghost use Rattle.bac_apdu.specs.Views.{apdu_view, limits_view};
 ghost use Rattle.bac_npdu.specs.Views.{peer_view};

@@ -7,7 +7,6 @@ use Rattle.bac_journal.proofs.Lists.{get_set, get_set_other}
 use Rattle.bac_node.specs.Serving.{is_reusing}
 use Rattle.bac_transaction.specs.Sharing.{EndRules}
 use Rattle.bac_transaction.specs.Views.{rules_view}
-use Rattle.bac_transaction.specs.declared.rules.Rules.{Rules}
 use Rattle.bac_driver.specs.BoundNodes.{BoundNode}
 use Rattle.bac_plant.specs.Plants.{Plant, reuse_of, settings_of}
 use Rattle.bac_plant.specs.Steps.{PlantRun, PlantStep, Step}

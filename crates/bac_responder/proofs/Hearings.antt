@@ -26,7 +26,7 @@ use Rattle.bac_transaction.specs.Views.{code_same_key, peer_key_view, slots_view
 use Rattle.bac_transaction.specs.declared.peer_key.PeerKey.{PeerKey}
 use Rattle.bac_transaction.proofs.Keyed.{value_viewed, without_viewed}
 use Rattle.bac_transaction.proofs.Viewed.{count_viewed}
-use Rattle.bac_responder.specs.Hearing.{HeedsRoom, HeedsRoomAt, Hears, IsHeard, IsPassed, code_slots_left}
+use Rattle.bac_responder.specs.Hearing.{HeedsRoomAt, Hears, IsHeard, IsPassed, code_slots_left}
 use Rattle.bac_responder.specs.Kept.{adds_nothing, adds_nothing_at, grows_none, grows_none_at}
 use Rattle.bac_responder.specs.Turns.{Acted, IsServed, acted_of}
 use Rattle.bac_responder.specs.Views.{end_of}

@@ -12,7 +12,7 @@ use Rattle.bac_protocol.specs.Reuse.{is_ended_by}
 use Rattle.bac_protocol.specs.Server.{Reaction, ServerTransaction, Service, is_live, is_none_live, rests, server_abort}
 use Rattle.bac_protocol.specs.Service.{OTHER}
 use Rattle.bac_protocol.specs.Serving as machine
-use Rattle.bac_protocol.specs.Serving.{ServerRules, ends_entry, entry_left, is_turned_away, needs_slot, server_hears}
+use Rattle.bac_protocol.specs.Serving.{ServerRules, ends_entry, entry_left, needs_slot, server_hears}
 use Rattle.bac_protocol.proofs.ByRules.{fresh_is_reuse, remembered_ends, remembers_all as machine_remembers_all, strict_is_server, turns_requests_away}
 use Rattle.bac_transaction.specs.Ends.{ServerEnd, ServerSlot, ServerTurn, act_at, context_of, is_free, is_slot_live, key_of, put_entry, server_goes, waits_to_serve}
 use Rattle.bac_transaction.specs.Keys.{PeerKey, same_key}

@@ -4,7 +4,6 @@ use Rattle.bac_apdu.specs.Apdu.{Apdu}
 use Rattle.bac_apdu.specs.Apdu.Apdu.{ConfirmedRequest, SimpleAck, Abort}
 use Rattle.bac_protocol.specs.Service.{Octets, Reply}
 use Rattle.bac_protocol.specs.Server as server
-use Rattle.bac_protocol.specs.Server.{Service}
 use Rattle.bac_segment.specs.Window.{outgoing}
 use Rattle.bac_transaction.specs.Ends.{Act, ServerEnd, ServerSlot, ServerTurn, server_restarted}
 use Rattle.bac_transaction.specs.Examples.{LIMITS, REQUEST, SERVICE, SERVICE_DATA, SETTINGS, key, peer, servers}

@@ -1,5 +1,5 @@
 -- No entry is live, or the one that is ends.
-use Rattle.std.proofs.Common.{◌≡◌, ◌≤◌, ◌∙◌, refl, sym, ap, subst, ℕ, List, Option, Some, None, Bool, true, ◌++◌, ◌∷◌, [], filter}
+use Rattle.std.proofs.Common.{◌≡◌, ◌≤◌, ◌∙◌, refl, sym, ap, subst, ℕ, List, Some, None, Bool, true, ◌++◌, ◌∷◌, [], filter}
 use Rattle.std.specs.Prelude.{MatchOption}
 use Rattle.bac_apdu.specs.Apdu.{Apdu}
 use Rattle.bac_apdu.specs.Views.{apdu_view}
@@ -18,7 +18,6 @@ use Rattle.bac_transaction.specs.declared.peer_key.PeerKey.{PeerKey as CodeKey}
 use Rattle.bac_transaction.proofs.Keyed.{value_viewed}
 use Rattle.bac_responder.specs.Hearing.{code_slots_left}
 use Rattle.bac_responder.specs.Views.{end_of}
-use Rattle.bac_responder.proofs.Begins.{heeds_as}
 use Rattle.bac_responder.proofs.Hearings.{adds_as, both_true, heard, hears_as, left, none_left, passed}
 use Rattle.bac_responder.proofs.Sweeps.{entered, keep_none, room, same_end}
 use Rattle.bac_responder.proofs.Turned.{begun_live, served_so, served_with}
