@@ -8,6 +8,7 @@ use crate::value_forms::add_value_advice;
 use bac_commands::Style;
 use bac_service_text::{BadWord, Wanted, bad_word};
 use bac_text::{Status, no_memory};
+use bac_value_text::{number_in, parts_at};
 use std::alloc::{AllocError, Global};
 use std::io::Write;
 use std::{io, str};
@@ -50,6 +51,38 @@ fn add_name_like(
     }
 }
 
+/// Whether a word is the address of a node.
+fn is_address(word: &[u8]) -> bool {
+    match str::from_utf8(word) {
+        Ok(text) => read_link(text).is_some(),
+        Err(_) => false,
+    }
+}
+
+/// The greatest instance of an object (clause 12.1).
+const MOST_INSTANCE: u64 = 4_194_303;
+
+/// Whether an object has an instance that is a greater number than any.
+fn has_great_instance(word: &[u8]) -> bool {
+    match parts_at(b':', word) {
+        Some((_, instance)) => number_in(instance).is_some_and(|number| number > MOST_INSTANCE),
+        None => false,
+    }
+}
+
+/// What to write in place of a word that is no object.
+fn add_object_advice(alloc: Global, word: &[u8], reason: &mut Vec<u8>) -> Result<(), AllocError> {
+    if is_address(word) {
+        reason.extend_from_slice(
+            b"; give an address with --to, or in a list as @ADDRESS before the request",
+        )
+    } else if has_great_instance(word) {
+        reason.extend_from_slice(b"; an instance is at most 4194303")
+    } else {
+        add_name_like(alloc, Wanted::Object, word, reason)
+    }
+}
+
 /// What to write in place of a word that was wanted to be something: of a value the form of its kind, of an object or a property the name that is like it; of
 /// `@FILE` where it may stand.
 fn add_advice(
@@ -60,6 +93,7 @@ fn add_advice(
 ) -> Result<(), AllocError> {
     match wanted {
         Wanted::Value => add_value_advice(alloc, word, reason),
+        Wanted::Object => add_object_advice(alloc, word, reason),
         Wanted::Data => reason.extend_from_slice(
             b": expected complete values in hexadecimal, or values with their kinds, such as real:72.5",
         ),

@@ -43,6 +43,34 @@ fn kind_name(place: u32) -> Option<&'static str> {
     }
 }
 
+/// The usual abbreviations of object types, and their names.
+const ABBREVIATIONS: &str = "\
+ai analog-input
+ao analog-output
+av analog-value
+bi binary-input
+bo binary-output
+bv binary-value
+dev device
+mi multi-state-input
+mo multi-state-output
+msi multi-state-input
+mso multi-state-output
+msv multi-state-value
+mv multi-state-value";
+
+/// The object type that an abbreviation stands for.
+fn type_abbreviated(word: &str) -> Option<&'static str> {
+    for row in ABBREVIATIONS.lines() {
+        if let Some((short, name)) = row.split_once(' ') {
+            if short == word {
+                return Some(name);
+            }
+        }
+    }
+    None
+}
+
 /// The name of that number, where an object, a property or a value was wanted.
 fn name_of(wanted: Wanted, number: u32) -> Option<&'static str> {
     match wanted {
@@ -84,7 +112,7 @@ fn nearer(
     }
 }
 
-/// The name that is most like that of a word, where that is misspelled and one is like it; capitals count as small letters. An Err is out of memory.
+/// The name that is most like that of a word, where that is misspelled and one is like it, or that of the type that it abbreviates; capitals count as small letters. An Err is out of memory.
 pub(crate) fn name_like(
     alloc: Global,
     wanted: Wanted,
@@ -94,6 +122,9 @@ pub(crate) fn name_like(
         return Ok(None);
     };
     let small = text.to_ascii_lowercase(alloc)?;
+    if let (Wanted::Object, Some(name)) = (wanted, type_abbreviated(&small)) {
+        return Ok(Some(name));
+    }
     let mut near = None;
     for number in 0..=MOST_NUMBER {
         if let Some(name) = name_of(wanted, number) {

@@ -6,6 +6,9 @@ use Rattle.std.specs.Str.{bytes_eq}
 use Rattle.std.specs.Io.KnownBytes.{Appends}
 use Rattle.bac_value.specs.Value.{Datum}
 use Rattle.bac_value.specs.Writing.{value_spelling}
+use Rattle.bac_value_text.specs.Names.{name_in}
+use Rattle.bac_value_text.specs.Numbers.{number_up_to}
+use Rattle.bac_value_text.specs.Properties.{PROPERTIES}
 use Rattle.bac_npdu.specs.Peers.{PeerView}
 use Rattle.bac_service.specs.Values.{Reference, Request, property_asked}
 use Rattle.bac_service.specs.Values.Request.{ReadFile, WriteFile, ReadProperty, WriteProperty}
@@ -40,14 +43,14 @@ pub record Order : Type 0 where
   pub reading : Question
   pub reference : Reference
 
-abbrev pub name_in : Option (Bor (List ℕ)) → Option (List ℕ)
-name_in name = option_map (λ n. n.now) name
+abbrev pub text_given : Option (Bor (List ℕ)) → Option (List ℕ)
+text_given name = option_map (λ n. n.now) name
 
 abbrev pub order_view : code.Order → Order
 order_view o = record {
   text = o.text.now;
   priority = priority_view o.priority;
-  kind = name_in o.kind;
+  kind = text_given o.kind;
   reading = question_view o.reading;
   reference = property_reference_view o.reference;
 }
@@ -60,12 +63,17 @@ ordered_in (object ∷ text ∷ []) = Some (record { object = object; property =
 ordered_in (object ∷ property ∷ text ∷ []) = Some (record { object = object; property = property }, text)
 ordered_in (object ∷ property ∷ text ∷ word ∷ words) = None
 
--- what the words of a command line order
+-- the name that the standard gives a property, where a word is its number
+abbrev pub name_of_number : (word : List ℕ) → Option (List ℕ)
+name_of_number word = number_up_to 4294967295 word >>= name_in PROPERTIES
+
+-- what the words of a command line order; a property that has a name is given by it, so that no number is written to it that was meant otherwise
 pub record IsOrder (peer : PeerView) (writing : Writing) (o : Order) : Type 0 where
   pub target : Target
   pub words : ordered_in (map (λ w. w.now) writing.words.now) ≡ Some (target, o.text)
+  pub named : name_of_number target.property ≡ None
   pub priority : o.priority ≡ priority_view writing.priority
-  pub kind : o.kind ≡ name_in writing.kind
+  pub kind : o.kind ≡ text_given writing.kind
   pub reads : read_by peer target ≡ Some o.reading
   pub property : property_asked o.reading.request ≡ Some o.reference
 

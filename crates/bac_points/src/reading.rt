@@ -10,7 +10,7 @@ ghost use Rattle.bac_points.specs.Reads.{PrintsAnswer, ReadsLines, ReadsWords, a
 
 use crate::performing::Desk;
 use crate::questions::{WINDOW, lines_in};
-use crate::silence::tell_refused;
+use crate::silence::tell_next;
 use bac_ask_report::Outcome;
 use bac_asking::{Client, ClientSockets, gather, outcome_of, print_header};
 use bac_driver::AskEnd;
@@ -148,7 +148,7 @@ fn read_lines<M: ClientSockets, O: Write, E: Write>(
     let ends = gather(desk.asking, WINDOW, client, lines, err)?;
     print_ends(desk, client, lines, &ends, out, err)?;
     desk.tell_if_silent(&ends, err);
-    tell_refused(&ends, err);
+    tell_next(&ends, err);
     Ok(are_valued(lines, &ends))
 }
 

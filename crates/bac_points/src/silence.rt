@@ -5,6 +5,7 @@ use bac_asking::{ClientSockets, outcome_of, tell_no_answer, tell_unsent};
 use bac_driver::AskEnd;
 use bac_npdu::Peer;
 use bac_point_report::is_refused;
+use bac_service::AnyReply;
 use bac_text::Status;
 use std::alloc::Global;
 use std::io::Write;
@@ -12,6 +13,9 @@ use std::io::Write;
 /// What is told of a node that aborts a request for a reason of its own.
 const REFUSED: &str =
     "the device refuses the request for now: a bac serve that was just restarted does so for up to 65 seconds";
+
+/// What is told of a node that has no such object.
+const UNKNOWN: &str = "bac points lists the objects of a device";
 
 /// Tells that a node did not answer, how long it was waited for, what to look at, and why the system sends nothing to it, if the system tells that.
 pub(crate) fn tell_silence<M: ClientSockets, E: Write>(
@@ -31,5 +35,22 @@ pub(crate) fn tell_refused<E: Write>(ends: &[AskEnd], err: &mut E) {
     if ends.iter().any(|end| is_refused(outcome_of(end))) {
         // if that fails too, only the status is left
         let _ = err.writeln(REFUSED);
+    }
+}
+
+/// Whether a node answered that it has no such object (clause 18.2).
+fn is_unknown(outcome: Outcome<'_>) -> bool {
+    matches!(
+        outcome,
+        Outcome::Answered(AnyReply::Error { class: 1, code: 31 })
+    )
+}
+
+/// Tells what to do next where a node refused a request for now, or has no such object.
+pub(crate) fn tell_next<E: Write>(ends: &[AskEnd], err: &mut E) {
+    tell_refused(ends, err);
+    if ends.iter().any(|end| is_unknown(outcome_of(end))) {
+        // if that fails too, only the status is left
+        let _ = err.writeln(UNKNOWN);
     }
 }

@@ -13,11 +13,11 @@ ghost use Rattle.bac_point_report.specs.Targets.{target_view};
 ghost use Rattle.bac_asking.specs.Recording.{outcome_of};
 ghost use Rattle.bac_environment.specs.Sockets.{OnClock, OnPort};
 ghost use Rattle.bac_points.specs.Writes.{AsksKind, FindsKind, IsKindOf, IsOrder, IsWriting, PrintsBack, PrintsFound, PrintsOther, ReadsBack, Writes, WritesAs, WritesOnce, WritesOrder};
-ghost use Rattle.bac_points.specs.Writes.{differs_line, order_view, ordered_in, writes_values};
+ghost use Rattle.bac_points.specs.Writes.{differs_line, name_of_number, order_view, ordered_in, writes_values};
 
 use crate::performing::Desk;
 use crate::questions::{question_by, question_for};
-use crate::silence::tell_refused;
+use crate::silence::tell_next;
 use crate::task::Writing;
 use bac_asking::{Client, ClientSockets, ask_on, outcome_of};
 use bac_driver::{AskEnd, Question};
@@ -29,6 +29,7 @@ use bac_point_text::{Kind, WrittenFault, enumeration_of, names_advice};
 use bac_service::{AnyRequest, Priority, PropertyReference, WriteProperty};
 use bac_text::{Status, no_memory, output_failed};
 use bac_value::Data;
+use bac_value_text::{number_up_to, property_name};
 use std::alloc::{AllocError, Global};
 use std::io::{ErrorKind, Write};
 use std::{io, slice};
@@ -82,6 +83,26 @@ fn ordered_in<'a>(words: &[&'a str]) -> Option<(Target<'a>, &'a str)>
     }
 }
 
+/// The name that the standard gives a property, where a word is its number. None of a name, and of a number without one.
+fn name_of_number(word: &str) -> Option<&'static str>
+    ensures { option_map (λ n. n.now) result ≡ name_of_number word.now }
+{
+    let number = number_up_to(u64::from(u32::MAX), word.as_bytes())?;
+    property_name(number as u32)
+}
+
+/// Complains of a property that is given by its number and has a name: the number may be meant as a value.
+fn print_numbered<E: Write>(word: &str, name: &str, err: &mut E) -> Status
+    ensures { IsStop result }
+{
+    // if that fails too, only the status is left
+    let _ = writeln!(
+        err,
+        "bad words: property {word} is {name}: write its name; a priority is --priority N"
+    );
+    Status::CommandLine
+}
+
 /// Complains of words that are bad.
 fn print_bad<E: Write>(reason: &str, err: &mut E) -> Status
     ensures { IsStop result }
@@ -107,10 +128,19 @@ fn name_advice(
     }
 }
 
+/// What is wanted of a number of a kind.
+fn number_wanted(kind: Kind) -> &'static str {
+    match kind {
+        Kind::Real | Kind::Double => "a number, such as 21.5",
+        _ => "a whole number",
+    }
+}
+
 /// Complains of a text that is no value of the kind that is wanted.
 fn print_bad_value<E: Write>(
     alloc: Global,
     order: &Order<'_>,
+    kind: Kind,
     fault: WrittenFault,
     err: &mut E,
 ) -> Status
@@ -127,6 +157,10 @@ fn print_bad_value<E: Write>(
             let _ = write!(err, "bad words: \"{text}\" is {fault}; ");
             let _ = err.write_all(&advice);
             let _ = err.write_all(b"\n");
+        }
+        WrittenFault::NoNumber => {
+            let wanted = number_wanted(kind);
+            let _ = writeln!(err, "bad words: \"{text}\" is not {wanted}");
         }
         _ => {
             let _ = writeln!(err, "bad words: \"{text}\" is {fault}");
@@ -147,6 +181,9 @@ fn order_of<'a, M: ClientSockets, E: Write>(
     let Some((target, text)) = ordered_in(writing.words) else {
         return Err(print_bad(FORM, err));
     };
+    if let Some(name) = name_of_number(target.property) {
+        return Err(print_numbered(target.property, name, err));
+    }
     let words = ["read", target.object, target.property];
     let reading = question_by(desk.alloc, desk.peer, &words, err)?;
     match reading.request.as_request().property() {
@@ -178,7 +215,7 @@ fn tell_failure<M: ClientSockets, E: Write>(
     };
     // if that fails too, only the status is left
     let _ = err.write_all(&line);
-    tell_refused(slice::from_ref(end), err);
+    tell_next(slice::from_ref(end), err);
     Ok(())
 }
 
@@ -367,7 +404,7 @@ fn writing_question<M: ClientSockets, E: Write>(
             };
             Ok(question_for(desk.peer, AnyRequest::WriteProperty(write)))
         }
-        Err(fault) => Err(print_bad_value(desk.alloc, order, fault, err)),
+        Err(fault) => Err(print_bad_value(desk.alloc, order, kind, fault, err)),
     }
 }
 
