@@ -133,6 +133,36 @@ fn asks_version(words: &[String]) -> bool {
     }
 }
 
+/// Whether words ask for help by `--help` or `-h`, by what clap makes of them.
+fn asks_help(parsed: &Result<ArgMatches<'_>, clap::Error>) -> bool {
+    match parsed {
+        Err(error) => error.kind() == ErrorKind::DisplayHelp,
+        Ok(_) => false,
+    }
+}
+
+/// The command that the words of a command line name, behind the program's name; None where an option stands there, or nothing.
+fn command_in(words: &[String]) -> Option<&str> {
+    match words {
+        [_, name, ..] if !name.starts_with('-') => Some(name.as_str()),
+        _ => None,
+    }
+}
+
+/// What the words of a command line ask to be told of the program by an option, if they do.
+fn told_by_option<'a>(
+    words: &'a [String],
+    parsed: &Result<ArgMatches<'_>, clap::Error>,
+) -> Option<Telling<'a>> {
+    if asks_version(words) {
+        Some(Telling::Version)
+    } else if asks_help(parsed) {
+        Some(Telling::Help(command_in(words)))
+    } else {
+        None
+    }
+}
+
 /// Does what parsed words ask for.
 fn run_parsed<F: RegularFiles, M: Machine, O: Write, E: Write>(
     environment: &Environment<'_, F, M>,
@@ -159,7 +189,8 @@ fn run_parsed<F: RegularFiles, M: Machine, O: Write, E: Write>(
     }
 }
 
-/// Does what the words of a command line ask for; the first word is the program's name. `--version` alone does what the command `version` does.
+/// Does what the words of a command line ask for; the first word is the program's name. `--version` alone does what the command `version` does, and
+/// `--help` or `-h` what `help` does, for the command that is named.
 ///
 /// Words of no form: clap's text on `err`, and `CommandLine`. Out of memory: `no memory` on `err`. Where a brief command line fails and standard error is no
 /// terminal, `err` gets one line; otherwise what went wrong, and why.
@@ -182,10 +213,9 @@ pub fn run<F: RegularFiles, M: Machine, O: Write, E: Write>(
         files,
         machine,
     };
-    let status = if asks_version(words) {
-        perform_shown(&environment, Task::Tell(Telling::Version), out, &mut told)
-    } else {
-        run_parsed(&environment, parsed, out, &mut told)
+    let status = match told_by_option(words, &parsed) {
+        Some(telling) => perform_shown(&environment, Task::Tell(telling), out, &mut told),
+        None => run_parsed(&environment, parsed, out, &mut told),
     };
     // if its last octets cannot be written, only the status is left
     let _ = told.finish();

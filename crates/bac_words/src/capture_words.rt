@@ -51,7 +51,7 @@ chart|flag|never||Draws a sequence chart instead, with a column of 41 characters
 mermaid|flag|never|chart|Prints that chart as a Mermaid `sequenceDiagram`
 unanswered|flag|never|chart mermaid|Prints only transactions without an answer
 errors|flag|never|chart mermaid|Prints only transactions that ended with an Error, a Reject or an Abort
-repeated|flag|never|chart mermaid|Prints only transactions whose request, or a segment of it, was sent more than once, answered or not; where the capture lacks segments of a request, a repeated one may go unnoticed
+repeated|flag|never|chart mermaid|Prints only transactions whose request, or a segment of it, was sent more than once, whether answered or not. If the capture lacks segments of a request, a repeat may go unnoticed
 findings|flag|never|chart mermaid|Prints only transactions with a finding
 slower|text TIME|never|chart mermaid|Prints only transactions whose answer took more than TIME, or that have no answer: 300ms, 2s, 1m, or a number of milliseconds, 1 to 1000000000
 peer|text A.B.C.D[:P]|never|chart mermaid|Prints only transactions whose client or server has this IPv4 address, and this UDP port if one is given
@@ -61,4 +61,4 @@ html|flag|never|chart mermaid json|Prints an HTML page: the transactions as a ta
 values|flag|never|unanswered errors repeated findings slower peer fail json html frames strict-ids|Draws a chart (with --mermaid a Mermaid one) with the values of each answer that fits in one APDU
 pairs|flag|never|unanswered errors repeated findings slower peer fail json html frames strict-ids|Draws a chart for each client and server, one after the other, however many there are; with --mermaid as sections of Markdown
 frames|flag|never|chart mermaid json html|Prints a line for each transaction with the numbers of its frames, as Wireshark counts them
-strict-ids|flag|never|chart mermaid|Counts it as a finding too if a client uses an invoke ID again within 65 seconds, although the first transaction was over";
+strict-ids|flag|never|chart mermaid|Also counts it as a finding if a client reuses an invoke ID within 65 seconds, even after the first transaction had ended";

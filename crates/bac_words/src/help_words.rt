@@ -4,7 +4,7 @@ use crate::words::{Grammar, OTHERS};
 
 /// What `help` takes.
 const HELP: &str = "\
-COMMAND|bare|never|man all|The command to explain; without it, the commands are listed on one screen. Or names to list: those of object `types`, of `properties`, or of an enumeration; `values` lists the enumerations
+COMMAND|bare|never|man all|The command to explain, or a list of names to print: `types` (of objects), `properties`, an enumeration such as `engineering-units`, or `values`, which lists the enumerations. Without it, the commands are listed on one screen
 all|flag|never|man|Lists all commands, and says what each does
 man|flag|never||Prints the manual page, for `man`";
 

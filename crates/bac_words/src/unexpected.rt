@@ -1,14 +1,27 @@
-//! What is told of a word that a command does not take, where another word is meant.
+//! What is told of a word that a command does not take, where another word is meant, and of a text that is none of the numbers that an option takes.
 use crate::completion::has_hyphens;
 use crate::grammar::command_of;
 use crate::help_words::command_named;
-use crate::words::{Grammar, Word};
+use crate::words::{Grammar, Word, WordForm};
 use clap::error::ErrorKind;
 use std::alloc::{AllocError, Global};
 
-/// The part of a word that clap names: where it has one hyphen, that and the letter behind it.
+/// What is told of `--port` where a command takes the port of a node behind its address alone.
+const PORT_HINT: &str = "the port stands behind the address: --to 127.0.0.1:47808";
+
+/// A word without the text that stands in it behind `=`.
+fn without_text(word: &str) -> &str {
+    match word.split_once('=') {
+        Some((name, _)) => name,
+        None => word,
+    }
+}
+
+/// The part of a word that clap names: where it has two hyphens, its name, and where it has one, that and the letter behind it.
 fn named_part(word: &str) -> &str {
-    if word.starts_with('-') && !word.starts_with("--") {
+    if word.starts_with("--") {
+        without_text(word)
+    } else if word.starts_with('-') {
         word.get(..2).unwrap_or(word)
     } else {
         word
@@ -28,21 +41,37 @@ fn is_option(line: &'static str, name: &str) -> bool {
     has_hyphens(&word) && word.name == name
 }
 
+/// The option of that name, if a command has it.
+fn option_named(grammar: &Grammar, name: &str) -> Option<Word> {
+    let line = grammar.words.lines().find(|line| is_option(*line, name))?;
+    Some(Word::of(line))
+}
+
+/// Whether a command has the option of that name.
+fn has_option(grammar: &Grammar, name: &str) -> bool {
+    grammar.words.lines().any(|line| is_option(line, name))
+}
+
 /// The name of the option that is meant by a word with one hyphen, as by `-to` or `-to=10.0.0.1`.
 fn option_meant(grammar: &Grammar, word: &str) -> Option<&'static str> {
-    let name = word.strip_prefix('-')?;
-    let name = match name.split_once('=') {
-        Some((name, _)) => name,
-        None => name,
-    };
-    let line = grammar.words.lines().find(|line| is_option(*line, name))?;
-    Some(Word::of(line).name)
+    let name = without_text(word.strip_prefix('-')?);
+    Some(option_named(grammar, name)?.name)
 }
 
 /// Whether a command takes an address behind `--to`, and a word may be one: it begins with a digit.
 fn is_address(grammar: &Grammar, word: &str) -> bool {
     let begins = matches!(word.as_bytes(), [first, ..] if first.is_ascii_digit());
-    begins && grammar.words.lines().any(|line| is_option(line, "to"))
+    begins && has_option(grammar, "to")
+}
+
+/// Whether a command takes a document behind `--objects`, and a word may name one.
+fn is_document(grammar: &Grammar, word: &str) -> bool {
+    word.ends_with(".toml") && has_option(grammar, "objects")
+}
+
+/// Whether a word that a command does not take is `--port`, and the command takes the port behind the address.
+fn is_port(grammar: &Grammar, word: &str) -> bool {
+    named_part(word) == "--port" && has_option(grammar, "to")
 }
 
 /// What is meant by a word that a command does not take, if that is known.
@@ -53,10 +82,24 @@ fn meant_by(alloc: Global, grammar: &Grammar, word: &str) -> Result<Option<Strin
     if is_address(grammar, word) {
         return Ok(Some(format!(in alloc; "--to {word}")?));
     }
+    if is_document(grammar, word) {
+        return Ok(Some(format!(in alloc; "--objects {word}")?));
+    }
     Ok(None)
 }
 
-/// The fault of the word that clap's text is about, and what is meant by it, if that is known.
+/// What is told behind a word that a command does not take, if that is known.
+fn hint_of(alloc: Global, grammar: &Grammar, word: &str) -> Result<Option<String>, AllocError> {
+    if is_port(grammar, word) {
+        return Ok(Some(String::from_str(alloc, PORT_HINT)?));
+    }
+    match meant_by(alloc, grammar, word)? {
+        Some(meant) => Ok(Some(format!(in alloc; "did you mean {meant}?")?)),
+        None => Ok(None),
+    }
+}
+
+/// The fault of the word that clap's text is about, and a hint, if one is known.
 fn fault_in(
     alloc: Global,
     grammar: &Grammar,
@@ -66,10 +109,8 @@ fn fault_in(
     for word in words {
         let word = word.as_str();
         if is_about(alloc, text, word)? {
-            if let Some(meant) = meant_by(alloc, grammar, word)? {
-                let fault = format!(in alloc;
-                    "unexpected argument '{word}' found; did you mean {meant}?"
-                )?;
+            if let Some(hint) = hint_of(alloc, grammar, word)? {
+                let fault = format!(in alloc; "unexpected argument '{word}' found; {hint}")?;
                 return Ok(Some(fault));
             }
         }
@@ -77,26 +118,70 @@ fn fault_in(
     Ok(None)
 }
 
-/// An error that says what is meant by a word that a command does not take, in place of clap's own error, if that is known.
+/// What clap's text of an error says of a bad text behind an option, before it says why, such as `invalid value '60s' for '--port <P>'`.
+fn said_in(text: &str) -> Option<&str> {
+    let (said, _) = text.strip_prefix("error: ")?.rsplit_once(": ")?;
+    Some(said)
+}
+
+/// The least and the most of the numbers that an option takes of which clap says that. None where it takes no number.
+fn range_of(grammar: &Grammar, said: &str) -> Option<(u64, u64)> {
+    let (_, behind) = said.rsplit_once(" for '--")?;
+    let (name, _) = behind.split_once(' ')?;
+    match option_named(grammar, name)?.form {
+        WordForm::Number(_, most) => Some((1, most)),
+        WordForm::Index(_, most) => Some((0, most)),
+        _ => None,
+    }
+}
+
+/// The fault of a text that is none of the numbers that an option takes, with these, if clap's text is about such a text.
+fn number_fault(
+    alloc: Global,
+    grammar: &Grammar,
+    text: &str,
+) -> Result<Option<String>, AllocError> {
+    let Some(said) = said_in(text) else {
+        return Ok(None);
+    };
+    let Some((least, most)) = range_of(grammar, said) else {
+        return Ok(None);
+    };
+    let fault = format!(in alloc; "{said}: expected a whole number from {least} to {most}")?;
+    Ok(Some(fault))
+}
+
+/// The fault in the words of a command, clearer than clap's error tells it, if that is known.
+fn clearer_fault(
+    alloc: Global,
+    grammar: &Grammar,
+    words: &[String],
+    error: &clap::Error,
+) -> Result<Option<String>, AllocError> {
+    let text = format!(in alloc; "{error}")?;
+    match error.kind() {
+        ErrorKind::UnknownArgument => fault_in(alloc, grammar, words, text.as_str()),
+        ErrorKind::ValueValidation => number_fault(alloc, grammar, text.as_str()),
+        _ => Ok(None),
+    }
+}
+
+/// An error that says what is meant by a word that a command does not take, or which numbers an option takes, in place of clap's own error, if that is known.
 pub(crate) fn clearer(
     alloc: Global,
     words: &[String],
     error: &clap::Error,
 ) -> Result<Option<clap::Error>, clap::Error> {
-    if error.kind() != ErrorKind::UnknownArgument {
-        return Ok(None);
-    }
     let [_, name, words @ ..] = words else {
         return Ok(None);
     };
     let Some(grammar) = command_named(name.as_str()) else {
         return Ok(None);
     };
-    let text = format!(in alloc; "{error}")?;
-    let Some(fault) = fault_in(alloc, grammar, words, text.as_str())? else {
+    let Some(fault) = clearer_fault(alloc, grammar, words, error)? else {
         return Ok(None);
     };
     let name = format!(in alloc; "bac {name}")?;
     let mut command = command_of(alloc, grammar)?.bin_name(name.as_str())?;
-    Ok(Some(command.error(ErrorKind::UnknownArgument, fault.as_str())?))
+    Ok(Some(command.error(error.kind(), fault.as_str())?))
 }

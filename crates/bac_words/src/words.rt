@@ -145,7 +145,7 @@ const KINDS: &[&str] = &[
 /// What `answer` takes.
 const ANSWER: &str = "\
 HEX|bare|always||The datagram, in hexadecimal
-objects|text FILE|never||The node's objects, as a TOML document; by default an example, a device and four objects";
+objects|text FILE|never||The node's objects, as a TOML document; by default an example: a device and four other objects";
 
 /// The form of a script, and examples for `simulate`.
 const SIMULATE_EXAMPLES: &str = "\
@@ -198,21 +198,21 @@ const SERVE: &str = "\
 port|number P 65535|never||The UDP port to listen on, 1 to 65535; 47808 by default
 turns|number N 1000000|never||Ends after N turns, 1 to 1000000; each waits at most 100 milliseconds for a datagram. By default it serves until you stop it
 seconds|number S 1000000000|never||Ends after S seconds, 1 to 1000000000
-at|text A.B.C.D|never||The IPv4 address of this machine to listen on, and the one that clients ask. By default 127.0.0.1, which other machines cannot reach
+at|text A.B.C.D|never||The IPv4 address of this machine to listen on, to which clients send requests; not 0.0.0.0. By default 127.0.0.1, which other machines cannot reach
 slots|number N 65536|never||How many requests it can remember at once, 1 to 65536; by default 65536, or 64 with --turns
 peers|text CIDR[,CIDR..]|never||The IPv4 addresses that it hears: at most 32 blocks such as 10.0.0.0/8,192.168.1.7, or `any`; it ignores datagrams from others. By default loopback, private (RFC 1918), shared (RFC 6598) and link-local addresses
-rate|index KIB 1048576|never||Sends one IPv4 address at most KIB KiB a second, 0 to 1048576, beside three times what came from it, and 256 KiB or two seconds' worth at once; 0 for no limit. By default 128, and no limit for loopback addresses
+rate|index KIB 1048576|never||Sends one IPv4 address at most KIB KiB a second, 0 to 1048576, plus three times what came from it; after a pause, up to 256 KiB at once, or two seconds' worth if that is more. 0 means no limit. By default 128, with no limit for loopback addresses
 restarted|flag|never||The server ran before and lost what it remembered: for 65 seconds, until no repeat of an old request should arrive, it refuses new requests, except (without --strict) reads whose request and response fit in one APDU each
 strict|flag|never||Lets no client reuse an invoke ID within 65 seconds: an equal request gets the kept response, any other is refused. --turns without --reuse implies it
 reuse|flag|never|strict|Lets clients reuse an invoke ID at once, also with --turns; without --turns this is the default, unless --strict is given
 remember|number S 65|never|strict|An equal write gets the kept response for S seconds, 1 to 65, and is then performed again: for clients that use one invoke ID for all requests. 65 by default; with --turns it requires --reuse
 memory|text OCTETS|never||How many octets of requests and responses it may keep, 65540 to 1099511627776, also written as 512K or 64M; 64M by default. A request that may need more is ignored
-objects|text FILE|never||The node's objects, as a TOML document; by default an example, a device and four objects
+objects|text FILE|never||The node's objects, as a TOML document; by default an example: a device and four other objects
 keep|text FILE|never||Keeps each write in FILE, a database, before the response; a server started with FILE again has the kept values, and starts as with --restarted
 log|flag|never||Logs each datagram that arrives, in full, and what was done for it, on standard error; --log-level can log less, and shortens long lines
 log-level|choice LEVEL|never|log|Logs on standard error each write that was performed (changes), each request that was performed (requests), or each datagram (all); of more than 32 octets it shows the first 32 and the number of octets
 json|flag|never||Prints each line of the log, and the lines at the start, as a JSON object
-follow|flag|beside objects|turns|Reads the document of --objects, a regular file, again when it changes, at most once a second, and gives the objects the values that changed in it, which --keep keeps too; other values that clients wrote stay
+follow|flag|beside objects|turns|Watches the document of --objects, a regular file, and takes over the values that change in it; --keep keeps these too. It looks at most once a second. What a client wrote stays until the document changes that value
 follow-limit|number MIB 1024|beside follow||Follows a document of at most MIB MiB, 1 to 1024; 8 by default. A larger one is not followed until it is smaller
 until-eof|flag|never|keep turns|Ends when standard input ends, within a second";
 
@@ -226,8 +226,8 @@ Example: bac keep copy.db --accept-loss";
 
 /// What `keep` takes.
 const KEEP: &str = "\
-FILE|bare|always||The file that a server was given with --keep; no server may have it open
-accept-loss|flag|never|forget|Accepts the loss where FILE-wal is missing, cut off or damaged, or where FILE was copied alone: keeps what is left, and prints it
+FILE|bare|always||The file that a server was given with --keep. Stop the server first: a file in use is refused
+accept-loss|flag|never|forget|Accepts that writes are lost, where FILE-wal is missing, cut off or damaged, or FILE was copied without it: keeps what is left, and prints it
 forget|text T:I|never||Forgets what is kept of an object, by type and instance, each by number or name, and prints only that: a server started with FILE again has the values of its document
 P|bare|beside forget||The property to forget, by number or name; without it --forget forgets everything kept of the object, including its file
 json|flag|never|forget|Prints each property and each file as a JSON object, one per line";
@@ -269,7 +269,7 @@ csv|flag|never|text raw json|Prints each result as a CSV row, below a row with t
 raw-text|flag|beside csv||Prints texts as they came. By default a text that a spreadsheet would compute has an apostrophe before it, and what would act on a terminal is escaped
 lines|text FILE|never|WORDS raw|Sends the requests in FILE, one per line, in turn, and prefixes each result with its line number; `-` reads standard input. A line may begin with a name, such as `flow:`, which its result carries, and then with the address of its own node, `@A.B.C.D[:P]` or `@A.B.C.D[:P]/NET:MAC`; the other requests go to the node that --to or --port gives. Skips blank lines, and comments that begin with `#`; blanks separate words, a word with blanks in it needs quotes, and `@FILE` is not allowed. An invalid line is reported before anything is sent
 window|number N 256|beside lines|WORDS|Has up to N requests in progress, 1 to 256, with an equal share for each node in the list; results are printed in the order of the lines. By default each waits for the one before
-every|text S|never||Repeats the requests in rounds: each begins S seconds, 0.001 to 1000000000, after the one before was due, or at once if that one took longer. Then standard error says how late it is; for a list it also says so before the round ends
+every|text S|never||Repeats the requests in rounds, one every S seconds, 0.001 to 1000000000. If a round takes longer than that, the next begins as soon as it ends, and standard error says how late; for a list it says so before the round ends, too
 times|number N 1000000000|beside every||The number of rounds, 1 to 1000000000; by default it goes on until you stop it
 WORDS|several|unless lines||The request: `read T:I P`, `write T:I P VALUE..`, `append T:I HEX`, `put T:I POS HEX` or `get T:I POS COUNT`; for a whole file `get T:I` or `put T:I @FILE`";
 
@@ -307,13 +307,13 @@ pub(crate) const OTHERS: &[Grammar] = &[
     },
     Grammar {
         name: "serve",
-        about: "Serves a device over UDP, and prints how many requests it performed",
+        about: "Serves a device over UDP; when it ends by itself (--turns, --seconds, --until-eof), it prints how many requests it performed",
         after: SERVE_EXAMPLES,
         words: SERVE,
     },
     Grammar {
         name: "keep",
-        about: "Prints what a server keeps in a file, one property or file per line",
+        about: "Prints what a server kept in a file, one property or file per line; the server must be stopped",
         after: KEEP_EXAMPLES,
         words: KEEP,
     },
