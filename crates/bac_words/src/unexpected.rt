@@ -7,7 +7,7 @@ use clap::error::ErrorKind;
 use std::alloc::{AllocError, Global};
 
 /// What is told of `--port` where a command takes the port of a node behind its address alone.
-const PORT_HINT: &str = "the port stands behind the address: --to 127.0.0.1:47808";
+const PORT_HINT: &str = "give the port with the address: --to 127.0.0.1:47808";
 
 /// A word without the text that stands in it behind `=`.
 fn without_text(word: &str) -> &str {
