@@ -119,7 +119,7 @@ memory_given (Some text) = memory_named text
 -- ---- its rules
 
 -- whether it lets clients use invoke IDs again, for how long it then remembers a request, and how many octets it keeps at the most
-pub record IsRules (given : ArgMatches) (turns : Option ℕ) (rules : Rules) : Type 0 where
+pub record IsRules (given : ArgMatches) (turns : Option ℕ) (slots : ℕ) (rules : Rules) : Type 0 where
   pub told : Bool
   pub strict : Bool
   pub remember : Option ℕ
@@ -128,7 +128,7 @@ pub record IsRules (given : ArgMatches) (turns : Option ℕ) (rules : Rules) : T
   pub strict_is : IsFlag given (codes "strict") strict
   pub remember_is : IsNumber given (codes "remember") remember
   pub memory_is : memory_given (words_text given (codes "memory")) ≡ Some memory
-  pub is : rules ≡ rules_by (is_reusing turns told strict) remember memory
+  pub is : rules ≡ rules_by (is_reusing turns told strict) slots remember memory
 
 -- ---- its log
 
@@ -150,7 +150,7 @@ pub record IsServing (given : ArgMatches) (s : Serving) : Type 0 where
   pub seconds : IsNumber given (codes "seconds") s.seconds
   pub slots : AreSlots given s.turns s.slots
   pub restarted : IsFlag given (codes "restarted") s.restarted
-  pub rules : IsRules given s.turns s.rules
+  pub rules : IsRules given s.turns s.slots s.rules
   pub guard : IsGuard given s.guard
   pub peers : s.names_peers ≡ is_some (words_text given (codes "peers"))
   pub log : IsFlag given (codes "log") s.log

@@ -1,5 +1,5 @@
 -- How a node is to serve.
-use Rattle.std.specs.Prelude.{ℕ, ◌*◌, min, Bool, true, false, not, ◌&&◌, List, Option, Some, None}
+use Rattle.std.specs.Prelude.{ℕ, ◌*◌, min, nat_le, Bool, true, false, not, ◌&&◌, List, Option, Some, None}
 use Rattle.bac_guard.specs.Sources.{is_heard}
 use Rattle.bac_guard.specs.Views.{blocks_of}
 use Rattle.bac_driver.specs.Waits.{MOST}
@@ -26,11 +26,16 @@ abbrev pub is_reusing : (turns : Option ℕ) → (is_told is_strict : Bool) → 
 is_reusing None is_told is_strict = not is_strict
 is_reusing (Some turns) is_told is_strict = is_told
 
--- its rules, where it keeps so many octets at the most; it then remembers a request for so many seconds, where they are given
-abbrev pub rules_by : (is_reusing : Bool) → (seconds : Option ℕ) → (memory : ℕ) → Rules
-rules_by true (Some seconds) memory = record ANEW { remember = Some (min (seconds * 1000) MOST); memory = Some memory }
-rules_by true None memory = record ANEW { memory = Some memory }
-rules_by false seconds memory = record STRICTLY { memory = Some memory }
+-- slots are shared among addresses where there are few
+abbrev pub are_shared : (slots : ℕ) → Bool
+are_shared slots = nat_le slots 4096
+
+-- its rules, where it has so many slots, and keeps so many octets at the most; it then remembers a request for so many seconds, where they are given
+abbrev pub rules_by : (is_reusing : Bool) → (slots : ℕ) → (seconds : Option ℕ) → (memory : ℕ) → Rules
+rules_by true slots (Some seconds) memory =
+    record ANEW { remember = Some (min (seconds * 1000) MOST); memory = Some memory; share = are_shared slots }
+rules_by true slots None memory = record ANEW { memory = Some memory; share = are_shared slots }
+rules_by false slots seconds memory = record STRICTLY { memory = Some memory }
 
 -- the most octets of a document that it follows: of so many MiB, or of 8
 abbrev pub follow_limit_of : (mebibytes : Option ℕ) → ℕ

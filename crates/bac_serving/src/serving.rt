@@ -1,5 +1,6 @@
 //! How a node is to serve.
 ghost use Rattle.std.specs.Prelude.{◌≡◌};
+ghost use Rattle.bac_transaction.specs.Views.{share_view};
 ghost use Rattle.bac_driver.specs.Kept.{keeper_of};
 ghost use Rattle.bac_driver.specs.Rounds.{IsKept};
 ghost use Rattle.bac_driver.specs.Runs.{timed};
@@ -173,7 +174,9 @@ impl Serving {
     }
 
     /// How its log is written, where it begins then.
-    fn log_settings(&self, start: Start) -> LogSettings {
+    fn log_settings(&self, start: Start) -> LogSettings
+        ensures { result.shares ≡ share_view self.now.rules.reads self.now.rules.share }
+    {
         LogSettings {
             format: self.log_format(start),
             serves_from: self.serves_from(start.moment),

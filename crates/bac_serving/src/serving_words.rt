@@ -68,29 +68,41 @@ fn is_reusing(turns: Option<u64>, is_told: bool, is_strict: bool) -> bool
     }
 }
 
-/// The rules of such a server, which keeps so many octets at the most: for how long it then remembers a request, where that is given in seconds.
-fn rules_by(is_reusing: bool, seconds: Option<u64>, memory: usize) -> Rules
-    ensures { result ≡ rules_by is_reusing seconds memory }
+/// Slots are shared among IP addresses where there are at most so many: beyond an address's share a request takes the time to look at each.
+const MOST_SHARED: usize = 4_096;
+
+/// The rules of such a server, which has so many slots, and keeps so many octets at the most: for how long it then remembers a request, where that is given in
+/// seconds.
+fn rules_by(is_reusing: bool, slots: usize, seconds: Option<u64>, memory: usize) -> Rules
+    ensures { result ≡ rules_by is_reusing slots seconds memory }
 {
     let rules = Rules::of(is_reusing).within(memory);
+    if !is_reusing {
+        return rules;
+    }
+    let rules = Rules {
+        share: slots <= MOST_SHARED,
+        ..rules
+    };
     match seconds {
-        Some(seconds) if is_reusing => Rules {
+        Some(seconds) => Rules {
             remember: Some(seconds.saturating_mul(1_000)),
             ..rules
         },
-        _ => rules,
+        None => rules,
     }
 }
 
-/// The rules of a server that takes so many turns, by its words. None where what is given is no number of octets.
-fn rules_of(given: &ArgMatches<'_>, turns: Option<u64>) -> Option<Rules>
-    ensures { MatchOption result (memory_given (words_text given.now (codes "memory")) ≡ None) (IsRules given.now turns) }
+/// The rules of a server that takes so many turns and has so many slots, by its words. None where what is given is no number of octets.
+fn rules_of(given: &ArgMatches<'_>, turns: Option<u64>, slots: usize) -> Option<Rules>
+    ensures { MatchOption result (memory_given (words_text given.now (codes "memory")) ≡ None) (IsRules given.now turns slots) }
 {
     let memory = memory_of(given)?;
     let is_told = flag_of(given, "reuse");
     let is_strict = flag_of(given, "strict");
     let remember = number_of(given, "remember");
-    Some(rules_by(is_reusing(turns, is_told, is_strict), remember, memory))
+    let is_reusing = is_reusing(turns, is_told, is_strict);
+    Some(rules_by(is_reusing, slots, remember, memory))
 }
 
 /// A number without the plus that may stand before it.
@@ -229,14 +241,15 @@ pub fn serving_of(given: &ArgMatches<'_>) -> Option<Serving>
     }
     let host = host_of(given)?;
     let turns = number_of(given, "turns");
-    let rules = rules_of(given, turns)?;
+    let slots = slots_of(given, turns);
+    let rules = rules_of(given, turns, slots)?;
     let guard = guard_of(given)?;
     Some(Serving {
         host,
         port: port_of(given),
         turns,
         seconds: number_of(given, "seconds"),
-        slots: slots_of(given, turns),
+        slots,
         restarted: flag_of(given, "restarted"),
         rules,
         guard,
