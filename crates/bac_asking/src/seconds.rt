@@ -109,16 +109,9 @@ pub fn bad_pace<'a>(given: &ArgMatches<'a>) -> Option<&'a str> {
 /// Prints why the text given for `--every` is invalid, as clap does for other arguments.
 pub fn print_bad_pace<E: Write>(text: &str, err: &mut E) {
     // if that fails too, only the status is left
-    let _ = write!(err, "error: invalid value '{text}' for '--every <S>': ");
-    let _ = match text.parse::<u64>() {
-        Ok(seconds) => write!(err, "{seconds} is not in 0.001..={MOST}"),
-        Err(_) if text.contains('.') => {
-            write!(
-                err,
-                "expected a number of seconds from 0.001 to {MOST}, with at most three decimal places"
-            )
-        }
-        Err(error) => write!(err, "{error}"),
-    };
-    let _ = err.write_all(b"\n\nFor more information, try '--help'.\n");
+    let _ = writeln!(
+        err,
+        "error: invalid value '{text}' for '--every <S>': expected a number of seconds from 0.001 to {MOST}, with at most three decimal places"
+    );
+    let _ = err.write_all(b"\nFor more information, try '--help'.\n");
 }

@@ -128,7 +128,7 @@ fn commands<'a>(alloc: Global) -> Result<Command<'a>, clap::Error> {
     with_commands(alloc, with_others(alloc)?, about())
 }
 
-/// The error, or a clearer one in its place, if one is known.
+/// The error, or a clearer one in its place where one word was meant to be another.
 fn advised(alloc: Global, words: &[String], error: clap::Error) -> clap::Error {
     match clearer(alloc, words, &error) {
         Ok(Some(clearer)) => clearer,
@@ -141,8 +141,7 @@ fn advised(alloc: Global, words: &[String], error: clap::Error) -> clap::Error {
 /// says. The words that it gives are borrowed of the line.
 ///
 /// An Err whose kind is `OutOfMemory` says that memory was refused. Any other has the text for who wrote the line: its words have no such form, or one is
-/// `--help`. Where a word is not taken that is meant to be an option or its text, as `-to` or an address, it says which. Where a text is none of
-/// the numbers that an option takes, it says which numbers these are.
+/// `--help`. Where a word is not taken that is meant to be an option or its text, as `-to` or an address, it says which.
 pub fn matches<'a>(alloc: Global, words: &'a [String]) -> Result<ArgMatches<'a>, clap::Error> {
     match commands(alloc)?.try_get_matches_from(words) {
         Ok(matches) => Ok(matches),
