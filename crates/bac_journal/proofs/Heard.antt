@@ -24,7 +24,7 @@ use Rattle.bac_transaction.specs.Keys.{PeerKey, same_key}
 use Rattle.bac_transaction.specs.Sends.{Datagram, Pairwise, IsSent, to_all}
 use Rattle.bac_transaction.specs.Meanings.{EndedView, IsEndedView}
 use Rattle.bac_transaction.specs.Ends.{Client, ClientTurn, TransactionSlot, act_at, context_of, client_goes, requester_on_apdu, requester_on_apdu_at, requester_on_apdu_in_slot}
-use Rattle.bac_transaction.specs.Ends.stays
+use Rattle.bac_transaction.specs.Ends.{stays}
 use Rattle.bac_transaction.specs.Reuse.{is_read}
 use Rattle.bac_transaction.specs.Ends.TransactionSlot.{Open, Closed}
 use Rattle.bac_world.specs.Services.{Performed, ArePerformed}
