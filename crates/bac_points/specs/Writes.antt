@@ -7,7 +7,7 @@ use Rattle.std.specs.Io.KnownBytes.{Appends}
 use Rattle.bac_value.specs.Value.{Datum}
 use Rattle.bac_value.specs.Writing.{value_spelling}
 use Rattle.bac_value_text.specs.Names.{name_in}
-use Rattle.bac_value_text.specs.Numbers.{number_up_to}
+use Rattle.bac_value_text.specs.Numbers.{◌>>=◌, number_up_to}
 use Rattle.bac_value_text.specs.Properties.{PROPERTIES}
 use Rattle.bac_npdu.specs.Peers.{PeerView}
 use Rattle.bac_service.specs.Values.{Reference, Request, property_asked}
