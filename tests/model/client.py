@@ -4,19 +4,19 @@ Every answer can be read here, since those of the model's stores can be. An endi
 """
 
 import transfer
-from transfer import (Abort, BUFFER_OVERFLOW, COMPLEX, ComplexAck, Error, Incoming, Outgoing, Reject, Request, SIMPLE, SegmentAck, SimpleAck, join)
+from transfer import (Abort, BUFFER_OVERFLOW, COMPLEX, ComplexAck, Error, Incoming, Outgoing, Reject, Request, SIMPLE, SegmentAck, SimpleAck, heads_of, join)
 
 
 class Ticket:
     """A client transaction. `number` is that of its ask, which no rule reads."""
 
-    __slots__ = ('number', 'first', 'choice', 'octets', 'pieces', 'phase', 'out', 'all_sent', 'inc', 'repeats', 'since')
+    __slots__ = ('number', 'first', 'choice', 'octets', 'pieces', 'segments', 'phase', 'out', 'all_sent', 'inc', 'repeats', 'since')
 
     def __init__(self, number, now, choice, octets, pieces):
         self.number, self.first, self.since = number, now, now
         self.choice, self.octets, self.pieces = choice, octets, pieces  # no pieces where the request goes whole
         self.phase, self.repeats = 'await confirmation', transfer.N_RETRY
-        self.out, self.all_sent, self.inc = None, False, None
+        self.segments, self.out, self.all_sent, self.inc = None, None, False, None
 
 
 def is_expired(c, t):
@@ -38,14 +38,15 @@ def request_window(c, t):
     """The window is sent; all is sent once the last piece was."""
     t.phase, t.since = 'segmented request', c.now
     t.all_sent = t.all_sent or len(t.pieces) <= t.out.first + t.out.in_window()
-    return [Request(c.settings.limits, segment, t.choice, octets) for segment, octets in t.out.segments(c.settings.window)], None
+    return t.out.sends(), None
 
 
 def asks(c, t):
     """A new ask sends the whole request, or segment 0."""
     if t.pieces is None:
         return [request_of(c, t)], None
-    t.out = Outgoing(t.pieces)
+    t.segments = [Request(c.settings.limits, head, t.choice, octets) for head, octets in zip(heads_of(len(t.pieces), c.settings.window), t.pieces)]
+    t.out = Outgoing(t.segments)
     return request_window(c, t)
 
 
@@ -117,6 +118,16 @@ def hears(c, t, apdu):
     return [], None
 
 
+def reassembles(c, t, apdu):
+    """The ticket, if a segment like this one comes for its reassembly now."""
+    return t if t is not None and t.phase == 'segmented conf' and apdu.choice == t.choice and not is_expired(c, t) else None
+
+
+def ignores(c, t, ack):
+    """Whether a SegmentACK changes nothing."""
+    return t.phase == 'idle' or not is_expired(c, t) and (t.phase != 'segmented request' or not t.out.is_in_window(ack.number))
+
+
 def repeats(c, t):
     """The request is sent again: whole in the state it is in, or from segment 0 on with window 1."""
     if t.repeats == 0:
@@ -124,7 +135,7 @@ def repeats(c, t):
     t.repeats, t.since = t.repeats - 1, c.now
     if t.pieces is None:
         return [request_of(c, t)], None
-    t.out, t.all_sent = Outgoing(t.pieces), True
+    t.out, t.all_sent = Outgoing(t.segments), True
     return request_window(c, t)
 
 

@@ -41,7 +41,7 @@ class Play:
         self.octets, self.count = octets, 0
         for word in script.split():
             self.play(word)
-        self.sent = ' '.join(letters(copy.apdu) for copy in self.world.copies.values())
+        self.sent = ' '.join(letters(apdu) for _, _, apdu, _ in self.world.copies.values())
         self.log = ', '.join(words_of(fact) for fact in self.world.log)
         self.wrong = judge(self.world)
 

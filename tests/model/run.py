@@ -11,6 +11,7 @@ import sys
 sys.dont_write_bytecode = True  # no __pycache__ beside the sources
 
 import argparse
+import gc
 from multiprocessing import Pool
 from random import Random
 
@@ -18,6 +19,7 @@ from bounds import BOUNDS
 from judge import judge
 from plants import PLANTS
 from shorten import shortest
+from world import World
 
 CHUNK = 250  # so many runs are done at a time
 ENOUGH = 10  # wrong runs beyond a bound
@@ -29,7 +31,9 @@ def made(bound, side, seed, number):
 
 
 def chunk(work):
-    """Which of these runs are wrong."""
+    """Which of these runs are wrong. A run leaves no cycles, so that its memory is free without a search for them."""
+    gc.disable()
+    World.records = False
     name, side, seed, numbers = work
     bound = next(bound for bound in BOUNDS if bound.name == name)
     return len(numbers), [number for number in numbers if judge(made(bound, side, seed, number))]

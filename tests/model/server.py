@@ -6,7 +6,7 @@ A dead entry counts as none, so here it is none. What a call hears or ticks give
 from typing import NamedTuple, Optional
 
 from transfer import (Abort, BUFFER_OVERFLOW, ComplexAck, Error, Incoming, N_RETRY, OTHER, Outgoing, READS, Reject, Request, SEGMENTATION_NOT_SUPPORTED,
-                      SegmentAck, SimpleAck, join, length_of, pieces_of)
+                      SegmentAck, SimpleAck, heads_of, join, length_of, pieces_of)
 
 
 class Rules(NamedTuple):
@@ -58,7 +58,7 @@ def reply_way(c, limits, reply):
 def reply_window(c, e):
     """The window of a reply is sent."""
     e.transfer, e.since = 'running', c.now
-    return [ComplexAck(segment, e.choice, octets) for segment, octets in e.out.segments(c.settings.window)]
+    return e.out.sends()
 
 
 def keeps(e, sends, apdu, effect):
@@ -77,7 +77,8 @@ def performs(c, service, e, sends, octets):
         return keeps(e, sends, reply_apdu(e.choice, outcome), (e.choice, octets, outcome))
     if type(way) is int:
         return keeps(e, sends, Abort(True, way), None)
-    e.state, e.out, e.inc = 'segmented response', Outgoing(way), None
+    segments = [ComplexAck(head, e.choice, octets) for head, octets in zip(heads_of(len(way), c.settings.window), way)]
+    e.state, e.out, e.inc = 'segmented response', Outgoing(segments), None
     return e, sends + reply_window(c, e), (e.choice, octets, outcome)
 
 
@@ -160,6 +161,11 @@ def live(c, service, e, apdu):
     return e, [], None
 
 
+def reassembles(c, e):
+    """The entry, if a segment of its request comes for its reassembly now."""
+    return e if e is not None and e.state == 'segmented request' and is_live(c, e) and c.now - e.since < c.times.more else None
+
+
 def is_over(e):
     """Its reply of one APDU was sent, its reply in segments was acknowledged or aborted, or its request was given up."""
     return e.state in ('done', 'dropped') or e.state == 'segmented response' and e.transfer == 'finished'
@@ -171,7 +177,7 @@ def ends_with_reply(e, apdu):
         return False
     if type(apdu) is Abort:
         return not apdu.by_server
-    left = len(e.out.pieces) - e.out.first
+    left = len(e.out.segments) - e.out.first
     return type(apdu) is SegmentAck and not apdu.by_server and e.transfer == 'running' and (
         left <= e.out.in_window() and (apdu.number - e.out.first) % 256 == left - 1)
 
@@ -192,15 +198,24 @@ def is_used_again(e, apdu):
 def is_forgotten(c, rules, e, apdu):
     """A request comes for an entry that is over, and began longer ago than requests are remembered."""
     begins = type(apdu) is Request and (apdu.segment is None or apdu.segment.number == 0)
-    return rules.remember is not None and begins and is_over(e) and c.now - e.begin > rules.remember
+    return begins and is_over(e) and c.now - e.begin > rules.remember
 
 
 def hears(c, rules, service, e, may_begin, apdu):
     """An APDU comes for the entry of its key, if there is one."""
     if e is not None and is_live(c, e):
-        if not (rules.fresh and is_used_again(e, apdu) or is_forgotten(c, rules, e, apdu)):
+        if not (rules.fresh and is_used_again(e, apdu) or rules.remember is not None and is_forgotten(c, rules, e, apdu)):
             return live(c, service, e, apdu)
     return idle(c, rules, service, may_begin, apdu)
+
+
+def ignores(c, rules, e, ack):
+    """Whether a SegmentACK changes nothing."""
+    if e is None:
+        return True
+    if not is_live(c, e) or rules.fresh and is_used_again(e, ack):
+        return False
+    return e.state != 'segmented response' or e.transfer != 'running' or not e.out.is_in_window(ack.number)
 
 
 def ticks(c, e):

@@ -3,6 +3,8 @@
 Octets stand here as slices of texts: (text, start, end), in order. No two texts have octets in common, so octets are equal exactly where their slices are.
 """
 
+from dataclasses import dataclass
+from functools import lru_cache
 from typing import NamedTuple, Optional
 
 N_RETRY = 3  # repeats before giving up
@@ -15,25 +17,29 @@ READS = {6, 12}  # the choices of requests that change no store
 
 def join(parts):
     """The octets of these parts in order: slices that follow each other in one text become one."""
-    joined = []
+    joined, text, begin, end = [], None, 0, 0
     for part in parts:
-        for text, start, end in part:
-            if joined and joined[-1][0] == text and joined[-1][2] == start:
-                joined[-1] = (text, joined[-1][1], end)
-            else:
-                joined.append((text, start, end))
-    return tuple(joined)
+        for here, start, after in part:
+            if here != text or start != end:
+                joined.append((text, begin, end))
+                text, begin = here, start
+            end = after
+    return (*joined[1:], (text, begin, end)) if joined else ()
 
 
 def length_of(octets):
     """How many octets these are."""
-    return sum(end - start for _, start, end in octets)
+    length = 0
+    for _, start, end in octets:
+        length += end - start
+    return length
 
 
+@lru_cache
 def pieces_of(octets, size):
     """The pieces of one whole text: all of that size but the last, which may be shorter."""
     [(text, start, end)] = octets
-    return [((text, place, min(place + size, end)),) for place in range(start, end, size)]
+    return tuple(((text, place, min(place + size, end)),) for place in range(start, end, size))
 
 
 class Limits(NamedTuple):
@@ -51,7 +57,8 @@ class Settings(NamedTuple):
     window: int
 
 
-class Segment(NamedTuple):
+@dataclass(slots=True)
+class Segment:
     """What a segment says: whether more follow, its number, and the proposed window."""
 
     more: bool
@@ -59,7 +66,8 @@ class Segment(NamedTuple):
     window: int
 
 
-class Request(NamedTuple):
+@dataclass(slots=True)
+class Request:
     limits: Limits
     segment: Optional[Segment]
     choice: int
@@ -70,13 +78,15 @@ class SimpleAck(NamedTuple):
     choice: int
 
 
-class ComplexAck(NamedTuple):
+@dataclass(slots=True)
+class ComplexAck:
     segment: Optional[Segment]
     choice: int
     octets: tuple
 
 
-class SegmentAck(NamedTuple):
+@dataclass(slots=True)
+class SegmentAck:
     by_server: bool
     nak: bool
     number: int
@@ -103,29 +113,39 @@ def is_from_client(apdu):
     return kind is Request or (kind is SegmentAck or kind is Abort) and not apdu.by_server
 
 
+@lru_cache
+def heads_of(count, proposed):
+    """What the segments of so many pieces say."""
+    return tuple(Segment(n + 1 < count, n % NUMBERS, proposed) for n in range(count))
+
+
 class Outgoing:
-    """The sender: its pieces, the first one that was not acknowledged, the window, and how often the window may be sent again."""
+    """The sender: its segments, the first one that was not acknowledged, the window, and how often the window may be sent again."""
 
-    __slots__ = ('pieces', 'first', 'window', 'retries')
+    __slots__ = ('segments', 'first', 'window', 'retries')
 
-    def __init__(self, pieces):
-        self.pieces, self.first, self.window, self.retries = pieces, 0, 1, N_RETRY
+    def __init__(self, segments):
+        self.segments, self.first, self.window, self.retries = segments, 0, 1, N_RETRY
 
     def in_window(self):
-        """How many pieces are in the window."""
-        return min(self.window, len(self.pieces) - self.first)
+        """How many segments are in the window."""
+        left = len(self.segments) - self.first
+        return left if left < self.window else self.window
 
-    def segments(self, proposed):
-        """What the window sends: a segment's head and its octets, each."""
-        most = len(self.pieces)
-        return [(Segment(n + 1 < most, n % NUMBERS, proposed), self.pieces[n]) for n in range(self.first, self.first + self.in_window())]
+    def sends(self):
+        """What the window sends."""
+        return self.segments[self.first:self.first + self.window]
+
+    def is_in_window(self, number):
+        """Whether the number is that of a segment of the window."""
+        return (number - self.first) % NUMBERS < self.in_window()
 
     def is_finished(self):
-        """Whether every piece was acknowledged."""
-        return len(self.pieces) <= self.first
+        """Whether every segment was acknowledged."""
+        return len(self.segments) <= self.first
 
     def acknowledged(self, greatest, number, window):
-        """A SegmentACK comes: whether it acknowledges a piece of the window."""
+        """A SegmentACK comes: whether it acknowledges a segment of the window."""
         ahead = (number - self.first) % NUMBERS
         if ahead >= self.in_window():
             return False
@@ -157,12 +177,23 @@ class Incoming:
         if not self.is_expected(segment.number):
             self.unacknowledged = 0
             return 'not expected', (True, (len(self.parts) - 1) % NUMBERS)
-        if self.octets + length_of(octets) > DATA or len(self.parts) + 1 > DATA:
+        length = self.octets + length_of(octets)
+        if length > DATA or len(self.parts) + 1 > DATA:
             return 'too long', None
         is_due = not self.parts or self.window <= self.unacknowledged + 1
         self.parts.append(octets)
-        self.octets += length_of(octets)
+        self.octets = length
         if not segment.more:
             return 'whole', (False, segment.number)
         self.unacknowledged = 0 if is_due else self.unacknowledged + 1
         return 'taken', (False, segment.number) if is_due else None
+
+    def room(self, octets):
+        """How many segments like this one it takes before a SegmentACK is due."""
+        return min(self.window - 1 - self.unacknowledged, (DATA - self.octets) // length_of(octets), DATA - len(self.parts))
+
+    def takes_row(self, parts):
+        """Segments come that follow each other, for which there is room and of which none is the last."""
+        self.parts += parts
+        self.octets += sum(map(length_of, parts))
+        self.unacknowledged += len(parts)

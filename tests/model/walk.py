@@ -115,8 +115,8 @@ class Walk:
         """An event happens, and copies that it sent will arrive, or not."""
         self.name += 1
         answer = self.world.do(self.name, event)
-        for place in range(self.world.sends):
-            self.follow_copy((self.name, place))
+        for name in self.world.names:
+            self.follow_copy(name)
         return answer
 
     def run(self):
@@ -152,7 +152,7 @@ class Walk:
         elif word == 2:
             self.ask((0, -1, 0))
         elif self.world.copies:
-            apdu = draw.choice(list(self.world.copies.values())).apdu
+            _, _, apdu, _ = draw.choice(list(self.world.copies.values()))
             self.do('stray', draw.choice(((-1, 1, 0), (-2, 1, 0), (0, -1, 0))), draw.random() < 0.9, draw.choice((apdu, Abort(True, 0), Abort(False, 0))))
 
     # Copies.
@@ -196,7 +196,7 @@ class Walk:
         if self.random.random() < self.prompt and e.state in ('segmented request', 'segmented response'):
             wait = self.setup.times.more if e.inc else self.setup.times.segment
             self.at(self.first(end, e.since + wait) + self.beside(), self.do, 'tick_server', key[1])
-        if e.begin == end.shows:
+        if e.begin == end.now:
             self.at(self.last(end, e.begin + self.setup.times.keep) + self.beside(), self.do, 'tick_server', key[1])
             if 'server restarts' in self.bound.happens and self.random.random() < 0.4:
                 after = self.random.choice((0, 0, 1, 5_000 * self.parts, self.random.randrange(70_000 * self.parts)))
@@ -209,15 +209,15 @@ class Walk:
         settings, rules = (self.settings(), self.rules()) if 'other settings' in self.bound.happens else (node.server.settings, node.rules)
         self.do('restart_server', number, self.exact(), settings, rules, draw.choice((None, None, 12_345)))
         opens = self.first(node.server, node.server.opens)
-        for name, copy in world.copies.items():
-            if copy.moment + self.setup.pace.life >= opens and type(copy.apdu) is Request:
+        for name, (_, moment, apdu, _) in world.copies.items():
+            if moment + self.setup.pace.life >= opens and type(apdu) is Request:
                 self.at(opens + self.beside(), self.deliver, name)
         self.at(opens + self.beside(), self.come_again, number)
 
     def come_again(self, number):
         """Young requests to a server come again."""
-        for name, copy in list(self.world.copies.items()):
-            if copy.key[1] == number and type(copy.apdu) is Request and self.world.now - copy.moment <= self.setup.pace.life:
+        for name, (key, moment, apdu, _) in list(self.world.copies.items()):
+            if key[1] == number and type(apdu) is Request and self.world.now - moment <= self.setup.pace.life:
                 self.deliver(name)
 
     # Tickets.

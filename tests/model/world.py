@@ -10,7 +10,7 @@ from typing import Callable, NamedTuple, Optional
 
 import client
 import server
-from transfer import READS, Settings, is_from_client, length_of, pieces_of
+from transfer import ComplexAck, READS, Request, SegmentAck, Settings, is_from_client, length_of, pieces_of
 
 MILLION = 1_000_000
 
@@ -64,26 +64,16 @@ class Setup(NamedTuple):
     remembers: int = 65_000  # no server remembers a request for less, in milliseconds
 
 
-class Context(NamedTuple):
-    """What a machine is told beside the event."""
-
-    settings: Settings
-    now: int
-    times: Times
-
-
-class Copy(NamedTuple):
-    key: tuple
-    moment: int
-    apdu: object
-    place: int  # how many of its transaction were sent before
-
-
 class End:
-    """A node's client or its server: its clock, its settings, its table, and the first moment at which it asks, or begins entries."""
+    """A node's client or its server: its clock, its settings, its table, and the first moment at which it asks, or begins entries.
+
+    A machine reads its settings, what its clock shows now, and the times of the run, which its world tells it.
+    """
+
+    __slots__ = ('settings', 'times', 'exact', 'now', 'opens', 'table', 'acted')
 
     def __init__(self, settings):
-        self.settings, self.exact, self.shows, self.opens, self.table, self.acted = settings, 0, 0, 0, {}, False
+        self.settings, self.exact, self.now, self.opens, self.table, self.acted = settings, 0, 0, 0, {}, False
 
 
 class Node:
@@ -92,6 +82,10 @@ class Node:
     def __init__(self, settings, rules, store):
         self.client, self.server = End(settings), End(settings)
         self.rules, self.store, self.sends_until = rules, store, 0
+
+    def service(self, choice, octets):
+        """What the store says to a request."""
+        return outcome(self.store, choice, octets)
 
 
 def outcome(store, choice, octets):
@@ -117,37 +111,43 @@ def table_key(key):
 
 
 class World:
-    """The whole."""
+    """The whole. A copy is (key, moment, apdu, place): its transaction, when it was sent, and how many of its transaction were sent before."""
+
+    records = True  # its events, which only runs that are shown need
 
     def __init__(self, setup, nodes):
         self.setup, self.nodes, self.overtake = setup, nodes, setup.overtake(setup.window)
         self.beginning = [(node.client.settings, node.rules, node.store) for node in nodes]
         self.ends = [end for node in nodes for end in (node.client, node.server)]
+        for end in self.ends:
+            end.times = setup.times
+        self.life, self.short = setup.pace.life, setup.short
         self.now, self.asks, self.log, self.events = 0, 0, [], []
         self.copies, self.sent, self.numbers, self.pieces = {}, Counter(), {}, Counter()
-        self.name, self.sends = None, 0
+        self.name, self.names = None, []  # of the event, and of the copies that it sent
 
     def do(self, name, event):
         """An event happens: its word and what it says."""
-        self.name, self.sends = name, 0
-        self.events.append((name, event))
+        self.name, self.names = name, []
+        if self.records:
+            self.events.append((name, event))
         return getattr(self, event[0])(*event[1:])
-
-    def context(self, end):
-        return Context(end.settings, end.shows, self.setup.times)
 
     def post(self, key, apdus):
         """Copies are sent; what goes to a stranger is not followed."""
-        for apdu in apdus if min(key) >= 0 else ():
-            self.copies[self.name, self.sends] = Copy(key, self.now, apdu, self.sent[key])
-            self.sent[key] += 1
-            self.sends += 1
+        if not apdus or key[0] < 0 or key[1] < 0:
+            return
+        event, now, names, copies, before = self.name, self.now, self.names, self.copies, self.sent[key]
+        self.sent[key] = before + len(apdus)
+        for place, apdu in enumerate(apdus, before):
+            name = event, len(names)
+            names.append(name)
+            copies[name] = key, now, apdu, place
 
     def is_deliverable(self, copy):
         """A copy may arrive while it is young and, in a transaction with long transfers, not overtaken by too many."""
-        setup = self.setup
-        later = self.sent[copy.key] - copy.place - 1
-        return self.now - copy.moment <= setup.pace.life and (later <= self.overtake or self.pieces[copy.key] <= setup.short)
+        key, moment, _, place = copy
+        return self.now - moment <= self.life and (self.pieces[key] <= self.short or self.sent[key] - place - 1 <= self.overtake)
 
     # Asks.
 
@@ -155,7 +155,7 @@ class World:
         """The client can't ask under that key: it waits, or holds the invoke ID."""
         end = self.nodes[key[0]].client
         t = end.table.get(key[1:])
-        return end.shows < end.opens or t is not None and client.is_held(self.context(end), t)
+        return end.now < end.opens or t is not None and client.is_held(end, t)
 
     def ask(self, key, choice, text, size):
         """A node asks another, or a stranger, in APDUs of that size at the most. Refused where the invoke ID is held."""
@@ -170,14 +170,15 @@ class World:
         if not is_away:
             node.sends_until = self.now + self.setup.pace.most(self.setup.times.deadline) + 1
             self.numbers[key], self.pieces[key] = self.asks, len(pieces or [0])
-        end.table[key[1:]] = t = client.Ticket(self.asks, end.shows, choice, octets, pieces)
+        end.table[key[1:]] = t = client.Ticket(self.asks, end.now, choice, octets, pieces)
         self.asks += 1
-        self.client_acts(key, t, client.asks(self.context(end), t))
+        self.client_acts(key, t, client.asks(end, t))
         return True
 
     def client_acts(self, key, t, reaction):
         sends, how = reaction
-        self.post(key, sends)
+        if sends:
+            self.post(key, sends)
         if how:
             self.log.append(('ended' if key[1] >= 0 else 'ended away', t.number, how))
 
@@ -188,10 +189,59 @@ class World:
         copy = self.copies.get(name)
         if copy is None or not self.is_deliverable(copy):
             return
-        if is_from_client(copy.apdu):
-            self.server_hears(copy.key, free, copy.apdu)
+        key, _, apdu, _ = copy
+        if is_from_client(apdu):
+            self.server_hears(key, free, apdu)
         else:
-            self.client_hears(copy.key, copy.apdu)
+            self.client_hears(key, apdu)
+
+    def receiver(self, name):
+        """The end, and its ticket or entry, that would take the segment of that name now as its next one, and how many it would take without an answer."""
+        key, _, apdu, _ = copy = self.copies[name]
+        end = self.nodes[key[1]].server if is_from_client(apdu) else self.nodes[key[0]].client
+        if type(apdu) is Request:
+            taker = server.reassembles(end, end.table.get(table_key(key)))
+        elif type(apdu) is ComplexAck:
+            taker = client.reassembles(end, end.table.get(key[1:]), apdu)
+        else:
+            taker = None
+        segment = apdu.segment if taker is not None else None
+        if segment is None or not taker.inc.is_expected(segment.number) or not self.is_deliverable(copy):
+            return None, None, 0
+        return end, taker, taker.inc.room(apdu.octets)
+
+    def is_ignored(self, name):
+        """Whether the copy of that name is a SegmentACK that would change nothing."""
+        key, _, apdu, _ = self.copies[name]
+        if type(apdu) is not SegmentAck:
+            return False
+        if apdu.by_server:
+            end = self.nodes[key[0]].client
+            return client.ignores(end, end.table[key[1:]], apdu)
+        node = self.nodes[key[1]]
+        return server.ignores(node.server, node.rules, node.server.table.get(table_key(key)), apdu)
+
+    def note_delivered(self, name, names):
+        """These copies arrived one after the other, by events from that name on."""
+        if self.records:
+            self.events += [(name + ahead, ('deliver', copy, True)) for ahead, copy in enumerate(names)]
+
+    def deliver_taken(self, name, end, taker, names):
+        """Segments arrive, and this receiver takes all of them without an answer."""
+        self.note_delivered(name, names)
+        taker.inc.takes_row([self.copies[copy][2].octets for copy in names])
+        taker.since = end.now
+
+    def deliver_refused(self, name, answer, names):
+        """Segments arrive that are not expected, right after such a one, and each gets the same answer: the names of the answers."""
+        self.note_delivered(name, names)
+        key, _, _, _ = self.copies[names[0]]
+        now, copies, before = self.now, self.copies, self.sent[key]
+        sent = [(name + ahead, 0) for ahead in range(len(names))]
+        for place, copy in enumerate(sent, before):
+            copies[copy] = key, now, answer, place
+        self.sent[key] = before + len(sent)
+        return sent
 
     def stray(self, key, free, apdu):
         """A stranger sends any APDU to a node: to its server as a client, to its client as a server."""
@@ -204,18 +254,21 @@ class World:
         end = self.nodes[key[0]].client
         t = end.table.get(key[1:])
         if t is not None:
-            self.client_acts(key, t, client.hears(self.context(end), t, apdu))
+            self.client_acts(key, t, client.hears(end, t, apdu))
 
     def server_hears(self, key, free, apdu):
         node = self.nodes[key[1]]
         end, place = node.server, table_key(key)
         end.acted = True
-        may_begin = free and end.shows >= end.opens
-        e, sends, effect = server.hears(self.context(end), node.rules, lambda *asked: outcome(node.store, *asked), end.table.get(place), may_begin, apdu)
-        end.table[place] = e
-        self.post(key, sends)
-        if e is not None and e.out is not None:
-            self.pieces[key] = max(self.pieces[key], len(e.out.pieces))
+        may_begin = free and end.now >= end.opens
+        before = end.table.get(place)
+        e, sends, effect = server.hears(end, node.rules, node.service, before, may_begin, apdu)
+        if e is not before:
+            end.table[place] = e
+        if sends:
+            self.post(key, sends)
+        if e is not None and e.out is not None and len(e.out.segments) > self.pieces[key]:
+            self.pieces[key] = len(e.out.segments)
         if effect:
             choice, octets, reply = effect
             node.store = after(node.store, choice, octets)
@@ -228,7 +281,7 @@ class World:
         end = self.nodes[number].client
         for place in sorted(end.table):
             t = end.table[place]
-            self.client_acts((number, *place), t, client.ticks(self.context(end), t))
+            self.client_acts((number, *place), t, client.ticks(end, t))
 
     def tick_server(self, number):
         end = self.nodes[number].server
@@ -236,7 +289,7 @@ class World:
             e = end.table[peer, invoke_id]
             if e is not None:
                 end.acted = True
-                self.post((peer, number, invoke_id), server.ticks(self.context(end), e))
+                self.post((peer, number, invoke_id), server.ticks(end, e))
 
     def shown(self, exact):
         """What a clock shows, in milliseconds."""
@@ -249,7 +302,7 @@ class World:
         self.now += by
         for end, own in zip(self.ends, owns):
             end.exact += min(max(own, by - slack), by + slack)
-            end.shows = self.shown(end.exact)
+            end.now = self.shown(end.exact)
 
     # What an operator does.
 
@@ -260,7 +313,7 @@ class World:
         self.log.append(('changed', number, change))
 
     def set_clock(self, end, exact):
-        end.exact, end.shows = exact, self.shown(exact)
+        end.exact, end.now = exact, self.shown(exact)
 
     def client_anew(self, node, exact, settings):
         self.set_clock(node.client, exact)
@@ -271,14 +324,14 @@ class World:
         node = self.nodes[number]
         self.client_anew(node, exact, settings)
         node.sends_until = min(node.sends_until, self.now + 1)
-        node.client.opens = node.client.shows + self.setup.times.client_waits + 1
+        node.client.opens = node.client.now + self.setup.times.client_waits + 1
 
     def restart_server(self, number, exact, settings, rules, store: Optional[int]):
         """A node's server restarts, with the store that it had or another one: its entries are lost, and it begins none for KEEP."""
         node, end = self.nodes[number], self.nodes[number].server
         self.set_clock(end, exact)
         end.table, end.settings, end.acted, node.rules = {}, settings, True, rules
-        end.opens = end.shows + self.setup.times.server_waits + 1
+        end.opens = end.now + self.setup.times.server_waits + 1
         node.store = node.store if store is None else store
         self.log.append(('restarted', number, store, rules.fresh))
 
