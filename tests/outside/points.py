@@ -106,7 +106,7 @@ def check_writes(checks):
     checks.prints(['read', 'analog-value:1', 'description'], 'set-point, zone\n')
     beyond = 'analog-value:1 present-value: error property value-out-of-range (2:37)\n'
     checks.prints(['write', 'analog-value:1', '35.5'], '', beyond, 1)
-    checks.prints(['write', 'analog-value:1', 'warm'], '', 'bad words: "warm" is not a number\n', 2)
+    checks.prints(['write', 'analog-value:1', 'warm'], '', 'bad words: "warm" is not a number, such as 21.5\n', 2)
     checks.prints(['write', 'analog-value:1', '1e39'], '', 'bad words: "1e39" is not a finite number\n', 2)
     checks.prints(['write', 'analog-input:1', '3'], '', 'analog-input:1 present-value: error property write-access-denied (2:40)\n', 1)
     checks.prints(['read', 'analog-value:1'], '21.5\n')
