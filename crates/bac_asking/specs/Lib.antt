@@ -10,6 +10,5 @@ pub mod AskedOne
 pub mod AskedLines
 pub mod InFlight
 pub mod Asked
-pub mod WholeFiles
 pub mod Gathering
 pub mod Seconds

@@ -1,44 +1,33 @@
-//! What `ask`, `backup`, `restore` and `pair` do: nodes that ask, on any links.
+//! What `ask` and `pair` do: nodes that ask, on any links.
 #![tactic(auto)]
 
+mod answers;
 mod asking;
 mod asking_lines;
-mod backup;
 mod client;
 mod client_sockets;
 mod ends;
-mod file_news;
-mod file_task;
 mod file_words;
 mod fleet;
 mod flights;
-mod folder;
 mod gathering;
-mod listed_files;
 mod no_answer;
 mod online;
 mod pace;
 mod past_ports;
-mod peer_file;
 mod peers;
-mod reasons;
 mod recording;
 mod rota;
 mod rounds;
 mod seconds;
 mod unsent;
-mod whole_files;
-mod whole_reading;
-mod whole_writing;
 mod window;
 
+pub use answers::{part_in, reply_of};
 pub use asking::{Asking, Rounds, asking_of, default_of, peer_of};
 pub use asking_lines::{ask_lines, ask_on};
 pub use client::Client;
 pub use client_sockets::{ClientSockets, NoPair};
-pub use file_task::{
-    ChosenFiles, FileTask, FileWork, backup_of, do_with_files, file_task_of, work_of,
-};
 pub use file_words::ask;
 pub use gathering::gather;
 pub use no_answer::tell_no_answer;

@@ -11,12 +11,12 @@ ghost use Rattle.bac_environment.specs.Sockets.{OnClock, OnPort};
 ghost use Rattle.bac_asking.specs.Rounds.{AreRounds, AreRoundsFrom, BeginsRound, Rests};
 ghost use Rattle.bac_environment.specs.Limits.{turns_of};
 
+use crate::answers::part_in;
 use crate::asking::{Asking, Rounds};
 use crate::asking_lines::{ask_each, ask_on, both};
 use crate::client::Client;
 use crate::client_sockets::ClientSockets;
 use crate::pace::tell_late;
-use crate::peer_file::part_in;
 use crate::recording::{Printer, print_ask, print_header, print_unasked_record};
 use crate::unsent::tell_unsent_of;
 use crate::window::ask_ahead;

@@ -17,7 +17,7 @@ use Rattle.bac_serving.specs.Stores.{IsAnsweredFrom, IsServedFrom}
 use Rattle.bac_asking.specs.AskedOne.{IsAskedFrom}
 use Rattle.bac_environment.specs.Sockets.{Clocks, Links}
 use Rattle.bac_asking.specs.Online.{IsPair}
-use Rattle.bac_asking.specs.WholeFiles.{IsFiled}
+use Rattle.bac_files.specs.WholeFiles.{IsFiled}
 use Rattle.bac_points.specs.Points.{ArePoints}
 use Rattle.bac_command_line.specs.declared.task.Task.{Task}
 use Rattle.bac_command_line.specs.declared.task.Task.TheVariants as task

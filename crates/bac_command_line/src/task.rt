@@ -1,9 +1,7 @@
 //! What a command line asks for.
 use crate::machine::Machine;
-use bac_asking::{
-    Asking, FileTask, FileWork, asking_of, backup_of, bad_pace, default_of, file_task_of, peer_of,
-    work_of,
-};
+use bac_asking::{Asking, asking_of, bad_pace, default_of, peer_of};
+use bac_files::{FileTask, FileWork, backup_of, file_task_of, work_of};
 use bac_keep_file::Loss;
 use bac_npdu::Peer;
 use bac_points::{PointTask, point_task_of};

@@ -3,3 +3,4 @@ pub mod Limits
 pub mod Manifests
 pub mod Parts
 pub mod Sizes
+pub mod WholeFiles

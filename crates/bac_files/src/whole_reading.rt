@@ -2,13 +2,13 @@
 ghost use Rattle.std.specs.Prelude.{IfErr};
 ghost use Rattle.bac_text.specs.Statuses.{IsStop};
 
-use crate::asking::Asking;
-use crate::client::Client;
-use crate::client_sockets::ClientSockets;
-use crate::peer_file::{Asked, PeerFile, ask_part, part_in, wants_smaller};
+use crate::gathering::Gathering;
+use crate::part_fault::PartFault;
+use crate::part_size::PartSize;
+use crate::peer_file::{Asked, PeerFile, ask_part, wants_smaller};
+use bac_asking::{Asking, Client, ClientSockets, part_in};
 use bac_commands::link_fault;
 use bac_driver::AskEnd;
-use bac_files::{Gathering, PartFault, PartSize};
 use bac_requester::Ending;
 use bac_service::{AnyComplex, AnyReply, FileRead};
 use bac_text::{Status, no_memory};

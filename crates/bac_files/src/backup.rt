@@ -2,25 +2,20 @@
 ghost use Rattle.std.specs.Prelude.{IfErr};
 ghost use Rattle.bac_text.specs.Statuses.{IsStop};
 
-use crate::asking::Asking;
-use crate::client::Client;
-use crate::client_sockets::ClientSockets;
+use crate::comparing::{Comparison, compare, digest_of};
 use crate::file_news::{FileNews, print_news, print_not_read};
 use crate::file_task::{ChosenFiles, FileTask};
 use crate::folder::{Folder, MANIFEST};
 use crate::listed_files::{listed_files, objects_in};
-use crate::no_answer::tell_no_answer;
+use crate::manifest::{SavedFile, file_name, manifest_line, read_manifest_line};
 use crate::peer_file::{PeerFile, end_words};
 use crate::reasons::{print_bad_manifest, print_empty_manifest, print_no_files};
-use crate::recording::outcome_of;
 use crate::whole_files::client_of;
 use crate::whole_reading::{Got, read_whole};
 use crate::whole_writing::{Put, replace_whole};
+use bac_asking::{Asking, Client, ClientSockets, outcome_of, tell_no_answer};
 use bac_driver::AskEnd;
 use bac_environment::{Environment, OpenFiles};
-use bac_files::{
-    Comparison, SavedFile, compare, digest_of, file_name, manifest_line, read_manifest_line,
-};
 use bac_npdu::Peer;
 use bac_point_report::is_silent;
 use bac_text::{Status, no_memory};

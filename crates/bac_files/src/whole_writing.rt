@@ -2,17 +2,12 @@
 ghost use Rattle.std.specs.Prelude.{IfErr};
 ghost use Rattle.bac_text.specs.Statuses.{IsStop};
 
-use crate::asking::Asking;
-use crate::client::Client;
-use crate::client_sockets::ClientSockets;
-use crate::peer_file::{
-    Asked, PeerFile, ask_words, position_in, put_part, reply_of, wants_smaller,
-};
-use crate::recording::outcome_of;
+use crate::part_size::{PartSize, part_at};
+use crate::peer_file::{Asked, PeerFile, ask_words, position_in, put_part, wants_smaller};
 use bac_ask_report::Outcome;
+use bac_asking::{Asking, Client, ClientSockets, outcome_of, reply_of};
 use bac_commands::link_fault;
 use bac_driver::AskEnd;
-use bac_files::{PartSize, part_at};
 use bac_point_report::is_silent;
 use bac_requester::Ending;
 use bac_service::{AnyComplex, AnyReply, FileWritten, Reply};

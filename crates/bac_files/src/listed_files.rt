@@ -2,12 +2,8 @@
 ghost use Rattle.std.specs.Prelude.{IfErr};
 ghost use Rattle.bac_text.specs.Statuses.{IsStop};
 
-use crate::asking::Asking;
-use crate::client::Client;
-use crate::client_sockets::ClientSockets;
-use crate::no_answer::tell_no_answer;
-use crate::peer_file::{Asked, ask_words, end_words, reply_of};
-use crate::recording::outcome_of;
+use crate::peer_file::{Asked, ask_words, end_words};
+use bac_asking::{Asking, Client, ClientSockets, outcome_of, reply_of, tell_no_answer};
 use bac_environment::print_bad_name;
 use bac_npdu::Peer;
 use bac_point_report::is_silent;

@@ -2,16 +2,13 @@
 ghost use Rattle.std.specs.Prelude.{IfErr};
 ghost use Rattle.bac_text.specs.Statuses.{IsStop};
 
-use crate::asking::Asking;
-use crate::client::Client;
-use crate::client_sockets::ClientSockets;
 use crate::file_news::write_uncut;
 use crate::file_task::FileTask;
 use crate::peer_file::PeerFile;
 use crate::reasons::print_unwritten;
-use crate::recording::print_header;
 use crate::whole_reading::{Got, read_whole, whole_end};
 use crate::whole_writing::{Put, Uncut, replace_whole, size_of, written_end};
+use bac_asking::{Asking, Client, ClientSockets, print_header};
 use bac_commands::Style;
 use bac_driver::{AskEnd, Question};
 use bac_environment::{Environment, OpenFiles, octets_of, opened};

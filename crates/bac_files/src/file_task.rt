@@ -1,15 +1,13 @@
 //! What is done with whole files of a peer: which words ask for that, and its status.
 ghost use Rattle.std.specs.Prelude.{IfSome, Some};
 ghost use Rattle.bac_asking.specs.Given.{IsGiven, IsPeerGiven};
-ghost use Rattle.bac_asking.specs.WholeFiles.{IsFiled};
+ghost use Rattle.bac_files.specs.WholeFiles.{IsFiled};
 ghost use Rattle.bac_npdu.specs.Views.{peer_view};
 
-use crate::asking::{Asking, asking_of, peer_of};
 use crate::backup::{back_up, restore};
-use crate::client_sockets::ClientSockets;
 use crate::reasons::print_no_whole_file;
-use crate::unsent::tell_unsent;
 use crate::whole_files::{get, put};
+use bac_asking::{Asking, ClientSockets, asking_of, peer_of, tell_unsent};
 use bac_environment::{Environment, OpenFiles};
 use bac_lists::BACNET_PORT;
 use bac_npdu::Peer;

@@ -2,20 +2,15 @@
 ghost use Rattle.std.specs.Prelude.{IfErr};
 ghost use Rattle.bac_text.specs.Statuses.{IsStop};
 
-use crate::asking::Asking;
-use crate::asking_lines::ask_on;
-use crate::client::Client;
-use crate::client_sockets::ClientSockets;
-use crate::online::question_in;
-use crate::recording::outcome_of;
+use crate::part_size::PartSize;
+use bac_asking::{Asking, Client, ClientSockets, ask_on, outcome_of, question_in, reply_of};
 use bac_commands::Style;
 use bac_driver::{AskEnd, Question};
-use bac_files::PartSize;
 use bac_lists::print_bad_words;
 use bac_npdu::Peer;
 use bac_point_report::failure_words;
 use bac_requester::Ending;
-use bac_service::{AnyComplex, AnyReply, Content, FileRead, FileWritten, Reply};
+use bac_service::{AnyComplex, AnyReply, FileWritten};
 use bac_service_text::FormFault;
 use bac_text::{Status, no_memory};
 use std::alloc::{AllocError, Global};
@@ -123,22 +118,6 @@ pub(crate) fn put_part<M: ClientSockets, E: Write>(
     let digits = digits_of(alloc, part, err)?;
     let words = ["put", file.object, position.as_str(), digits.as_str()];
     ask_words(asking, client, file.peer, &words, err)
-}
-
-/// The reply with which an ask was answered.
-pub(crate) fn reply_of(end: &AskEnd) -> Option<Reply<'_>> {
-    match end {
-        AskEnd::Ended(Ending::Answered(reply)) => Some(reply.as_reply()),
-        _ => None,
-    }
-}
-
-/// The part of a file with which a read was answered.
-pub(crate) fn part_in(end: &AskEnd) -> Option<FileRead<Content<'_>>> {
-    match reply_of(end)? {
-        AnyReply::Complex(AnyComplex::FileRead(read)) => Some(read),
-        _ => None,
-    }
 }
 
 /// The position at which a write was performed.
