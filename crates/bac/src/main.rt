@@ -1,7 +1,8 @@
 //! `bac`: BACnet confirmed services on the command line.
 #![tactic(auto)]
 
-use bac_command_line::{Piped, System, exit_code, run_to_end};
+use bac_command_line::{Piped, exit_code, run_to_end};
+use bac_system::System;
 use bac_text::{Status, no_memory};
 use std::io;
 use std::io::{BufWriter, IsTerminal};

@@ -12,7 +12,6 @@ ghost use Rattle.bac_command_line.specs.ShownForms.{form_of as form_in};
 ghost use Rattle.bac_command_line.specs.Tasks.{ForgetsAsAsked, IsAtEnd, IsPerformed, ListsAsAsked};
 
 use crate::complaints::form_of_complaints;
-use crate::machine::Machine;
 use crate::output::Output;
 use crate::reasons::print_no_task;
 use crate::shown_form::form_of;
@@ -25,6 +24,7 @@ use bac_files::do_with_files;
 use bac_points::do_with_points;
 use bac_reading::{decode, print_report, simulate};
 use bac_serving::{RegularFiles, answer, forget_kept, list_kept, serve, serve_kept, serve_looking};
+use bac_system::Machine;
 use bac_text::{Status, no_memory, output_failed};
 use bac_words::{Telling, matches};
 use clap::ArgMatches;

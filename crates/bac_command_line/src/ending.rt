@@ -5,9 +5,9 @@ ghost use Rattle.bac_command_line.specs.Endings.{IsExit, number_at_end};
 ghost use Rattle.bac_command_line.specs.Outputs.{has_reader_ended};
 
 use crate::command::run;
-use crate::machine::Machine;
 use crate::piped::Piped;
 use bac_serving::RegularFiles;
+use bac_system::Machine;
 use bac_text::Status;
 use std::alloc::Global;
 use std::io::Write;

@@ -1,5 +1,4 @@
 //! What a command line asks for.
-use crate::machine::Machine;
 use bac_asking::{Asking, asking_of, bad_pace, default_of, peer_of};
 use bac_files::{FileTask, FileWork, backup_of, file_task_of, work_of};
 use bac_keep_file::Loss;
@@ -8,6 +7,7 @@ use bac_points::{PointTask, point_task_of};
 use bac_reading::{CaptureFile, Decoding, Report, ScriptFile, check_of, decoding_of, report_of};
 use bac_serving::{Forgetting, ListForm, Serving, serving_of};
 use bac_simulate::View;
+use bac_system::Machine;
 use bac_words::{Shell, Telling};
 use clap::ArgMatches;
 

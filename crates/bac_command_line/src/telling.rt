@@ -1,7 +1,7 @@
 //! Telling of the program: its help, its manual, its version and its completion.
 ghost use Rattle.bac_command_line.specs.Tasks.{IsTold};
 
-use crate::machine::Machine;
+use bac_system::Machine;
 use bac_text::{Status, output_failed};
 use bac_words::{Telling, nearest_command};
 use std::alloc::Global;

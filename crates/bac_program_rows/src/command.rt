@@ -4,9 +4,10 @@ use crate::files::Files;
 use crate::scene::{Place, Scene, Setup, is_setup, scene_of};
 use crate::sink::Sink;
 use crate::spelling::text_of;
-use bac_command_line::{System, run};
+use bac_command_line::run;
 use bac_driver::{Clock, MonotonicClock, UdpLink};
 use bac_pairs::{ClientPair, PairKey, left_at, pair_at};
+use bac_system::System;
 use std::alloc::Global;
 use std::io::{ErrorKind, Write};
 
