@@ -5,7 +5,4 @@ pub mod HouseReplies
 pub mod OneReply
 pub mod PrintedAnswers
 pub mod Reported
-pub mod EventLines
-pub mod Logging
-pub mod Unwatched
 pub mod FreshClients

@@ -12,10 +12,4 @@ pub mod FaultWords
 pub mod Words
 pub mod FileOctets
 pub mod AskEnds
-pub mod Frames
-pub mod LogWords
-pub mod EventTexts
-pub mod Lines
-pub mod Logs
-pub mod Kept
 pub mod Spent

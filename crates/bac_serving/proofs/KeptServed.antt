@@ -10,9 +10,9 @@ use Rattle.bac_driver.specs.Runs.{Timed}
 use Rattle.bac_driver.specs.Seen.{Watcher}
 use Rattle.bac_driver.specs.declared.round.Round.{Round}
 use Rattle.bac_driver.specs.declared.wait_limit.WaitLimit.{WaitLimit}
-use Rattle.bac_commands.specs.Kept.{EndsKept, IsKeptByStatus, ReportsKept, RoundsText, Unseen, unwatched}
+use Rattle.bac_server.specs.Kept.{EndsKept, IsKeptByStatus, ReportsKept, RoundsText, Unseen, unwatched}
 use Rattle.bac_commands.specs.Statuses.{ByStatus}
-use Rattle.bac_commands.proofs.Unwatched.{text_of}
+use Rattle.bac_server.proofs.Unwatched.{text_of}
 use Rattle.bac_serving.specs.Keeping.{EndsWith, IsServedStore, Runs, RunsInRounds, RunsInStretches, RunsTo}
 use Rattle.bac_environment.specs.Sockets.{Clocks, Links}
 use Rattle.bac_serving.specs.Online.{IsServer}

@@ -11,7 +11,7 @@ use Rattle.bac_keep_file.specs.Settling.{MayFind}
 use Rattle.bac_keep_file.specs.Steps.{IsReady}
 use Rattle.bac_text.specs.declared.status.Status.{Status}
 use Rattle.bac_driver.specs.Runs.{Timed}
-use Rattle.bac_commands.specs.Kept.{AllIsKept, RoundsText}
+use Rattle.bac_server.specs.Kept.{AllIsKept, RoundsText}
 use Rattle.bac_commands.specs.Statuses.{ByStatus}
 use Rattle.bac_environment.specs.Files.{OfFile}
 use Rattle.bac_environment.specs.Sockets.{Clocks, Links}

@@ -10,7 +10,7 @@ use Rattle.bac_driver.specs.Runs.{Run, Timed, timed}
 use Rattle.bac_driver.specs.Serving.{IsBefore, IsOver}
 use Rattle.bac_driver.specs.Waits.{MOST}
 use Rattle.bac_driver.specs.declared.wait_limit.WaitLimit.{WaitLimit}
-use Rattle.bac_commands.specs.Kept.{Unseen, unwatched}
+use Rattle.bac_server.specs.Kept.{Unseen, unwatched}
 use Rattle.bac_commands.specs.Reports.{served_line}
 use Rattle.bac_environment.specs.Limits.{until_of}
 use Rattle.bac_serving.specs.declared.looking.Stop.{Stop}

@@ -6,23 +6,23 @@ ghost use Rattle.bac_driver.specs.Rounds.{IsKept};
 ghost use Rattle.bac_driver.specs.Runs.{timed};
 ghost use Rattle.bac_commands.specs.Reports.{ReportsServing};
 ghost use Rattle.bac_text.specs.declared.status.Status.TheVariants as status;
-ghost use Rattle.bac_commands.specs.Kept.{EndsKept, IsKeptByStatus, RoundsText, Unseen, unwatched};
+ghost use Rattle.bac_server.specs.Kept.{EndsKept, IsKeptByStatus, RoundsText, Unseen, unwatched};
 ghost use Rattle.bac_commands.specs.Statuses.{ByStatus};
 ghost use Rattle.bac_serving.specs.Keeping.{restarted_by};
 ghost use Rattle.bac_serving.specs.Serving.{follow_limit_of, is_remote, patience_of, restart_of};
 ghost use Rattle.bac_environment.specs.Limits.{turns_of};
 
 use crate::followed::MEBIBYTE;
-use bac_commands::{
-    KeptServer, LevelLog, LogFormat, LogLevel, LogSettings, OctetStyle, ServeCommand, print_event,
-    serve_kept_logged,
-};
 use bac_driver::{BoundNode, Clock, Link, NoObserver, RunLimit, WaitLimit};
 use bac_environment::{Station, print_no_link};
 use bac_guard::Guard;
 use bac_keep::Keeper;
 use bac_log_json::LogEvent;
 use bac_npdu::LinkAddress;
+use bac_server::{
+    KeptServer, LevelLog, LogFormat, LogLevel, LogSettings, OctetStyle, ServeCommand, print_event,
+    serve_kept_logged,
+};
 use bac_text::Status;
 use bac_transaction::Rules;
 use std::alloc::{AllocError, Global};
@@ -277,7 +277,7 @@ pub(crate) fn serve_from<L: Link, C: Clock, O: Write, E: Write>(
     };
     if serving.level.is_some() {
         let mut log = serving.log_from(station.alloc, start);
-        let status = bac_commands::serve(
+        let status = bac_server::serve(
             &mut station.bound_node,
             &mut station.clock,
             &limit,
@@ -289,7 +289,7 @@ pub(crate) fn serve_from<L: Link, C: Clock, O: Write, E: Write>(
         return status;
     }
     if !serving.log {
-        return bac_commands::serve(
+        return bac_server::serve(
             &mut station.bound_node,
             &mut station.clock,
             &limit,
@@ -302,7 +302,7 @@ pub(crate) fn serve_from<L: Link, C: Clock, O: Write, E: Write>(
         limit,
         settings: serving.log_settings(start),
     };
-    let logged = bac_commands::serve_logged(
+    let logged = bac_server::serve_logged(
         station.alloc,
         &mut station.bound_node,
         &mut station.clock,
@@ -342,12 +342,12 @@ pub(crate) fn serve_kept_from<L: Link, C: Clock, K: Keeper, O: Write, E: Write>(
     };
     if serving.level.is_some() {
         let mut log = serving.log_from(alloc, start);
-        let status = bac_commands::serve_kept(server, &limit, &mut log, out, err);
+        let status = bac_server::serve_kept(server, &limit, &mut log, out, err);
         log.end(err);
         return status;
     }
     if !serving.log {
-        return bac_commands::serve_kept(server, &limit, &mut NoObserver, out, err);
+        return bac_server::serve_kept(server, &limit, &mut NoObserver, out, err);
     }
     let command = ServeCommand {
         limit,

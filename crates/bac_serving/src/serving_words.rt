@@ -7,10 +7,10 @@ ghost use Rattle.bac_serving.specs.Serving.{is_reusing, rules_by};
 
 use crate::guard_words::guard_of;
 use crate::serving::Serving;
-use bac_commands::LogLevel;
 use bac_environment::{flag_of, number_of};
 use bac_lists::{BACNET_PORT, LOCAL_HOST, is_of_node, read_host};
 use bac_node::MEMORY;
+use bac_server::LogLevel;
 use bac_transaction::Rules;
 use bac_value_text::{number_in, parts_at};
 use clap::ArgMatches;

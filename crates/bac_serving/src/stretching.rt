@@ -8,10 +8,10 @@ ghost use Rattle.bac_text.specs.Statuses.{IsFailure};
 ghost use Rattle.bac_serving.specs.Stretches.{IsChanged};
 
 use crate::changing::{DocumentNews, make_all};
-use bac_commands::LevelLog;
 use bac_driver::{Clock, Link, RunLimit};
 use bac_environment::Station;
 use bac_keep::KeepFault;
+use bac_server::LevelLog;
 use bac_text::Status;
 use std::io::Write;
 
@@ -87,7 +87,7 @@ impl<L: Link, C: Clock> Stretching for Station<L, C> {
         log: &mut LevelLog,
         err: &mut E,
     ) -> Result<u64, Status> {
-        bac_commands::serve_stretch(&mut self.bound_node, &mut self.clock, limit, log, err)
+        bac_server::serve_stretch(&mut self.bound_node, &mut self.clock, limit, log, err)
     }
 
     fn follow<E: Write>(

@@ -1,0 +1,3 @@
+pub mod EventLines
+pub mod Logging
+pub mod Unwatched
