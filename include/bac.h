@@ -11,7 +11,7 @@
  * - After a status that is not BAC_OK the node is unchanged, and no ticket or length is written to its place. After BAC_NO_MEMORY the same call may be made
  *   again. Wait before that: what was due stays due, and bac_next_due stays in the past. A datagram that was refused so is lost, and its sender repeats it.
  * - A call whose node is const leaves the node unchanged. Even so, no other call of that node may run at the same time.
- * - Moments are milliseconds of one clock that never goes back, from any start.
+ * - Moments are milliseconds of one clock, from any start. It never goes back, and runs while the host sleeps (Linux: CLOCK_BOOTTIME).
  * - A link is four octets of IPv4 address and two of UDP port, the high one first, as sockaddr_in has them.
  * - Octets are given by address and number, and stay the caller's. A call that copies octets out tells how many there are: it returns the number or, if it
  *   returns a status, writes it to *len. If there are more than there is room for, it copies none.

@@ -19,7 +19,7 @@ enum { SUPPLY = 1, ROOM = 2, RELAY = 1, LOG = 1, FILE_LIMIT = 60000, BACK_OFF = 
 static uint64_t moment(void) /* milliseconds */
 {
     struct timespec t;
-    clock_gettime(CLOCK_MONOTONIC, &t);
+    clock_gettime(CLOCK_BOOTTIME, &t);
     return (uint64_t)t.tv_sec * 1000 + (uint64_t)t.tv_nsec / 1000000;
 }
 

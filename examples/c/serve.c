@@ -18,7 +18,7 @@ enum { PRESENT_VALUE = 85, ANALOG_INPUT = 0, ANALOG_VALUE = 2, DEVICE = 8, FILE_
 static uint64_t moment(void)
 {
     struct timespec t;
-    clock_gettime(CLOCK_MONOTONIC, &t);
+    clock_gettime(CLOCK_BOOTTIME, &t);
     return (uint64_t)t.tv_sec * 1000 + (uint64_t)t.tv_nsec / 1000000;
 }
 
