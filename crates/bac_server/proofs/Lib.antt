@@ -1,3 +1,3 @@
 pub mod EventLines
-pub mod Logging
+pub mod LoggedTurns
 pub mod Unwatched

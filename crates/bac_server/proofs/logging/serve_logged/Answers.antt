@@ -1,7 +1,7 @@
 -- The log began whole, and is whole in the end.
 use Rattle.std.proofs.Common.{true, refl}
 use Rattle.bac_server.specs.Logs.{Log, NONE_AWAY, written_in}
-use Rattle.bac_server.proofs.Logging.{logged}
+use Rattle.bac_server.proofs.LoggedTurns.{logged}
 use Rattle.bac_server.proofs.logging.serve_logged.Goals as goal
 
 pub returns-clause-logged : goal.returns-clause-logged
