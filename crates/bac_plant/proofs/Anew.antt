@@ -66,18 +66,18 @@ module _ (W overtake : ℕ) (ever : Reuses) (w : World) (fresh : IsFresh w) (tim
   comes_to (s ∷ ss) p new c permitted run = comes_to ss run.1 new (comes_in s p run.0 run.1 c permitted.0 run.2 run.3) permitted.1 run.4
 
 module _ (W overtake : ℕ) (ever : Reuses) (old new : Plant) (r : IsReachedIn W overtake ever old new) where
-  begun : Comes W overtake ever (world_of old) r.fresh r.timely r.bounded (settings_of old) r.among r.middle
+  begun : Comes W overtake ever (world_of old) r.fresh r.timely r.bounded (settings_of old) r.led.among r.led.middle
   begun =
-      let o : IsOverHere W overtake ever (settings_of old) r.among (world_of old) r.fresh r.timely r.bounded (world_of old) =
-      first W overtake ever (settings_of old) r.among (world_of old) r.fresh r.timely r.bounded in
+      let o : IsOverHere W overtake ever (settings_of old) r.led.among (world_of old) r.fresh r.timely r.bounded (world_of old) =
+      first W overtake ever (settings_of old) r.led.among (world_of old) r.fresh r.timely r.bounded in
       let q = stretch_over (link_at (nodes_of old.stations)) r.fresh.apart W overtake ever (stores_of (nodes_of old.stations)) r.bounded.some r.bounded.room
-      (record { settings = o.settings; reuses = settings_of old; events = events_of r.steps }) (world_of old) (world_of old) (world_of r.middle) o o.windows
-      r.among (inl (λ i. refl)) (record { nodes = λ i. as_set (slice_get (nodes_of old.stations) i); rest = refl })
-      (run_events overtake r.steps old r.middle r.run) in
-      record { over = q.0; now = λ i. run_settings overtake r.steps old r.middle r.run i ∙ sym (ap (λ (r : Reuses). r i) q.1) }
+      (record { settings = o.settings; reuses = settings_of old; events = events_of r.led.steps }) (world_of old) (world_of old) (world_of r.led.middle) o o.windows
+      r.led.among (inl (λ i. refl)) (record { nodes = λ i. as_set (slice_get (nodes_of old.stations) i); rest = refl })
+      (run_events overtake r.led.steps old r.led.middle r.led.run) in
+      record { over = q.0; now = λ i. run_settings overtake r.led.steps old r.led.middle r.led.run i ∙ sym (ap (λ (r : Reuses). r i) q.1) }
 
-  last : Comes W overtake ever (world_of old) r.fresh r.timely r.bounded (settings_of old) r.among new
-  last = comes_to W overtake ever (world_of old) r.fresh r.timely r.bounded (settings_of old) r.among r.stretches r.middle new begun r.permitted r.later
+  last : Comes W overtake ever (world_of old) r.fresh r.timely r.bounded (settings_of old) r.led.among new
+  last = comes_to W overtake ever (world_of old) r.fresh r.timely r.bounded (settings_of old) r.led.among r.led.stretches r.led.middle new begun r.led.permitted r.led.later
 
   pub once_anew : IsOnceSo ever (stores_of (nodes_of old.stations)) new.log (stores_of (nodes_of new.stations))
   once_anew = (last.over).right
@@ -87,12 +87,12 @@ module _ (W overtake : ℕ) (ever : Reuses) (old new : Plant) (r : IsReachedIn W
 
   pub apart_anew : NoneReuses ever → AreServedApart (world_of new)
   apart_anew none =
-      apart_over W overtake ever (settings_of old) r.among (world_of old) r.fresh r.timely r.bounded (world_of new) last.over none
+      apart_over W overtake ever (settings_of old) r.led.among (world_of old) r.fresh r.timely r.bounded (world_of new) last.over none
 
   -- Its world takes calls, also after more events.
 
   abbrev Stands : World → Type 0
-  Stands v = IsOverHere W overtake ever (settings_of old) r.among (world_of old) r.fresh r.timely r.bounded v
+  Stands v = IsOverHere W overtake ever (settings_of old) r.led.among (world_of old) r.fresh r.timely r.bounded v
 
   takes_at : (v : World) (o : Stands v) → TakesCalls o.now overtake v
   takes_at v o = takes_over (link_at (nodes_of old.stations)) r.fresh.apart W (rules_with overtake o.settings)

@@ -107,38 +107,38 @@ module _ (W overtake : ℕ) (ever : Reuses) (first new : Plant) (r : IsReachedLo
   fit : AllFit W (world_of first)
   fit = first_fits W (world_of first) r.long
 
-  rest : InStretches W overtake ever r.middle new (settings_of first)
-  rest = in_world W overtake ever r.stretches r.middle new (settings_of first) (run_settings overtake r.steps first r.middle r.run) r.among
-      (λ j. subst (FitsIf W) (sym (run_sets overtake (settings_of first) (events_of r.steps) (world_of first) (world_of r.middle)
-      (run_events overtake r.steps first r.middle r.run) j)) (fit j))
-      r.permitted r.throughout r.later
+  rest : InStretches W overtake ever r.led.middle new (settings_of first)
+  rest = in_world W overtake ever r.led.stretches r.led.middle new (settings_of first) (run_settings overtake r.led.steps first r.led.middle r.led.run) r.led.among
+      (λ j. subst (FitsIf W) (sym (run_sets overtake (settings_of first) (events_of r.led.steps) (world_of first) (world_of r.led.middle)
+      (run_events overtake r.led.steps first r.led.middle r.led.run) j)) (fit j))
+      r.led.permitted r.throughout.1 r.led.later
 
   abbrev stretches : List world.Stretch
-  stretches = record { settings = settings_in first; reuses = settings_of first; events = events_of r.steps } ∷ rest.stretches
+  stretches = record { settings = settings_in first; reuses = settings_of first; events = events_of r.led.steps } ∷ rest.stretches
 
   permitted : world.ArePermitted W ever (settings_of first) stretches
-  permitted = (λ j. (fits_or W (slice_get (nodes_of first.stations) j) (fit j)).0, r.among, inl (λ j. refl), rest.permitted)
+  permitted = (λ j. (fits_or W (slice_get (nodes_of first.stations) j) (fit j)).0, r.led.among, inl (λ j. refl), rest.permitted)
 
   long : world.TakeLongThroughout stretches
-  long = (λ j. (fits_or W (slice_get (nodes_of first.stations) j) (fit j)).1, run_long r.steps r.asks, rest.long)
+  long = (λ j. (fits_or W (slice_get (nodes_of first.stations) j) (fit j)).1, run_long r.led.steps r.throughout.0, rest.long)
 
   run : WorldRunIn overtake (world_of first) stretches (world_of new)
   run = (
     world_of first,
-    world_of r.middle,
+    world_of r.led.middle,
     record { nodes = λ j. as_set (slice_get (nodes_of first.stations) j); rest = refl },
-    run_events overtake r.steps first r.middle r.run,
+    run_events overtake r.led.steps first r.led.middle r.led.run,
     rest.run,
   )
 
   pub once_long_anew : IsOnceSo ever (stores_in first) new.log (stores_in new)
-  once_long_anew = once_long_in W overtake ever (settings_of first) r.among (world_of first) (world_of new) r.fresh r.timely r.long stretches permitted long run
+  once_long_anew = once_long_in W overtake ever (settings_of first) r.led.among (world_of first) (world_of new) r.fresh r.timely r.long stretches permitted long run
       r.fits
 
   pub once_ever_long_anew : NoneReuses ever → IsOnce (stores_in first) new.log (stores_in new)
-  once_ever_long_anew none = once_ever_long_in W overtake ever (settings_of first) r.among (world_of first) (world_of new) r.fresh r.timely r.long stretches
+  once_ever_long_anew none = once_ever_long_in W overtake ever (settings_of first) r.led.among (world_of first) (world_of new) r.fresh r.timely r.long stretches
       permitted long run r.fits none
 
   pub apart_long_anew : NoneReuses ever → AreServedApart (world_of new)
-  apart_long_anew none = apart_long_in W overtake ever (settings_of first) r.among (world_of first) (world_of new) r.fresh r.timely r.long stretches permitted
+  apart_long_anew none = apart_long_in W overtake ever (settings_of first) r.led.among (world_of first) (world_of new) r.fresh r.timely r.long stretches permitted
       long run r.fits none

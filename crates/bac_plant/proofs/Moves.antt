@@ -2,7 +2,9 @@
 use Rattle.std.proofs.Common.{ℕ, List, [], ◌∷◌, ◌++◌, refl, sym, subst}
 use Rattle.bac_world.specs.ReusingLogs.{Reuses}
 use Rattle.bac_plant.specs.Anew.{Anew, ArePermitted, HappensAnew, IsPermitted, PlantRunIn, Stretch}
-use Rattle.bac_plant.specs.Moves.{IsReachedIn, MovesGoOn}
+use Rattle.bac_plant.specs.LongApdus.{AsksLong}
+use Rattle.bac_plant.specs.LongStretches.{AllMoveLong, AreLong, LongMovesGoOn, StartsLong, TakeLongThroughout}
+use Rattle.bac_plant.specs.Moves.{IsLed, IsReachedIn, MayStart, Move, MoveRun, MovesGoOn}
 use Rattle.bac_plant.specs.Moves.Move.{Goes, StartsAnew}
 use Rattle.bac_plant.specs.Plants.{Plant}
 use Rattle.bac_plant.specs.Steps.{PlantStep, Step}
@@ -43,48 +45,92 @@ anew_permitted : (W : ℕ) (ever : Reuses) (anew : Anew) (ss : List Stretch) →
 anew_permitted W ever anew [] permitted may = (may, tt)
 anew_permitted W ever anew (s ∷ ss) permitted may = (permitted.0, anew_permitted W ever anew ss permitted.1 may)
 
-module _ (W overtake : ℕ) (ever : Reuses) (first p : Plant) (r : IsReachedIn W overtake ever first p) (next : Plant) where
-  by_stretches : (ss : List Stretch) → ArePermitted W ever ss → PlantRunIn overtake r.middle ss next → IsReachedIn W overtake ever first next
+-- they stay long
+
+step_long : (step : Step) (s : Stretch) (ss : List Stretch) → AsksLong step → TakeLongThroughout (s ∷ ss) → TakeLongThroughout (with_step step s ss)
+step_long step s [] asks long = (long.0, (asks, long.1), tt)
+step_long step s (t ∷ ss) asks long = (long.0, long.1, step_long step t ss asks long.2)
+
+anew_long : (anew : Anew) (ss : List Stretch) → StartsLong anew → TakeLongThroughout ss → TakeLongThroughout (then_anew ss anew)
+anew_long anew [] starts long = (starts, tt, tt)
+anew_long anew (s ∷ ss) starts long = (long.0, long.1, anew_long anew ss starts long.2)
+
+-- the first plant's run leads on to another one, and stays long where what comes is
+abbrev LeadsOnIn : (W overtake : ℕ) (ever : Reuses) (first : Plant) → List Step → List Stretch → (IsLong : Type 0) → Plant → Type 0
+LeadsOnIn W overtake ever first steps stretches IsLong next =
+    (m : IsLed W overtake ever first next) × (IsLong → AreLong steps stretches → AreLong m.steps m.stretches)
+
+module _ (W overtake : ℕ) (ever : Reuses) (first p : Plant) (l : IsLed W overtake ever first p) (next : Plant) where
+  abbrev by_stretches : (ss : List Stretch) → ArePermitted W ever ss → PlantRunIn overtake l.middle ss next → IsLed W overtake ever first next
   by_stretches ss permitted later = record {
-    fresh = r.fresh;
-    timely = r.timely;
-    bounded = r.bounded;
-    among = r.among;
-    steps = r.steps;
-    middle = r.middle;
-    run = r.run;
+    among = l.among;
+    steps = l.steps;
+    middle = l.middle;
+    run = l.run;
     stretches = ss;
     permitted = permitted;
     later = later;
   }
 
-  pub reached_step : (step : Step) → PlantStep overtake p step next → IsReachedIn W overtake ever first next
-  reached_step step goes = go r.stretches r.permitted r.later
+  led_step : (step : Step) → PlantStep overtake p step next → LeadsOnIn W overtake ever first l.steps l.stretches (AsksLong step) next
+  led_step step goes = go l.stretches l.permitted l.later
     where
-      go : (ss : List Stretch) → ArePermitted W ever ss → PlantRunIn overtake r.middle ss p → IsReachedIn W overtake ever first next
-      go [] permitted later = record {
-        fresh = r.fresh;
-        timely = r.timely;
-        bounded = r.bounded;
-        among = r.among;
-        steps = step ∷ r.steps;
-        middle = next;
-        run = record { middle = r.middle; so_far = r.run; last = subst (λ (x : Plant). PlantStep overtake x step next) later goes };
-        stretches = [];
-        permitted = tt;
-        later = refl;
-      }
-      go (s ∷ ss) permitted later =
-          by_stretches (with_step step s ss) (step_permitted W ever step s ss permitted) (step_later overtake step s ss r.middle p next later goes)
+      go : (ss : List Stretch) → ArePermitted W ever ss → PlantRunIn overtake l.middle ss p
+          → LeadsOnIn W overtake ever first l.steps ss (AsksLong step) next
+      go [] permitted later = (
+        record {
+          among = l.among;
+          steps = step ∷ l.steps;
+          middle = next;
+          run = record { middle = l.middle; so_far = l.run; last = subst (λ (x : Plant). PlantStep overtake x step next) later goes };
+          stretches = [];
+          permitted = tt;
+          later = refl;
+        },
+        λ asks long. ((asks, long.0), tt),
+      )
+      go (s ∷ ss) permitted later = (
+        by_stretches (with_step step s ss) (step_permitted W ever step s ss permitted) (step_later overtake step s ss l.middle p next later goes),
+        λ asks long. (long.0, step_long step s ss asks long.1),
+      )
 
-  pub reached_anew : (anew : Anew) → IsPermitted W ever anew → HappensAnew p anew next → IsReachedIn W overtake ever first next
-  reached_anew anew may happens =
-      by_stretches (then_anew r.stretches anew) (anew_permitted W ever anew r.stretches r.permitted may)
-      (anew_later overtake anew r.stretches r.middle p next r.later happens)
+  led_anew : (anew : Anew) → IsPermitted W ever anew → HappensAnew p anew next
+      → LeadsOnIn W overtake ever first l.steps l.stretches (StartsLong anew) next
+  led_anew anew may happens = (
+    by_stretches (then_anew l.stretches anew) (anew_permitted W ever anew l.stretches l.permitted may)
+        (anew_later overtake anew l.stretches l.middle p next l.later happens),
+    λ starts long. (long.0, anew_long anew l.stretches starts long.1),
+  )
+
+led_on : (W overtake : ℕ) (ever : Reuses) (first p : Plant) (l : IsLed W overtake ever first p) (moves : List Move) → MayStart W ever moves → (new : Plant)
+    → MoveRun overtake p moves new → LeadsOnIn W overtake ever first l.steps l.stretches (AllMoveLong moves) new
+led_on W overtake ever first p l [] may new run =
+    subst (λ (q : Plant). LeadsOnIn W overtake ever first l.steps l.stretches (AllMoveLong []) q) (sym run) (l, λ moved long. long)
+led_on W overtake ever first p l (Goes step ∷ later) may new run =
+    let a = led_step W overtake ever first p l run.0 step run.1 in
+    let b = led_on W overtake ever first run.0 a.0 later may new run.2 in
+    (b.0, λ moved long. b.1 moved.1 (a.1 moved.0 long))
+led_on W overtake ever first p l (StartsAnew anew ∷ later) may new run =
+    let a = led_anew W overtake ever first p l run.0 anew may.0 run.1 in
+    let b = led_on W overtake ever first run.0 a.0 later may.1 new run.2 in
+    (b.0, λ moved long. b.1 moved.1 (a.1 moved.0 long))
 
 pub moves_go_on : MovesGoOn
-moves_go_on W overtake ever first p r [] may new run = subst (IsReachedIn W overtake ever first) (sym run) r
-moves_go_on W overtake ever first p r (Goes step ∷ later) may new run =
-    moves_go_on W overtake ever first run.0 (reached_step W overtake ever first p r run.0 step run.1) later may new run.2
-moves_go_on W overtake ever first p r (StartsAnew anew ∷ later) may new run =
-    moves_go_on W overtake ever first run.0 (reached_anew W overtake ever first p r run.0 anew may.0 run.1) later may.1 new run.2
+moves_go_on W overtake ever first p r moves may new run =
+    record { fresh = r.fresh; timely = r.timely; bounded = r.bounded; led = (led_on W overtake ever first p r.led moves may new run).0 }
+
+pub long_moves_go_on : LongMovesGoOn
+long_moves_go_on W overtake ever first p r moves may moved new run fits =
+    let m = led_on W overtake ever first p r.led moves may new run in
+    record { fresh = r.fresh; timely = r.timely; long = r.long; led = m.0; throughout = m.1 moved r.throughout; fits = fits }
+
+-- one move
+
+pub reached_step : (W overtake : ℕ) (ever : Reuses) (first p : Plant) → IsReachedIn W overtake ever first p → (next : Plant) (step : Step)
+    → PlantStep overtake p step next → IsReachedIn W overtake ever first next
+reached_step W overtake ever first p r next step goes = moves_go_on W overtake ever first p r (Goes step ∷ []) tt next (next, goes, refl)
+
+pub reached_anew : (W overtake : ℕ) (ever : Reuses) (first p : Plant) → IsReachedIn W overtake ever first p → (next : Plant) (anew : Anew)
+    → IsPermitted W ever anew → HappensAnew p anew next → IsReachedIn W overtake ever first next
+reached_anew W overtake ever first p r next anew may happens =
+    moves_go_on W overtake ever first p r (StartsAnew anew ∷ []) (may, tt) next (next, happens, refl)

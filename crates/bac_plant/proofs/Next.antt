@@ -171,13 +171,7 @@ reached_as W overtake p r = record {
   fresh = r.fresh;
   timely = r.timely;
   bounded = r.bounded;
-  among = λ i is. is;
-  steps = r.steps;
-  middle = p;
-  run = r.run;
-  stretches = [];
-  permitted = tt;
-  later = refl;
+  led = record { among = λ i is. is; steps = r.steps; middle = p; run = r.run; stretches = []; permitted = tt; later = refl };
 }
 
 go_of : (W overtake : ℕ) (p : Plant) → IsReached W overtake p → CanGo overtake p

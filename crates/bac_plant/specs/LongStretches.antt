@@ -4,13 +4,14 @@ use Rattle.bac_protocol.specs.LongApdus.{TakesLong}
 use Rattle.bac_protocol.specs.Pace.{IsTimely}
 use Rattle.bac_world.specs.LongApdus.{RepliesFit, TakeLongApdus}
 use Rattle.bac_world.specs.ReusingLogs.{Reuses}
-use Rattle.bac_world.specs.Stretches.{AreOf}
 use Rattle.bac_world.specs.World.{IsFresh}
-use Rattle.bac_plant.specs.Anew.{Anew, ArePermitted, PlantRunIn, Stretch}
+use Rattle.bac_plant.specs.Anew.{Anew, Stretch}
 use Rattle.bac_plant.specs.Anew.Anew.{RestartsSo, StartsAgainSo}
-use Rattle.bac_plant.specs.LongApdus.{AllAskLong}
-use Rattle.bac_plant.specs.Plants.{Plant, settings_of, world_of}
-use Rattle.bac_plant.specs.Steps.{PlantRun, Step}
+use Rattle.bac_plant.specs.LongApdus.{AllAskLong, AsksLong}
+use Rattle.bac_plant.specs.Moves.{IsLed, MayStart, Move, MoveRun}
+use Rattle.bac_plant.specs.Moves.Move.{Goes, StartsAnew}
+use Rattle.bac_plant.specs.Plants.{Plant, world_of}
+use Rattle.bac_plant.specs.Steps.{Step}
 
 -- the station that starts takes such
 abbrev pub StartsLong : Anew → Type 0
@@ -22,18 +23,27 @@ abbrev pub TakeLongThroughout : List Stretch → Type 0
 TakeLongThroughout [] = Unit {0}
 TakeLongThroughout (s ∷ ss) = StartsLong s.anew × AllAskLong s.steps × TakeLongThroughout ss
 
--- a run of that fresh plant, and then such stretches, led there; no reply in the log is longer than can be sent
+-- also in the steps before them
+abbrev pub AreLong : List Step → List Stretch → Type 0
+AreLong steps stretches = AllAskLong steps × TakeLongThroughout stretches
+
+-- such a run, when the first plant was fresh, led there; no reply in the log is longer than can be sent
 pub record IsReachedLongIn (W overtake : ℕ) (ever : Reuses) (first p : Plant) : Type 0 where
   pub fresh : IsFresh (world_of first)
   pub timely : IsTimely first.time.pace
   pub long : TakeLongApdus W (world_of first)
-  pub among : AreOf (settings_of first) ever
-  pub steps : List Step
-  pub asks : AllAskLong steps
-  pub middle : Plant
-  pub run : PlantRun overtake steps first middle
-  pub stretches : List Stretch
-  pub permitted : ArePermitted W ever stretches
-  pub throughout : TakeLongThroughout stretches
-  pub later : PlantRunIn overtake middle stretches p
+  pub led : IsLed W overtake ever first p
+  pub throughout : AreLong led.steps led.stretches
   pub fits : RepliesFit p.log
+
+-- in these moves too
+abbrev pub AllMoveLong : List Move → Type 0
+AllMoveLong [] = Unit {0}
+AllMoveLong (Goes step ∷ later) = AsksLong step × AllMoveLong later
+AllMoveLong (StartsAnew anew ∷ later) = StartsLong anew × AllMoveLong later
+
+-- the first plant's run leads on through such moves
+abbrev pub LongMovesGoOn : Type 0
+LongMovesGoOn =
+    (W overtake : ℕ) (ever : Reuses) (first p : Plant) → IsReachedLongIn W overtake ever first p → (moves : List Move) → MayStart W ever moves
+    → AllMoveLong moves → (new : Plant) → MoveRun overtake p moves new → RepliesFit new.log → IsReachedLongIn W overtake ever first new

@@ -10,11 +10,8 @@ use Rattle.bac_plant.specs.Composed.{IsCalled, IsLeft, IsThere}
 use Rattle.bac_plant.specs.Plants.{Plant, settings_of, world_of}
 use Rattle.bac_plant.specs.Steps.{PlantRun, PlantStep, Step}
 
--- a run of that fresh plant, and then such stretches, led there: all windows are at most W, and those stations ever let invoke IDs be used again
-pub record IsReachedIn (W overtake : ℕ) (ever : Reuses) (first p : Plant) : Type 0 where
-  pub fresh : IsFresh (world_of first)
-  pub timely : IsTimely first.time.pace
-  pub bounded : IsBounded W overtake (world_of first)
+-- a run of the first plant, and then stretches led there: their windows are at most W, and those stations ever let invoke IDs be used again
+pub record IsLed (W overtake : ℕ) (ever : Reuses) (first p : Plant) : Type 0 where
   pub among : AreOf (settings_of first) ever
   pub steps : List Step
   pub middle : Plant
@@ -22,6 +19,13 @@ pub record IsReachedIn (W overtake : ℕ) (ever : Reuses) (first p : Plant) : Ty
   pub stretches : List Stretch
   pub permitted : ArePermitted W ever stretches
   pub later : PlantRunIn overtake middle stretches p
+
+-- and the first plant was fresh
+pub record IsReachedIn (W overtake : ℕ) (ever : Reuses) (first p : Plant) : Type 0 where
+  pub fresh : IsFresh (world_of first)
+  pub timely : IsTimely first.time.pace
+  pub bounded : IsBounded W overtake (world_of first)
+  pub led : IsLed W overtake ever first p
 
 -- it is so of each plant that such stretches led to
 abbrev pub AfterStretches : (GoOn : (overtake : ℕ) → Plant → Type 0) → Type 0

@@ -9,6 +9,7 @@ ghost use Rattle.bac_plant.specs.CutMoves.{CutMovesAreMoves, CutMovesGoOn};
 ghost use Rattle.bac_plant.specs.Moves.{AfterStretches, CallsComposeIn, IsReachedIn, MovesGoOn};
 ghost use Rattle.bac_plant.specs.NextCuts.{CanStartAnew, FoundStoresStart, KeptStoresStart};
 ghost use Rattle.bac_plant.specs.NextSteps.{AsksGoOn, HeldTurnsGoOn, TurnsGoOn};
+ghost use Rattle.bac_plant.specs.Pauses.{PausesMakeQuietIn};
 ghost use Rattle.bac_plant.specs.Plants.{Plant, world_of};
 ghost use Rattle.bac_plant.specs.Runs.{stores_in};
 
@@ -45,6 +46,11 @@ pub fn calls_go_on_with_other_settings()
 /// And calls that stations make one after another, some of them starting again with other settings, lead that run on, as `calls_compose` says.
 pub fn calls_compose_with_other_settings()
     ensures { CallsComposeIn }
+{}
+
+/// There too a station that asks nothing for so long is quiet, as `pauses_make_quiet` says, so another program may begin there with other settings.
+pub fn pauses_make_quiet_with_other_settings()
+    ensures { PausesMakeQuietIn }
 {}
 
 /// Over power cuts too: a cut, or a start with other settings after one, is a move of the plant, and rounds that a cut takes back are none. So those moves lead

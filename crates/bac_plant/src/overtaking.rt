@@ -9,7 +9,7 @@ ghost use Rattle.bac_world.specs.ReusingLogs.{IsOnceSo, NoneReuses, Reuses};
 ghost use Rattle.bac_world.specs.World.{IsFresh};
 ghost use Rattle.bac_plant.specs.Composed.{AreCalled, IsComposed, upon};
 ghost use Rattle.bac_plant.specs.LongApdus.{AllAskLong, CanReplyThroughout, IsReachedLong, RepliesFitBefore};
-ghost use Rattle.bac_plant.specs.LongStretches.{IsReachedLongIn};
+ghost use Rattle.bac_plant.specs.LongStretches.{IsReachedLongIn, LongMovesGoOn};
 ghost use Rattle.bac_plant.specs.NextSteps.{AsksGoOn, HeldTurnsGoOn, TurnsGoOn};
 ghost use Rattle.bac_plant.specs.Plants.{Plant, world_of};
 ghost use Rattle.bac_plant.specs.Runs.{IsApartWithoutReuse, IsRight, IsRightWithoutReuse, OfLongRuns, stores_in};
@@ -23,7 +23,7 @@ pub fn long_apdus_need_no_bound_on_overtaking()
     ensures apart { OfLongRuns IsApartWithoutReuse }
 {}
 
-/// The same over restarts with other settings, if the stations that start so take such APDUs too.
+/// The same over restarts with other settings, if the stations that start so take such APDUs too. Moves, as those that power cuts make, lead on there.
 pub fn long_apdus_need_no_bound_with_other_settings()
     ensures once { (W overtake : ℕ) (ever : Reuses) (first new : Plant) → IsReachedLongIn W overtake ever first new
         → IsOnceSo ever (stores_in first) new.log (stores_in new) }
@@ -31,6 +31,7 @@ pub fn long_apdus_need_no_bound_with_other_settings()
         → IsOnce (stores_in first) new.log (stores_in new) }
     ensures apart { (W overtake : ℕ) (ever : Reuses) (first new : Plant) → IsReachedLongIn W overtake ever first new → NoneReuses ever
         → AreServedApart (world_of new) }
+    ensures moves { LongMovesGoOn }
 {}
 
 /// There too, whatever a call promises of a station is a step of the plant, as `calls_go_on` says: a turn, a turn whose sends are held, and an ask. Of its other
