@@ -60,8 +60,8 @@ MovesGoOn =
 
 -- ---- calls
 
--- the call that a move stands for was made in that plant; a start with other settings needs a station, and another program there that all is over which the
--- client sent
+-- the call that a move stands for was made in that plant. A station that is there may restart, and another program may start once all is over that its client
+-- sent.
 abbrev pub IsCalledIn : (overtake : ℕ) → Plant → Move → Type 0
 IsCalledIn overtake p (Goes step) = IsCalled overtake p step
 IsCalledIn overtake p (StartsAnew (RestartsSo i exact store settings reuses)) = IsThere p i

@@ -33,9 +33,9 @@ pub fn restarts_with_other_settings_go_on()
     ensures starts { StartsAnewGoOn }
 {}
 
-/// After such restarts too, whatever a call promises of a station is a step of the plant, as `calls_go_on` says: a turn, a turn whose sends are held, and an ask,
-/// by the settings that the station then has. Of its other calls that says so of every plant. Steps and such restarts lead the first plant's run on, so the
-/// headline holds after them.
+/// After such restarts too, what a call promises of a station is a step of the plant: a turn, a turn whose sends are held, and an ask.
+/// The station has the settings of its last start. Of its other calls `calls_go_on` says that of every plant. Steps and such restarts lead the first plant's run
+/// on, so the headline holds after them.
 pub fn calls_go_on_with_other_settings()
     ensures turns { AfterStretches TurnsGoOn }
     ensures held_turns { AfterStretches HeldTurnsGoOn }
@@ -60,8 +60,8 @@ pub fn cuts_may_change_settings()
     ensures reached { CutMovesGoOn }
 {}
 
-/// After a cut a station may start with other settings by the store that an honest keeper finds: one that stands as before the round, or as after all turns that
-/// it held; between rounds, as it stands.
+/// After a cut a station may start with other settings, by the store that an honest keeper finds. It stands as before the round then, or as after all turns that
+/// the round held. Between rounds it starts as it stands.
 pub fn cuts_with_other_settings_go_on<K: Keeper>()
     ensures found { FoundStoresStart K.IsHonest K.may_find CanStartAnew }
     ensures kept { KeptStoresStart K.IsHonest K.IsOpen K.kept K.noted K.may_find CanStartAnew }
