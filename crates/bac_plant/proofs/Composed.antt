@@ -1,18 +1,29 @@
 -- Calls that stations made one after another are a run.
-use Rattle.std.proofs.Common.{◌≡◌, ℕ, List, [], ◌∷◌, refl}
+use Rattle.std.proofs.Common.{◌≡◌, ℕ, Bool, true, false, List, [], ◌∷◌, refl, subst}
 use Rattle.bac_protocol.specs.Pace.{IsTimely}
 use Rattle.bac_protocol.specs.Pace.{clock_at}
 use Rattle.bac_world.specs.LongApdus.{TakeLongApdus}
 use Rattle.bac_world.specs.World.{IsBounded, IsFresh}
 use Rattle.bac_world.specs.Node.{begun_again, restarted, store_after_restart}
+use Rattle.bac_world.specs.Stretches.{with_settings}
 use Rattle.bac_world.specs.World.{passes}
+use Rattle.bac_transaction.specs.Given.{rules_of}
+use Rattle.bac_transaction.specs.Views.{rules_view}
+use Rattle.bac_node.specs.Serving.{is_reusing}
 use Rattle.bac_driver.specs.BoundNodes.{BoundNode}
+use Rattle.bac_plant.specs.Anew.{Anew, HappensAnew}
+use Rattle.bac_plant.specs.Anew.Anew.{RestartsSo, StartsAgainSo}
 use Rattle.bac_plant.specs.Composed.{AreCalled, IsCalled, IsComposed, upon}
 use Rattle.bac_plant.specs.LongApdus.{AllAskLong, IsReachedLong, RepliesFitBefore}
+use Rattle.bac_plant.specs.Moves.{CallsComposeIn, IsCalledIn}
+use Rattle.bac_plant.specs.Moves.Move.{Goes, StartsAnew}
 use Rattle.bac_plant.specs.NextSteps.{AsksGoOn, HeldTurnsGoOn, IsReached, LeadsTo, TurnsGoOn}
 use Rattle.bac_plant.specs.Plants.{Plant, world_of}
 use Rattle.bac_plant.specs.Steps.{PlantRun, PlantStep, Step}
 use Rattle.bac_plant.specs.Steps.Step.{Begins, BeginsAway, Changes, FailsToReceive, Holds, Passes, Restarts, SendsHeld, Starts, StartsAgain, Takes}
+use Rattle.bac_plant.proofs.Anew.{restarts_anew_go_on, starts_anew_go_on}
+use Rattle.bac_plant.proofs.Moves.{reached_anew, reached_step}
+use Rattle.bac_plant.proofs.Next.{asks_go_on_in, held_turns_go_on_in, turns_go_on_in}
 use Rattle.bac_plant.proofs.Next.{asks_go_on, asks_go_on_long, changes_go_on, failures_go_on, held_sends_go_on, held_turns_go_on, held_turns_go_on_long, restarts_go_on}
 use Rattle.bac_plant.proofs.Next.{starts_again_go_on, starts_go_on, strangers_asked_go_on, turns_go_on, turns_go_on_long}
 
@@ -75,3 +86,44 @@ composed_long W overtake first fresh timely long so_far asked p run (step ∷ la
     let next = called overtake p (turns_go_on_long W overtake p r) (held_turns_go_on_long W overtake p r) (asks_go_on_long W overtake p r) step calls.0 in
     composed_long W overtake first fresh timely long (step ∷ so_far) (asks.0, asked) next.0 (record { middle = p; so_far = run; last = next.1 }) later asks.1
     (calls.1 next.0 next.1) (fit.1 next.0 next.1)
+
+-- Over starts with other settings.
+
+reusing_of : (reuses : Bool) → is_reusing (rules_view (rules_of reuses)) ≡ reuses
+reusing_of true = refl
+reusing_of false = refl
+
+called_anew : (overtake : ℕ) (p : Plant) (anew : Anew) → IsCalledIn overtake p (StartsAnew anew) → (next : Plant) × HappensAnew p anew next
+called_anew overtake p (RestartsSo i exact store settings reuses) c =
+    let after : BoundNode =
+    record c.before {
+      node = restarted (clock_at p.time.pace exact).shows (store_after_restart c.before.node.store store) (with_settings settings c.before.node);
+      rules = rules_of reuses;
+    } in
+    let next = restarts_anew_go_on p i c.before c.at exact store settings after refl in
+    (next.0, subst (λ (b : Bool). HappensAnew p (RestartsSo i exact store settings b) next.0) (reusing_of reuses) next.1)
+called_anew overtake p (StartsAgainSo i exact first_id store settings reuses) c =
+    let before = c.there.before in
+    let after : BoundNode =
+    record before {
+      node = begun_again (clock_at p.time.pace exact).shows first_id (store_after_restart before.node.store store) (with_settings settings before.node);
+      rules = rules_of reuses;
+    } in
+    let next = starts_anew_go_on p i before c.there.at c.quiet exact first_id store settings after refl in
+    (next.0, subst (λ (b : Bool). HappensAnew p (StartsAgainSo i exact first_id store settings b) next.0) (reusing_of reuses) next.1)
+
+pub composed_in : CallsComposeIn
+unfolding Next
+composed_in W overtake ever first p r [] may calls = record { last = p; run = refl; reached = r }
+composed_in W overtake ever first p r (Goes step ∷ later) may calls =
+    let next =
+    called overtake p (turns_go_on_in W overtake ever first p r) (held_turns_go_on_in W overtake ever first p r) (asks_go_on_in W overtake ever first p r) step
+    calls.0 in
+    let rest =
+    composed_in W overtake ever first next.0 (reached_step W overtake ever first p r next.0 step next.1) later may (calls.1 next.0 next.1) in
+    record { last = rest.last; run = (next.0, next.1, rest.run); reached = rest.reached }
+composed_in W overtake ever first p r (StartsAnew anew ∷ later) may calls =
+    let next = called_anew overtake p anew calls.0 in
+    let rest =
+    composed_in W overtake ever first next.0 (reached_anew W overtake ever first p r next.0 anew may.0 next.1) later may.1 (calls.1 next.0 next.1) in
+    record { last = rest.last; run = (next.0, next.1, rest.run); reached = rest.reached }

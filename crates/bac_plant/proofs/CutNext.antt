@@ -7,14 +7,16 @@ use Rattle.bac_protocol.specs.Pace.{clock_at}
 use Rattle.bac_store.specs.Stores.{Store}
 use Rattle.bac_world.specs.Node.{Node, restarted}
 use Rattle.bac_world.specs.Once.Fact.{Restarted}
+use Rattle.bac_world.specs.Stretches.{with_settings}
 use Rattle.bac_world.specs.World.{with_clock, with_restart}
 use Rattle.bac_journal.proofs.Lists.{get_set}
 use Rattle.bac_driver.specs.BoundNodes.{BoundNode}
 use Rattle.bac_driver.specs.Rounds.{in_order}
 use Rattle.bac_plant.specs.Cuts.{CutPlant, or_else, with_losing}
-use Rattle.bac_plant.specs.NextCuts.{CanStart, FoundStoresGoOn, KeptStoresGoOn, LostTurnsGoOn, StepsGoOn}
+use Rattle.bac_plant.specs.NextCuts.{CanStart, CanStartAnew, FoundStoresGoOn, FoundStoresStart, KeptStoresGoOn, KeptStoresStart, LostTurnsGoOn, StepsGoOn}
 use Rattle.bac_plant.specs.Rounds.{HasStopped, IsAsHeldInChain}
 use Rattle.bac_plant.specs.Steps.{AreSent, with_station}
+use Rattle.bac_plant.proofs.Anew.{restarts_anew_go_on}
 
 same_number : (i : ℕ) → nat_eq i i ≡ true
 same_number i = go (nat_eq i i) refl
@@ -75,16 +77,38 @@ node_held before after as_held = go as_held.ends
     go (inl (inr fails)) = fails.node
     go (inr sent) = sent.node
 
-pub found_stores_go_on : {K : Type 0} (IsHonest : K → Type 0) (may_find : K → Store → Type 0) (overtake : ℕ)
-    → FoundStoresGoOn IsHonest may_find overtake
-found_stores_go_on IsHonest may_find overtake keeper before after as_held finds honest s may = go (finds.crash honest s may)
-  where
-    go : (s ≡ before.node.store) ⊎ (s ≡ after.node.store) → CanStart overtake before s ⊎ CanStart overtake as_held.held s
-    go (inl is) = inl (can_start overtake before s is)
-    go (inr is) = inr (can_start overtake as_held.held s (is ∙ ap (λ (n : Node). n.store) (node_held before after as_held)))
+can_start_anew : (stands : BoundNode) (s : Store) → s ≡ stands.node.store → CanStartAnew stands s
+can_start_anew stands s same c i at exact settings after is =
+    let next = restarts_anew_go_on c.plant i stands at exact None settings after
+    (is ∙ ap (λ (x : Store). restarted (clock_at c.plant.time.pace exact).shows x (with_settings settings stands.node)) same) in
+    record {
+      new = record { plant = next.0; losing = with_losing c.losing i None };
+      starts = record { starts = next.1; losing = refl };
+      there = ap (λ o. or_else o (slice_get (next.0).stations i)) (set_there c.losing i None) ∙ next.2;
+    }
 
-pub kept_stores_go_on : {K : Type 0} (IsHonest IsOpen : K → Type 0) (kept noted : K → Store) (may_find : K → Store → Type 0)
-    → ((k : K) (s : Store) → IsHonest k → IsOpen k → may_find k s → s ≡ kept k) → (overtake : ℕ)
-    → KeptStoresGoOn IsHonest IsOpen kept noted may_find overtake
-kept_stores_go_on IsHonest IsOpen kept noted may_find settled overtake keeper stands is honest s may =
-    can_start overtake stands s (settled keeper s honest is.is_open may ∙ is.kept_is)
+-- with what the keeper finds
+module _ {K : Type 0} (IsHonest : K → Type 0) (may_find : K → Store → Type 0) where
+  found_start : (CanBegin : BoundNode → Store → Type 0) → ((stands : BoundNode) (s : Store) → s ≡ stands.node.store → CanBegin stands s)
+      → FoundStoresStart IsHonest may_find CanBegin
+  found_start CanBegin can keeper before after as_held finds honest s may = go (finds.crash honest s may)
+    where
+      go : (s ≡ before.node.store) ⊎ (s ≡ after.node.store) → CanBegin before s ⊎ CanBegin as_held.held s
+      go (inl is) = inl (can before s is)
+      go (inr is) = inr (can as_held.held s (is ∙ ap (λ (n : Node). n.store) (node_held before after as_held)))
+
+  pub found_stores_go_on : (overtake : ℕ) → FoundStoresGoOn IsHonest may_find overtake
+  found_stores_go_on overtake keeper before after as_held finds honest s may =
+      found_start (CanStart overtake) (λ stands s same. can_start overtake stands s same) keeper before after as_held finds honest s may
+
+  pub found_stores_start_anew : FoundStoresStart IsHonest may_find CanStartAnew
+  found_stores_start_anew keeper before after as_held finds honest s may =
+      found_start CanStartAnew (λ stands s same. can_start_anew stands s same) keeper before after as_held finds honest s may
+
+  module _ (IsOpen : K → Type 0) (kept noted : K → Store) (settled : (k : K) (s : Store) → IsHonest k → IsOpen k → may_find k s → s ≡ kept k) where
+    pub kept_stores_go_on : (overtake : ℕ) → KeptStoresGoOn IsHonest IsOpen kept noted may_find overtake
+    kept_stores_go_on overtake keeper stands is honest s may =
+        can_start overtake stands s (settled keeper s honest is.is_open may ∙ is.kept_is)
+
+    pub kept_stores_start_anew : KeptStoresStart IsHonest IsOpen kept noted may_find CanStartAnew
+    kept_stores_start_anew keeper stands is honest s may = can_start_anew stands s (settled keeper s honest is.is_open may ∙ is.kept_is)

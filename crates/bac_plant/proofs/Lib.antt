@@ -3,8 +3,13 @@ pub mod Settings
 pub mod Turned
 pub mod Runs
 pub mod Anew
+pub mod TakingCalls
+pub mod Moves
 pub mod StoresReply
 pub mod LongApdus
+pub mod NodeSettings
+pub mod Beginning
+pub mod LongStretches
 pub mod Chained
 pub mod Rounded
 pub mod Next
@@ -12,6 +17,7 @@ pub mod Composed
 pub mod Cut
 pub mod CutEvents
 pub mod CutNext
+pub mod CutMoves
 pub mod Holding
 pub mod Resting
 pub mod Answered

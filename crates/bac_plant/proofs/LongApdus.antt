@@ -1,5 +1,5 @@
 -- Runs of plants whose stations all take APDUs of 480 octets or more.
-use Rattle.std.proofs.Common.{◌≡◌, ℕ, List, [], ◌∷◌, ◌++◌, Option, Some, None}
+use Rattle.std.proofs.Common.{ℕ, List, [], ◌∷◌, ◌++◌, Option, Some, None}
 use Rattle.bac_protocol.specs.Pace.{IsTimely}
 use Rattle.bac_world.specs.Claims.{AreServedApart}
 use Rattle.bac_world.specs.LongApdus as world

@@ -14,10 +14,10 @@ use Rattle.bac_world.specs.Services as service
 use Rattle.bac_world.specs.ReusingLogs.{Reuses}
 use Rattle.bac_world.specs.ReusingNodes.{NodeHears}
 use Rattle.bac_world.specs.ReusingWorlds.{AreLoggedSo, WorldRunSo}
-use Rattle.bac_world.specs.World.{AreCopied, AreEnded, AreLogged, Copy, Event, IsCopied, IsOfNone, IsOutside, Note, World}
+use Rattle.bac_world.specs.World.{AreCopied, AreEnded, AreLogged, Copy, IsCopied, IsOfNone, IsOutside, Note, World}
 use Rattle.bac_world.specs.World.{ending_fact, is_away, link_at, peer_at, told, with_act, with_ask, with_clock, with_restart}
-use Rattle.bac_journal.specs.Entering.{AreOfPeer, AreOfPeerSo, CanBeCopied, CanEnterSo, CanGoOnSo, CanLeave, Every, IsNoted, IsOfClient, IsOfStranger}
-use Rattle.bac_journal.proofs.GoingOn.{runs_can_go_on_long, runs_can_go_on_so}
+use Rattle.bac_journal.specs.Entering.{AreOfPeer, AreOfPeerSo, CanBeCopied, CanEnterSo, CanLeave, Every, IsNoted, IsOfClient, IsOfStranger}
+use Rattle.bac_journal.proofs.GoingOn.{runs_can_go_on_long}
 use Rattle.bac_journal.proofs.Lists.{get_set}
 use Rattle.bac_transaction.specs.Views.{read_rule_view, rules_view, share_view}
 use Rattle.bac_transaction.specs.declared.rules.Rules.{Rules}
@@ -32,15 +32,18 @@ use Rattle.bac_driver.specs.Turns.{Turn, ended_of, performed_of, sends_of}
 use Rattle.bac_plant.specs.Network.{HandsOver, IsOfStation, Source}
 use Rattle.bac_plant.specs.Network.Source.{Noise, Nowhere, Station, Stranger}
 use Rattle.bac_plant.specs.LongApdus.{IsReachedLong}
+use Rattle.bac_plant.specs.Moves.{AfterStretches, IsReachedIn}
+use Rattle.bac_plant.proofs.Anew.{goes_in}
 use Rattle.bac_plant.proofs.LongApdus.{run_long}
+use Rattle.bac_plant.proofs.TakingCalls.{CanGo, TakesCalls, takes_known}
 use Rattle.bac_plant.specs.NextSteps.{AsksGoOn, ChangesGoOn, FailuresGoOn, HeldSendsGoOn, HeldTurnsGoOn, IsReached, LeadsTo, RestartsGoOn, StartsAgainGoOn, StartsGoOn, StrangersAskedGoOn, TurnsGoOn}
 use Rattle.bac_plant.specs.Plants.{IsSetTo, Plant, RemembersInFull, nodes_of, settings_of, shows, world_of}
-use Rattle.bac_plant.specs.Steps.{HappensAt, HoldsSomeTurn, IsSomeTurn, PlantRun, Step, away_note, heard_lives, note_of, question, turn_lives, with_station}
+use Rattle.bac_plant.specs.Steps.{HappensAt, HoldsSomeTurn, IsSomeTurn, away_note, heard_lives, note_of, question, turn_lives, with_station}
 use Rattle.bac_plant.specs.Steps.Step.{Begins, Holds, Takes}
 use Rattle.bac_plant.specs.Events.{events_of, heard_events}
 use Rattle.bac_plant.proofs.Runs.{run_by}
 use Rattle.bac_plant.proofs.Settings.{run_settings}
-use Rattle.bac_plant.proofs.Turned.{after_call, all_copied_on, copied_join, heard_run, hears_link, held_hears, may_arrive, node_at, run_join, set_links}
+use Rattle.bac_plant.proofs.Turned.{after_call, all_copied_on, copied_join, heard_run, hears_link, held_hears, may_arrive, node_at, set_links}
 use Rattle.bac_plant.proofs.Turned.{setting_at, turn_hears}
 
 -- What can enter does.
@@ -118,7 +121,7 @@ may_perform false w i b (Some o) log h = logs_so false w i b o.performed log h.p
 
 -- What a node hears, and what it does at a tick.
 
-module _ (u : Reuses) (W overtake : ℕ) (p : Plant) (on : CanGoOnSo u W overtake (world_of p)) (i : ℕ) (a b : Node)
+module _ (u : Reuses) (overtake : ℕ) (p : Plant) (on : TakesCalls u overtake (world_of p)) (i : ℕ) (a b : Node)
     (at : slice_get (nodes_of p.stations) i ≡ Some a) where
   copy_enters : (number : ℕ) (from octets : Octets) (o : Outcome) → IsOfStation overtake p i number from octets
       → NodeHears (u i) (shows p i) from octets a b o → CanEnterSo (u i) (world_of p) i b o
@@ -127,13 +130,13 @@ module _ (u : Reuses) (W overtake : ℕ) (p : Plant) (on : CanGoOnSo u W overtak
       (may_arrive overtake p.time.pace.life p.time.now number p.copies c.copy c.young c.few) from c.sender a b o
       (subst (λ k. slice_get (nodes_of p.stations) k ≡ Some a) (sym c.to) at)
       (subst (λ k. NodeHears (u k) (shows p k) from c.copy.octets a b o) (sym c.to)
-      (subst (λ os. NodeHears (u i) (shows p i) from os a b o) (sym c.whole) h))).0
+      (subst (λ os. NodeHears (u i) (shows p i) from os a b o) (sym c.whole) h)))
 
   outside_enters : (sender sent from octets : Octets) (o : Outcome) → from ≡ sender → octets ≡ sent → IsOutside (nodes_of p.stations) sender sent
       → NodeHears (u i) (shows p i) from octets a b o → CanEnterSo (u i) (world_of p) i b o
   outside_enters sender sent from octets o link_is whole outside h =
-      (on.outside i sender sent outside a b o at
-      (subst (λ l. NodeHears (u i) (shows p i) l sent a b o) link_is (subst (λ os. NodeHears (u i) (shows p i) from os a b o) whole h))).0
+      on.outside i sender sent outside a b o at
+      (subst (λ l. NodeHears (u i) (shows p i) l sent a b o) link_is (subst (λ os. NodeHears (u i) (shows p i) from os a b o) whole h))
 
   came_enters : (rules : Rules) → AreSetTo (u i) (rules_view rules) → (source : Source) (d : Octets × ℕ) (buffer : Octets) (heard : Option Outcome)
       → turns.HearsOne rules (shows p i) d.0 (take d.1 buffer) a b heard
@@ -155,38 +158,32 @@ module _ (u : Reuses) (W overtake : ℕ) (p : Plant) (on : CanGoOnSo u W overtak
   heard_enters rules set source None buffer None h from = tt
   heard_enters rules set source None buffer (Some o) h from = absurd (let e = h.0 in cc)
 
-tick_enters : (u : Reuses) (W overtake : ℕ) (w : World) → CanGoOnSo u W overtake w → (i : ℕ) (a b : Node) → slice_get w.nodes i ≡ Some a → (ticked : Option Outcome)
+tick_enters : (u : Reuses) (overtake : ℕ) (w : World) → TakesCalls u overtake w → (i : ℕ) (a b : Node) → slice_get w.nodes i ≡ Some a → (ticked : Option Outcome)
     → turns.Ticks (told w i) a b ticked → MayEnter false w i b ticked
-tick_enters u W overtake w on i a b at None t = tt
-tick_enters u W overtake w on i a b at (Some o) t = on.ticks i a b o at t
+tick_enters u overtake w on i a b at None t = tt
+tick_enters u overtake w on i a b at (Some o) t = on.ticks i a b o at t
 
 -- Reached plants go on.
 
-reached_world : (W overtake : ℕ) (p : Plant) (r : IsReached W overtake p) (es : List Event) (w : World)
-    → WorldRunSo overtake (settings_of r.first) (world_of p) es w → CanGoOnSo (settings_of r.first) W overtake w
-reached_world W overtake p r es w run =
-    let u : Reuses = settings_of r.first in
-    runs_can_go_on_so u W overtake (world_of r.first) w r.fresh r.timely r.bounded (events_of r.steps ++ es)
-    (run_join overtake u (events_of r.steps) es (world_of r.first) (world_of p) w (run_by overtake u r.steps r.first p (λ j. refl) r.run) run)
+-- a run alone, where no station starts with other settings
+reached_as : (W overtake : ℕ) (p : Plant) → (r : IsReached W overtake p) → IsReachedIn W overtake (settings_of r.first) r.first p
+reached_as W overtake p r = record {
+  fresh = r.fresh;
+  timely = r.timely;
+  bounded = r.bounded;
+  led = record { among = λ i is. is; steps = r.steps; middle = p; run = r.run; stretches = []; permitted = tt; later = refl };
+}
 
--- a plant that a run led to, whose world can go on, by one event more too
-pub record CanGo (W overtake : ℕ) (p : Plant) : Type 0 where
-  pub first : Plant
-  pub steps : List Step
-  pub run : PlantRun overtake steps first p
-  pub on : (es : List Event) (w : World) → length es ≤ 1 → WorldRunSo overtake (settings_of first) (world_of p) es w
-      → CanGoOnSo (settings_of first) W overtake w
+go_of : (W overtake : ℕ) (p : Plant) → IsReached W overtake p → CanGo overtake p
+go_of W overtake p r = goes_in W overtake (settings_of r.first) r.first p (reached_as W overtake p r)
 
-go_of : (W overtake : ℕ) (p : Plant) → IsReached W overtake p → CanGo W overtake p
-go_of W overtake p r = record { first = r.first; steps = r.steps; run = r.run; on = λ es w few run. reached_world W overtake p r es w run }
-
-go_long : (W overtake : ℕ) (p : Plant) → IsReachedLong W overtake p → CanGo W overtake p
+go_long : (W overtake : ℕ) (p : Plant) → IsReachedLong W overtake p → CanGo overtake p
 go_long W overtake p r = record {
-  first = r.first;
-  steps = r.steps;
-  run = r.run;
-  on = λ es w few run. runs_can_go_on_long (settings_of r.first) W overtake (world_of r.first) (world_of p) r.fresh r.timely r.long (events_of r.steps)
-      (run_long r.steps r.asks) (run_by overtake (settings_of r.first) r.steps r.first p (λ j. refl) r.run) r.fits es w few run;
+  u = settings_of r.first;
+  now = λ i. run_settings overtake r.steps r.first p r.run i;
+  on = λ es w few run. takes_known (settings_of r.first) W overtake w
+      (runs_can_go_on_long (settings_of r.first) W overtake (world_of r.first) (world_of p) r.fresh r.timely r.long (events_of r.steps)
+      (run_long r.steps r.asks) (run_by overtake (settings_of r.first) r.steps r.first p (λ j. refl) r.run) r.fits es w few run);
 }
 
 -- hearing is one event at most
@@ -207,22 +204,22 @@ shares_viewed : (r : rule.ReadRule) (share : Bool) → reads_anew (read_rule_vie
 shares_viewed rule_case.Kept share off = refl
 shares_viewed rule_case.Fresh share off = absurd cc
 
-module _ (W overtake : ℕ) (p : Plant) (r : CanGo W overtake p) (i : ℕ) (before : BoundNode) (at : slice_get p.stations i ≡ Some before) where
+module _ (overtake : ℕ) (p : Plant) (r : CanGo overtake p) (i : ℕ) (before : BoundNode) (at : slice_get p.stations i ≡ Some before) where
   abbrev first_at : slice_get (nodes_of p.stations) i ≡ Some before.node
   first_at = node_at p.stations i before at
 
   -- the settings of all stations, and its own
   abbrev u : Reuses
-  u = settings_of r.first
+  u = r.u
 
   set_as : RemembersInFull before → IsSetTo (u i) before
   set_as full = record {
-    reads = reads_viewed before.rules.reads ∙ ap reads_of (sym (setting_at p i before at) ∙ run_settings overtake r.steps r.first p r.run i);
+    reads = reads_viewed before.rules.reads ∙ ap reads_of (sym (setting_at p i before at) ∙ r.now i);
     remembers = full;
-    shares = λ off. shares_viewed before.rules.reads before.rules.share (sym (setting_at p i before at) ∙ run_settings overtake r.steps r.first p r.run i ∙ off);
+    shares = λ off. shares_viewed before.rules.reads before.rules.share (sym (setting_at p i before at) ∙ r.now i ∙ off);
   }
 
-  goes_on : CanGoOnSo u W overtake (world_of p)
+  goes_on : TakesCalls u overtake (world_of p)
   goes_on = r.on [] (world_of p) (omega arith) refl
 
   stands : (after : BoundNode) → slice_get (slice_set p.stations i after) i ≡ Some after
@@ -232,7 +229,7 @@ module _ (W overtake : ℕ) (p : Plant) (r : CanGo W overtake p) (i : ℕ) (befo
   module _ (turn : Turn) (after : BoundNode) (middle : Node) (set : AreSetTo (u i) (rules_view before.rules)) (hears : turns.Hears before.rules (shows p i) after.buffer turn.received before.node middle turn.heard)
       (ticks : turns.Ticks (shows p i) middle after.node turn.ticked) (source : Source) (from : HandsOver overtake p i source turn.received after.buffer) where
     first : MayEnter (u i) (world_of p) i middle turn.heard
-    first = heard_enters u W overtake p goes_on i before.node middle first_at before.rules set source turn.received after.buffer turn.heard hears from
+    first = heard_enters u overtake p goes_on i before.node middle first_at before.rules set source turn.received after.buffer turn.heard hears from
 
     abbrev sends : (cs : List Copy) × AreCopied (nodes_of p.stations) p.time.now i (sends_of turn.heard) cs
     sends = may_send (u i) (world_of p) i middle turn.heard first
@@ -254,7 +251,7 @@ module _ (W overtake : ℕ) (p : Plant) (r : CanGo W overtake p) (i : ℕ) (befo
     second_at = get_set (nodes_of p.stations) i middle (slice_get_within (nodes_of p.stations) i before.node first_at)
 
     second : MayEnter false Middle i after.node turn.ticked
-    second = tick_enters u W overtake Middle (r.on (heard_events i source turn.heard) Middle (few_heard i source turn.heard) went) i middle after.node second_at
+    second = tick_enters u overtake Middle (r.on (heard_events i source turn.heard) Middle (few_heard i source turn.heard) went) i middle after.node second_at
         turn.ticked ticks
 
     linked : (j : ℕ) → link_at (nodes_of p.stations) j ≡ link_at Middle.nodes j
@@ -309,7 +306,7 @@ module _ (W overtake : ℕ) (p : Plant) (r : CanGo W overtake p) (i : ℕ) (befo
       → LeadsTo overtake p (Begins i server limits request) i after
   ask_leads server link there limits request ticket after b =
       let can = goes_on.asks i server before.node after.node link limits request b.accepted b.sends first_at there b.asks in
-      let sent = each_copy_of (nodes_of p.stations) (note_of i server b.accepted.invoke_id b.accepted.ticket ∷ p.notes) p.time.now i b.sends can.0 in
+      let sent = each_copy_of (nodes_of p.stations) (note_of i server b.accepted.invoke_id b.accepted.ticket ∷ p.notes) p.time.now i b.sends can in
       record {
         new = record (with_station p i after) {
           lives = with_ask p.time p.lives i;
@@ -333,10 +330,10 @@ module _ (W overtake : ℕ) (p : Plant) (r : CanGo W overtake p) (i : ℕ) (befo
       }
 
 pub turns_go_on : (W overtake : ℕ) (p : Plant) → IsReached W overtake p → TurnsGoOn overtake p
-turns_go_on W overtake p r i before at full turn after t source from = turn_leads W overtake p (go_of W overtake p r) i before at full turn after t source from
+turns_go_on W overtake p r i before at full turn after t source from = turn_leads overtake p (go_of W overtake p r) i before at full turn after t source from
 
 pub held_turns_go_on : (W overtake : ℕ) (p : Plant) → IsReached W overtake p → HeldTurnsGoOn overtake p
-held_turns_go_on W overtake p r i before at full turn after t source from = held_leads W overtake p (go_of W overtake p r) i before at full turn after t source from
+held_turns_go_on W overtake p r i before at full turn after t source from = held_leads overtake p (go_of W overtake p r) i before at full turn after t source from
 
 pub held_sends_go_on : (overtake : ℕ) (p : Plant) → HeldSendsGoOn overtake p
 held_sends_go_on overtake p i before at turns after sends = record {
@@ -347,7 +344,7 @@ held_sends_go_on overtake p i before at turns after sends = record {
 
 pub asks_go_on : (W overtake : ℕ) (p : Plant) → IsReached W overtake p → AsksGoOn overtake p
 asks_go_on W overtake p r i server before at link there limits request ticket after b =
-    ask_leads W overtake p (go_of W overtake p r) i before at server link there limits request ticket after b
+    ask_leads overtake p (go_of W overtake p r) i before at server link there limits request ticket after b
 
 pub strangers_asked_go_on : (overtake : ℕ) (p : Plant) → StrangersAskedGoOn overtake p
 strangers_asked_go_on overtake p i before at peer stranger limits request ticket after b = record {
@@ -414,12 +411,26 @@ starts_again_go_on overtake p i before at quiet exact first_id store after is ru
 
 pub turns_go_on_long : (W overtake : ℕ) (p : Plant) → IsReachedLong W overtake p → TurnsGoOn overtake p
 turns_go_on_long W overtake p r i before at full turn after t source from =
-    turn_leads W overtake p (go_long W overtake p r) i before at full turn after t source from
+    turn_leads overtake p (go_long W overtake p r) i before at full turn after t source from
 
 pub held_turns_go_on_long : (W overtake : ℕ) (p : Plant) → IsReachedLong W overtake p → HeldTurnsGoOn overtake p
 held_turns_go_on_long W overtake p r i before at full turn after t source from =
-    held_leads W overtake p (go_long W overtake p r) i before at full turn after t source from
+    held_leads overtake p (go_long W overtake p r) i before at full turn after t source from
 
 pub asks_go_on_long : (W overtake : ℕ) (p : Plant) → IsReachedLong W overtake p → AsksGoOn overtake p
 asks_go_on_long W overtake p r i server before at link there limits request ticket after b =
-    ask_leads W overtake p (go_long W overtake p r) i before at server link there limits request ticket after b
+    ask_leads overtake p (go_long W overtake p r) i before at server link there limits request ticket after b
+
+-- And after restarts with other settings.
+
+pub turns_go_on_in : AfterStretches TurnsGoOn
+turns_go_on_in W overtake ever first p r i before at full turn after t source from =
+    turn_leads overtake p (goes_in W overtake ever first p r) i before at full turn after t source from
+
+pub held_turns_go_on_in : AfterStretches HeldTurnsGoOn
+held_turns_go_on_in W overtake ever first p r i before at full turn after t source from =
+    held_leads overtake p (goes_in W overtake ever first p r) i before at full turn after t source from
+
+pub asks_go_on_in : AfterStretches AsksGoOn
+asks_go_on_in W overtake ever first p r i server before at link there limits request ticket after b =
+    ask_leads overtake p (goes_in W overtake ever first p r) i before at server link there limits request ticket after b

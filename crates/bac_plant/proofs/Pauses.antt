@@ -1,5 +1,5 @@
 -- A station that asks nothing for so long is quiet.
-use Rattle.std.proofs.Common.{◌≡◌, ℕ, zero, ◌+◌, ◌≤◌, Bool, true, false, List, [], ◌∷◌, Option, Some, None, if◌then◌else◌, min, nat_eq, nat_le, refl, sym, ap, ◌∙◌, arith}
+use Rattle.std.proofs.Common.{◌≡◌, ℕ, ◌+◌, ◌≤◌, Bool, true, false, List, [], ◌∷◌, Option, Some, None, if◌then◌else◌, min, nat_eq, refl, sym, ap, subst, ◌∙◌, arith}
 use Rattle.std.proofs.lemmas.Bool.Decides.{nat_tests}
 use Rattle.bac_apdu.specs.Apdu.{Limits}
 use Rattle.bac_service.specs.Values.{Request}
@@ -8,10 +8,14 @@ use Rattle.bac_protocol.specs.declared.times.TheConstants.{DEADLINE, KEEP}
 use Rattle.bac_driver.specs.Turns.{Turn}
 use Rattle.bac_world.specs.Node.{Outcome}
 use Rattle.bac_world.specs.World.{Life, Time, is_quiet, with_act, with_ask, with_restart}
+use Rattle.bac_plant.specs.Anew.{Anew, HappensAnew, PlantRunIn, Stretch}
+use Rattle.bac_plant.specs.Anew.Anew.{RestartsSo, StartsAgainSo}
+use Rattle.bac_plant.specs.Moves.{Move, MoveRun}
+use Rattle.bac_plant.specs.Moves.Move.{Goes, StartsAnew}
 use Rattle.bac_plant.specs.Network.{Source}
 use Rattle.bac_plant.specs.Network.Source.{Noise, Nowhere, Station, Stranger}
 use Rattle.bac_plant.specs.NextSteps.{IsReached}
-use Rattle.bac_plant.specs.Pauses.{AsksNone, asks, pause}
+use Rattle.bac_plant.specs.Pauses.{AsksNone, AsksNoneIn, PausesMakeQuietIn, asks, pause}
 use Rattle.bac_plant.specs.Plants.{Plant, world_of}
 use Rattle.bac_plant.specs.Steps.{PlantRun, PlantStep, Step, heard_lives, ticked_lives, turn_lives}
 use Rattle.bac_plant.specs.Steps.Step.{Begins, BeginsAway, Changes, FailsToReceive, Holds, Passes, Restarts, SendsHeld, Starts, StartsAgain, Takes}
@@ -94,6 +98,27 @@ module _ (i : ℕ) where
       let last = asks_not overtake run.middle step new run.last none.0 in
       omega (arith, first, last)
 
+  -- a start with other settings
+  starts_not : (old : Plant) (anew : Anew) (new : Plant) → HappensAnew old anew new → (new.lives i).sends_until ≤ (old.lives i).sends_until
+  starts_not old (RestartsSo j exact store settings reuses) new s =
+      let is : (new.lives i).sends_until ≡ (with_restart old.time old.lives j i).sends_until = ap (λ (p : Plant). (p.lives i).sends_until) s.is in
+      let less = restarted old.time old.lives j i in
+      omega (arith, is, less)
+  starts_not old (StartsAgainSo j exact first_id store settings reuses) new s =
+      until_is old new _ (ap (λ (p : Plant). p.lives) s.is) (acted old.lives j i)
+
+  moves_not : (overtake : ℕ) (moves : List Move) (old new : Plant) → MoveRun overtake old moves new → AsksNoneIn i moves
+      → (new.lives i).sends_until ≤ (old.lives i).sends_until
+  moves_not overtake [] old new run none = at_most _ _ (ap (λ (p : Plant). (p.lives i).sends_until) run)
+  moves_not overtake (Goes step ∷ more) old new run none =
+      let first = asks_not overtake old step run.0 run.1 none.0 in
+      let last = moves_not overtake more run.0 new run.2 none.1 in
+      omega (arith, first, last)
+  moves_not overtake (StartsAnew anew ∷ more) old new run none =
+      let first = starts_not old anew run.0 run.1 in
+      let last = moves_not overtake more run.0 new run.2 none in
+      omega (arith, first, last)
+
 -- real time goes on, and its pace stays
 record GoesOn (old new : Plant) : Type 0 where
   pace : new.time.pace ≡ old.time.pace
@@ -122,25 +147,39 @@ step_on overtake old (StartsAgain j exact first_id store) new s =
 step_on overtake old (Holds j source turn) new s = same_time old new (ap (λ (p : Plant). p.time) s.happens.is)
 step_on overtake old (SendsHeld j turns) new s = same_time old new (ap (λ (p : Plant). p.time) s.is)
 
+then_on : (old middle new : Plant) → GoesOn old middle → GoesOn middle new → GoesOn old new
+then_on old middle new first last = record { pace = last.pace ∙ first.pace; on = let a = first.on in let b = last.on in omega (arith, a, b) }
+
 run_on : (overtake : ℕ) (steps : List Step) (old new : Plant) → PlantRun overtake steps old new → GoesOn old new
 run_on overtake [] old new run = same_time old new (ap (λ (p : Plant). p.time) run)
 run_on overtake (step ∷ before) old new run =
-    let first = run_on overtake before old run.middle run.so_far in
-    let last = step_on overtake run.middle step new run.last in
-    record { pace = last.pace ∙ first.pace; on = let a = first.on in let b = last.on in omega (arith, a, b) }
+    then_on old run.middle new (run_on overtake before old run.middle run.so_far) (step_on overtake run.middle step new run.last)
+
+starts_on : (old : Plant) (anew : Anew) (new : Plant) → HappensAnew old anew new → GoesOn old new
+starts_on old (RestartsSo j exact store settings reuses) new s =
+    record { pace = ap (λ (p : Plant). p.time.pace) s.is; on = at_most _ _ (sym (ap (λ (p : Plant). p.time.now) s.is)) }
+starts_on old (StartsAgainSo j exact first_id store settings reuses) new s =
+    record { pace = ap (λ (p : Plant). p.time.pace) s.is; on = at_most _ _ (sym (ap (λ (p : Plant). p.time.now) s.is)) }
+
+moves_on : (overtake : ℕ) (moves : List Move) (old new : Plant) → MoveRun overtake old moves new → GoesOn old new
+moves_on overtake [] old new run = same_time old new (ap (λ (p : Plant). p.time) run)
+moves_on overtake (Goes step ∷ more) old new run =
+    then_on old run.0 new (step_on overtake old step run.0 run.1) (moves_on overtake more run.0 new run.2)
+moves_on overtake (StartsAnew anew ∷ more) old new run = then_on old run.0 new (starts_on old anew run.0 run.1) (moves_on overtake more run.0 new run.2)
 
 -- no station sends longer than a deadline from now on
 abbrev IsSoon : (i : ℕ) → Plant → Type 0
 IsSoon i p = (p.lives i).sends_until ≤ p.time.now + most p.time.pace DEADLINE + 1
 
 module _ (i : ℕ) where
-  later : (overtake : ℕ) (old : Plant) (step : Step) (new : Plant) → PlantStep overtake old step new → asks i step ≡ false → IsSoon i old → IsSoon i new
-  later overtake old step new s e soon =
-      let less = asks_not i overtake old step new s e in
-      let goes = step_on overtake old step new s in
+  still_soon : (old new : Plant) → (new.lives i).sends_until ≤ (old.lives i).sends_until → GoesOn old new → IsSoon i old → IsSoon i new
+  still_soon old new less goes soon =
       let same : most new.time.pace DEADLINE ≡ most old.time.pace DEADLINE = ap (λ (p : Pace). most p DEADLINE) goes.pace in
       let onward = goes.on in
       omega (arith, less, same, onward, soon)
+
+  later : (overtake : ℕ) (old : Plant) (step : Step) (new : Plant) → PlantStep overtake old step new → asks i step ≡ false → IsSoon i old → IsSoon i new
+  later overtake old step new s e soon = still_soon old new (asks_not i overtake old step new s e) (step_on overtake old step new s) soon
 
   asks_soon : (overtake j server : ℕ) (limits : Limits) (r : Request) (old new : Plant) → PlantStep overtake old (Begins j server limits r) new → IsSoon i old
       → (b : Bool) → nat_eq i j ≡ b → IsSoon i new
@@ -180,14 +219,31 @@ module _ (i : ℕ) where
       let none : (r.first.lives i).sends_until ≡ 0 = ap (λ (l : Life). l.sends_until) (r.fresh.lives i) in
       all_soon overtake r.steps r.first p r.run (omega (arith, none))
 
-  pub falls_quiet : (W overtake : ℕ) (p : Plant) → IsReached W overtake p → (steps : List Step) (new : Plant) → PlantRun overtake steps p new
-      → AsksNone i steps → p.time.now + pause p.time.pace ≤ new.time.now → is_quiet (world_of new) i ≡ true
-  falls_quiet W overtake p r steps new run none passed =
-      let less = asks_none i overtake steps p new run none in
-      let soon = reached_soon W overtake p r in
-      let pace = (run_on overtake steps p new run).pace in
-      let life : new.time.pace.life ≡ p.time.pace.life = ap (λ (q : Pace). q.life) pace in
-      let keep : most new.time.pace KEEP ≡ most p.time.pace KEEP = ap (λ (q : Pace). most q KEEP) pace in
+  stretches_soon : (overtake : ℕ) (ss : List Stretch) (p new : Plant) → PlantRunIn overtake p ss new → IsSoon i p → IsSoon i new
+  stretches_soon overtake [] p new run soon = subst (IsSoon i) (sym run) soon
+  stretches_soon overtake (s ∷ ss) p new run soon =
+      stretches_soon overtake ss run.1 new run.4
+      (all_soon overtake s.steps run.0 run.1 run.3 (still_soon p run.0 (starts_not i p s.anew run.0 run.2) (starts_on p s.anew run.0 run.2) soon))
+
+  -- after so long all is over
+  quiet_after : (p new : Plant) → (new.lives i).sends_until ≤ (p.lives i).sends_until → GoesOn p new → IsSoon i p
+      → p.time.now + pause p.time.pace ≤ new.time.now → is_quiet (world_of new) i ≡ true
+  quiet_after p new less goes soon passed =
+      let life : new.time.pace.life ≡ p.time.pace.life = ap (λ (q : Pace). q.life) goes.pace in
+      let keep : most new.time.pace KEEP ≡ most p.time.pace KEEP = ap (λ (q : Pace). most q KEEP) goes.pace in
       let enough : (new.lives i).sends_until + new.time.pace.life + most new.time.pace KEEP + new.time.pace.life ≤ new.time.now =
       omega (arith, less, soon, life, keep, passed) in
       grind (arith, nat_tests)
+
+  pub falls_quiet : (W overtake : ℕ) (p : Plant) → IsReached W overtake p → (steps : List Step) (new : Plant) → PlantRun overtake steps p new
+      → AsksNone i steps → p.time.now + pause p.time.pace ≤ new.time.now → is_quiet (world_of new) i ≡ true
+  falls_quiet W overtake p r steps new run none passed =
+      quiet_after p new (asks_none i overtake steps p new run none) (run_on overtake steps p new run) (reached_soon W overtake p r) passed
+
+pub falls_quiet_in : PausesMakeQuietIn
+falls_quiet_in W overtake i ever first p r moves new run none passed =
+    let zero_at : (first.lives i).sends_until ≡ 0 = ap (λ (l : Life). l.sends_until) (r.fresh.lives i) in
+    let soon =
+    stretches_soon i overtake r.led.stretches r.led.middle p r.led.later
+    (all_soon i overtake r.led.steps first r.led.middle r.led.run (omega (arith, zero_at))) in
+    quiet_after i p new (moves_not i overtake moves p new run none) (moves_on overtake moves p new run) soon passed

@@ -1,11 +1,10 @@
 -- What stations do one after another, each by a call of its own.
-use Rattle.std.specs.Prelude.{◌≡◌, ℕ, true, false, List, [], ◌∷◌, Option, None, Some, slice_get}
+use Rattle.std.specs.Prelude.{◌≡◌, ℕ, true, false, List, [], ◌∷◌, Some, slice_get}
 use Rattle.bac_apdu.specs.Apdu.{Limits}
 use Rattle.bac_npdu.specs.Peers.{PeerView}
 use Rattle.bac_service.specs.Values.{Request}
 use Rattle.bac_store.specs.AtNode.{Change}
 use Rattle.bac_driver.specs.Changes.{MakesChange}
-use Rattle.bac_store.specs.Stores.{Store}
 use Rattle.bac_protocol.specs.Service.{Octets}
 use Rattle.bac_world.specs.World.{IsOfNone, is_quiet, link_at, peer_at}
 use Rattle.bac_driver.specs.Asking.{IsBegun}

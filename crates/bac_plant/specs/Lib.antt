@@ -2,6 +2,7 @@ pub mod Plants
 pub mod Network
 pub mod Steps
 pub mod Anew
+pub mod Moves
 pub mod Events
 pub mod NextSteps
 pub mod Composed
@@ -9,6 +10,7 @@ pub mod Chains
 pub mod Rounds
 pub mod Cuts
 pub mod NextCuts
+pub mod CutMoves
 pub mod Example
 pub mod Pauses
 pub mod Answers
@@ -18,3 +20,6 @@ pub mod WritesExamples
 pub mod Writes
 pub mod PowerCuts
 pub mod LongApdus
+pub mod LongStretches
+pub mod Runs
+pub mod CutRuns

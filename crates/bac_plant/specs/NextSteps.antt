@@ -1,5 +1,5 @@
 -- After each run of a plant, whatever a call promises can be its next step.
-use Rattle.std.specs.Prelude.{◌≡◌, ℕ, true, false, List, Option, Some, None, slice_get}
+use Rattle.std.specs.Prelude.{◌≡◌, ℕ, true, false, List, Option, Some, slice_get}
 use Rattle.bac_apdu.specs.Apdu.{Limits}
 use Rattle.bac_npdu.specs.Peers.{PeerView}
 use Rattle.bac_service.specs.Values.{Request}
@@ -28,6 +28,14 @@ pub record IsReached (W overtake : ℕ) (p : Plant) : Type 0 where
   pub bounded : IsBounded W overtake (world_of first)
   pub steps : List Step
   pub run : PlantRun overtake steps first p
+
+-- it is so of each plant that a run led to
+abbrev pub AfterEachRun : (GoOn : (overtake : ℕ) → Plant → Type 0) → Type 0
+AfterEachRun GoOn = (W overtake : ℕ) (p : Plant) → IsReached W overtake p → GoOn overtake p
+
+-- it is so of each plant
+abbrev pub InEachPlant : (GoOn : (overtake : ℕ) → Plant → Type 0) → Type 0
+InEachPlant GoOn = (overtake : ℕ) (p : Plant) → GoOn overtake p
 
 -- there is a plant after the step, in which that station is this one
 pub record LeadsTo (overtake : ℕ) (p : Plant) (step : Step) (station : ℕ) (after : BoundNode) : Type 0 where

@@ -4,10 +4,14 @@ use Rattle.bac_store.specs.Stores.{Store}
 use Rattle.bac_driver.specs.BoundNodes.{BoundNode}
 use Rattle.bac_driver.specs.Calls.{one_more, with_call}
 use Rattle.bac_driver.specs.Calls.Call.{FailedReceive}
-use Rattle.bac_driver.specs.Rounds.{FindsOneOf, MOST_COUNTED, OnlyReceives, ROUND, in_order, total}
-use Rattle.bac_driver.specs.Runs.{Run}
+use Rattle.bac_driver.specs.Observed.{Observed}
+use Rattle.bac_driver.specs.Rounds.{BreaksOff, FindsOneOf, MOST_COUNTED, OnlyReceives, ROUND, RoundFails, ServesRounds, TakesRound, in_order, total}
+use Rattle.bac_driver.specs.Runs.{Run, Timed}
+use Rattle.bac_driver.specs.Seen.{Watcher}
 use Rattle.bac_driver.specs.Serving.{performed_in}
 use Rattle.bac_driver.specs.Turns.{Turn}
+use Rattle.bac_driver.specs.declared.fault.RoundFault.{RoundFault}
+use Rattle.bac_driver.specs.declared.wait_limit.WaitLimit.{WaitLimit}
 use Rattle.bac_plant.specs.Steps.{AreSent, HoldsSomeTurn}
 
 -- a turn at some moment, whose sends are held
@@ -70,3 +74,33 @@ pub record StopsRoundsInChain {K : Type 0} (IsHonest : K → Type 0) (may_find :
   pub stops : StopsInRound middle after
   pub unsent : OnlyReceives middle.calls after.calls
   pub finds : FindsOneOf IsHonest may_find middle.node.store after.node.store keeper
+
+-- ---- what calls promise
+
+-- a round is one of a chain
+abbrev pub RoundIsInChain : {S : Type 0} → Watcher S → Type 0
+RoundIsInChain {S} Sees =
+    (p : WaitLimit) (old : Observed S) (effects : ℕ) (new : Observed S) → TakesRound Sees p old effects new
+    → RoundInChain old.timed.bound_node effects new.timed.bound_node
+
+-- after it the station is as after turns that it held
+abbrev pub RoundEndsAsHeld : {S : Type 0} → Watcher S → Type 0
+RoundEndsAsHeld {S} Sees =
+    (p : WaitLimit) (old : Observed S) (effects : ℕ) (new : Observed S) → TakesRound Sees p old effects new
+    → IsAsHeldInChain old.timed.bound_node new.timed.bound_node
+
+-- a round that fails stops
+abbrev pub FailedRoundStops : Type 0
+FailedRoundStops = (why : RoundFault) (p : WaitLimit) (old new : Timed) → RoundFails why p old new → StopsInRound old.bound_node new.bound_node
+
+-- serving in rounds is a chain of them
+abbrev pub ServingRoundsIsChain : {S : Type 0} → Watcher S → Type 0
+ServingRoundsIsChain {S} Sees =
+    (p : WaitLimit) (rounds effects : ℕ) (old new : Observed S) → ServesRounds Sees p rounds effects old new
+    → ServesRoundsInChain effects old.timed.bound_node new.timed.bound_node
+
+-- serving in rounds that a fault stops was one until then
+abbrev pub ServingRoundsStops : {S K : Type 0} → Watcher S → (IsHonest : K → Type 0) → (may_find : K → Store → Type 0) → Type 0
+ServingRoundsStops {S} {K} Sees IsHonest may_find =
+    (p : WaitLimit) (rounds : ℕ) (keeper : K) (old new : Observed S) → BreaksOff Sees p rounds IsHonest may_find keeper old new
+    → StopsRoundsInChain IsHonest may_find keeper old.timed.bound_node new.timed.bound_node

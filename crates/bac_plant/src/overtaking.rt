@@ -5,26 +5,33 @@ ghost use Rattle.bac_protocol.specs.Pace.{IsTimely};
 ghost use Rattle.bac_world.specs.Claims.{AreServedApart};
 ghost use Rattle.bac_world.specs.LongApdus.{RepliesFit, TakeLongApdus};
 ghost use Rattle.bac_world.specs.Once.{IsOnce};
-ghost use Rattle.bac_world.specs.ReusingLogs.{IsOnceSo};
-ghost use Rattle.bac_world.specs.World.{IsFresh, stores_of};
+ghost use Rattle.bac_world.specs.ReusingLogs.{IsOnceSo, NoneReuses, Reuses};
+ghost use Rattle.bac_world.specs.World.{IsFresh};
 ghost use Rattle.bac_plant.specs.Composed.{AreCalled, IsComposed, upon};
 ghost use Rattle.bac_plant.specs.LongApdus.{AllAskLong, CanReplyThroughout, IsReachedLong, RepliesFitBefore};
+ghost use Rattle.bac_plant.specs.LongStretches.{IsReachedLongIn, LongMovesGoOn};
 ghost use Rattle.bac_plant.specs.NextSteps.{AsksGoOn, HeldTurnsGoOn, TurnsGoOn};
-ghost use Rattle.bac_plant.specs.Plants.{HasNoReuse, Plant, nodes_of, settings_of, world_of};
+ghost use Rattle.bac_plant.specs.Plants.{Plant, world_of};
+ghost use Rattle.bac_plant.specs.Runs.{IsApartWithoutReuse, IsRight, IsRightWithoutReuse, OfLongRuns, stores_in};
 ghost use Rattle.bac_plant.specs.Steps.{PlantRun, Step};
 
 /// What `turns_are_events` says of a run of a fresh plant holds whatever overtakes what, if all stations take APDUs of 480 octets or more, and who asks one knows
 /// that. No reply in the log is longer than can be sent, as none of a store of this stack is.
 pub fn long_apdus_need_no_bound_on_overtaking()
-    ensures once { (W overtake : ℕ) (old new : Plant) → IsFresh (world_of old) → IsTimely old.time.pace → TakeLongApdus W (world_of old)
-        → (steps : List Step) → AllAskLong steps → PlantRun overtake steps old new → RepliesFit new.log
-        → IsOnceSo (settings_of old) (stores_of (nodes_of old.stations)) new.log (stores_of (nodes_of new.stations)) }
-    ensures once_without_reuse { (W overtake : ℕ) (old new : Plant) → IsFresh (world_of old) → IsTimely old.time.pace → TakeLongApdus W (world_of old)
-        → (steps : List Step) → AllAskLong steps → PlantRun overtake steps old new → RepliesFit new.log → HasNoReuse old
-        → IsOnce (stores_of (nodes_of old.stations)) new.log (stores_of (nodes_of new.stations)) }
-    ensures apart { (W overtake : ℕ) (old new : Plant) → IsFresh (world_of old) → IsTimely old.time.pace → TakeLongApdus W (world_of old)
-        → (steps : List Step) → AllAskLong steps → PlantRun overtake steps old new → RepliesFit new.log → HasNoReuse old
+    ensures once { OfLongRuns IsRight }
+    ensures once_without_reuse { OfLongRuns IsRightWithoutReuse }
+    ensures apart { OfLongRuns IsApartWithoutReuse }
+{}
+
+/// The same over restarts with other settings, if the stations that start so take such APDUs too. Moves, as those that power cuts make, lead on there.
+pub fn long_apdus_need_no_bound_with_other_settings()
+    ensures once { (W overtake : ℕ) (ever : Reuses) (first new : Plant) → IsReachedLongIn W overtake ever first new
+        → IsOnceSo ever (stores_in first) new.log (stores_in new) }
+    ensures once_without_reuse { (W overtake : ℕ) (ever : Reuses) (first new : Plant) → IsReachedLongIn W overtake ever first new → NoneReuses ever
+        → IsOnce (stores_in first) new.log (stores_in new) }
+    ensures apart { (W overtake : ℕ) (ever : Reuses) (first new : Plant) → IsReachedLongIn W overtake ever first new → NoneReuses ever
         → AreServedApart (world_of new) }
+    ensures moves { LongMovesGoOn }
 {}
 
 /// There too, whatever a call promises of a station is a step of the plant, as `calls_go_on` says: a turn, a turn whose sends are held, and an ask. Of its other

@@ -1,16 +1,11 @@
 //! The answers that clients get, of servers of either setting: a law.
 //!
 //! The definitions are in `specs/Answers` and `specs/Moments`, and `examples` has logs that are computed. The functions here have no body: each carries a law as its contract.
-ghost use Rattle.std.specs.Prelude.{ℕ, List};
-ghost use Rattle.bac_protocol.specs.Pace.{IsTimely};
-ghost use Rattle.bac_world.specs.Claims.{AreReplayed};
-ghost use Rattle.bac_world.specs.LongApdus.{AllAskLong, RepliesFit, TakeLongApdus};
+ghost use Rattle.std.specs.Prelude.{List};
 ghost use Rattle.bac_world.specs.Once.{Fact, IsOnce, Stores};
 ghost use Rattle.bac_world.specs.ReusingLogs.{IsOnceSo, Reuses};
-ghost use Rattle.bac_world.specs.ReusingWorlds.{WorldRunSo};
-ghost use Rattle.bac_world.specs.World.{Event, IsBounded, IsFresh, World, stores_of};
 ghost use Rattle.bac_plant.specs.Answers.{AnswersAreReplies};
-ghost use Rattle.bac_plant.specs.Moments.{AnswersAreOfMoments};
+ghost use Rattle.bac_plant.specs.Moments.{AnswersAreOfMoments, AnswersInLog, OfLongWorldRuns, OfWorldRuns, StoresAreReplayed};
 
 /// After every run of a fresh world, each answer that ends an ask is the reply of its server's store to its request. The request may be a read, a
 /// write or an append. The store is as it was at a moment between the ask and its end. That holds whichever nodes let clients use an invoke ID again,
@@ -22,12 +17,9 @@ ghost use Rattle.bac_plant.specs.Moments.{AnswersAreOfMoments};
 /// of either setting (`logs`), or in those of the headline (`headline`).
 #[tactic(auto, using(crate::proofs::Answers::in_logs, crate::proofs::Answers::in_logs_of_headline))]
 pub fn answers_are_replies()
-    ensures runs { (W overtake : ℕ) (u : Reuses) (w w' : World) → IsFresh w → IsTimely w.time.pace → IsBounded W overtake w → (events : List Event)
-        → WorldRunSo overtake u w events w' → AnswersAreReplies (stores_of w.nodes) w'.log }
-    ensures moments { (W overtake : ℕ) (u : Reuses) (w w' : World) → IsFresh w → IsTimely w.time.pace → IsBounded W overtake w → (events : List Event)
-        → WorldRunSo overtake u w events w' → AnswersAreOfMoments overtake u w events w' }
-    ensures stores { (W overtake : ℕ) (u : Reuses) (w w' : World) → IsFresh w → IsTimely w.time.pace → IsBounded W overtake w → (events : List Event)
-        → WorldRunSo overtake u w events w' → AreReplayed (stores_of w.nodes) w'.log (stores_of w'.nodes) }
+    ensures runs { OfWorldRuns AnswersInLog }
+    ensures moments { OfWorldRuns AnswersAreOfMoments }
+    ensures stores { OfWorldRuns StoresAreReplayed }
     ensures logs { (u : Reuses) (opening : Stores) (log : List Fact) (stores : Stores) → IsOnceSo u opening log stores → AnswersAreReplies opening log }
     ensures headline { (opening : Stores) (log : List Fact) (stores : Stores) → IsOnce opening log stores → AnswersAreReplies opening log }
 {}
@@ -35,10 +27,7 @@ pub fn answers_are_replies()
 /// The same whatever overtakes what, if all nodes take APDUs of 480 octets or more, and who asks one knows that. No reply in the log is longer than can be sent,
 /// as none of a store of this stack is.
 pub fn answers_are_replies_with_long_apdus()
-    ensures runs { (W overtake : ℕ) (u : Reuses) (w w' : World) → IsFresh w → IsTimely w.time.pace → TakeLongApdus W w → (events : List Event)
-        → AllAskLong events → WorldRunSo overtake u w events w' → RepliesFit w'.log → AnswersAreReplies (stores_of w.nodes) w'.log }
-    ensures moments { (W overtake : ℕ) (u : Reuses) (w w' : World) → IsFresh w → IsTimely w.time.pace → TakeLongApdus W w → (events : List Event)
-        → AllAskLong events → WorldRunSo overtake u w events w' → RepliesFit w'.log → AnswersAreOfMoments overtake u w events w' }
-    ensures stores { (W overtake : ℕ) (u : Reuses) (w w' : World) → IsFresh w → IsTimely w.time.pace → TakeLongApdus W w → (events : List Event)
-        → AllAskLong events → WorldRunSo overtake u w events w' → RepliesFit w'.log → AreReplayed (stores_of w.nodes) w'.log (stores_of w'.nodes) }
+    ensures runs { OfLongWorldRuns AnswersInLog }
+    ensures moments { OfLongWorldRuns AnswersAreOfMoments }
+    ensures stores { OfLongWorldRuns StoresAreReplayed }
 {}

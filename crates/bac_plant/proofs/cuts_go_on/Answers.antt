@@ -14,5 +14,5 @@ returns-clause-found g c = λ overtake keeper before after as_held finds honest 
 
 pub returns-clause-kept : goal.returns-clause-kept
 returns-clause-kept g c = λ overtake keeper stands is honest s may.
-    kept_stores_go_on g.K.Keeper.IsHonest g.K.Keeper.IsOpen g.K.Keeper.kept g.K.Keeper.noted g.K.Keeper.may_find g.met.K.Keeper.settled overtake keeper stands
+    kept_stores_go_on g.K.Keeper.IsHonest g.K.Keeper.may_find g.K.Keeper.IsOpen g.K.Keeper.kept g.K.Keeper.noted g.met.K.Keeper.settled overtake keeper stands
     is honest s may
