@@ -52,6 +52,7 @@ pub mod FreshServing
 pub mod FreshRoundTrips
 pub mod FreshNodes
 pub mod FreeKeys
+pub mod NewAsks
 pub mod FreshComputed
 pub mod Repeating
 pub mod WorldComputed

@@ -10,7 +10,7 @@ use Rattle.bac_protocol.specs.Client as client
 use Rattle.bac_protocol.specs.Client.{Ask, ClientTransaction, Reaction, is_idle, is_expired}
 use Rattle.bac_protocol.specs.Client.Reaction.{Stays, Ends}
 use Rattle.bac_protocol.specs.Log as octets
-use Rattle.bac_protocol.specs.Transaction.{Rules, ended}
+use Rattle.bac_protocol.specs.Transaction.{Rules}
 use Rattle.bac_protocol.specs.World.{Net, net_start}
 use Rattle.bac_protocol.specs.Claims as claims
 use Rattle.bac_protocol.proofs.SingleMoves.{in_order}
@@ -34,7 +34,7 @@ use Rattle.bac_liveness.specs.WorldEnds.{IsOpen}
 use Rattle.bac_liveness.proofs.Paths.{Any, Bounded, bounded_start}
 use Rattle.bac_liveness.proofs.Changes.{HasEnded}
 use Rattle.bac_liveness.proofs.Endings.{ended_once}
-use Rattle.bac_liveness.proofs.Asked.{after_ask, key, made}
+use Rattle.bac_liveness.proofs.Asked.{after_ask}
 use Rattle.bac_liveness.proofs.Following.{Followed, Gives, step_followed, run_followed}
 
 -- Runs one after the other.

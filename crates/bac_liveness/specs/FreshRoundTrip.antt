@@ -1,6 +1,6 @@
 -- One round trip at a server of fresh reads (clause 5.4), in every world, for a request and a reply of one APDU. Such a server performs a read each time that it
 -- comes, so the answer is the reply of its store as it is then; all else is performed once, and remembered.
-use Rattle.std.specs.Prelude.{◌≡◌, ◌⊎◌, ℕ, ◌-◌, ◌≤◌, true, false, List, [], ◌∷◌, ◌++◌, length, Some, slice_get}
+use Rattle.std.specs.Prelude.{◌≡◌, ◌⊎◌, ℕ, suc, ◌-◌, ◌≤◌, true, false, List, [], ◌∷◌, ◌++◌, length, Some, slice_get}
 use Rattle.bac_apdu.specs.Apdu.{Limits}
 use Rattle.bac_service.specs.Values.{Request, choice_of}
 use Rattle.bac_store.specs.Replies.{reply_to}
@@ -21,7 +21,7 @@ use Rattle.bac_transaction.specs.Reuse.{is_read}
 use Rattle.bac_transaction.specs.Services.{outcome_of}
 use Rattle.bac_transaction.specs.Sharing.{may_begin}
 use Rattle.bac_world.specs.Node.{Node}
-use Rattle.bac_world.specs.Once.{Has}
+use Rattle.bac_world.specs.Once.{Fact, Has}
 use Rattle.bac_world.specs.Once.Fact.{Performed, Ended}
 use Rattle.bac_world.specs.ReusingLogs.{Reuses}
 use Rattle.bac_world.specs.ReusingWorlds.{WorldRunSo, WorldStepSo}
@@ -90,3 +90,25 @@ RoundTripSufficesAnew overtake u old =
     → (number : ℕ) (c : Copy) → MayArrive overtake w number c → IsRequest a.sent c
     → (node : Node) → slice_get w.nodes server ≡ Some node → PerformsNow (told w server) a.before node a.accepted.invoke_id r
     → WorldStepSo overtake u w (Deliver number) served → IsServedAnew overtake u old client a.link a.accepted.invoke_id r node w served
+
+-- A new ask at such a server, over a network that delivers: its invoke ID is free, so no entry of it is live there. Where it is a read, or its address has a
+-- slot, and the reply of the server's store goes in one APDU, the delivery of the request and then of its answer end it with that reply.
+pub record IsPlaced (now : ℕ) (client server : Node) (invoke_id : ℕ) (r : Request) : Type 0 where
+  pub place : (is_read (choice_of r) ≡ true)
+      ⊎ (may_begin true false now (record { peer = peer_at client.link; invoke_id = invoke_id }) server.servers ≡ true)
+  pub reply : machine.Reply
+  pub outcome : outcome_of (reply_to server.store r) ≡ Replies reply
+  pub way : reply_way_of server.settings client.settings.limits reply ≡ InOne
+
+-- it was performed with the reply of the store, and ended with that
+pub record EndsWith (n : ℕ) (r : Request) (node : Node) (log : List Fact) : Type 0 where
+  pub performed : Has (Performed n r (reply_to node.store r)) log
+  pub ended : Has (Ended n (Answered (reply_to node.store r))) log
+
+abbrev pub NewAskIsAnswered : (overtake : ℕ) → Reuses → World → Type 0
+NewAskIsAnswered overtake u old =
+    (client server : ℕ) (limits : Limits) (r : Request) (asked : World) → (a : IsAsked old client server limits r asked)
+    → IsWhole old client server limits r asked a → u server ≡ true
+    → (node : Node) → slice_get old.nodes server ≡ Some node → IsPlaced (told old server) a.before node a.accepted.invoke_id r
+    → (new : World) → WorldRunSo overtake u asked (Deliver (length old.copies) ∷ Deliver (suc (length old.copies)) ∷ []) new
+    → EndsWith (length old.notes) r node new.log

@@ -6,7 +6,7 @@ ghost use Rattle.bac_world.specs.ReusingLogs.{Reuses};
 ghost use Rattle.bac_world.specs.ReusingWorlds.{WorldRunSo};
 ghost use Rattle.bac_world.specs.World.{World, Event, IsFresh, IsBounded};
 ghost use Rattle.bac_liveness.specs.FreshNodes.{AnswerEndsSo, RepeatIsRemembered, RequestIsPerformedAnew};
-ghost use Rattle.bac_liveness.specs.FreshRoundTrip.{RoundTripSufficesAnew};
+ghost use Rattle.bac_liveness.specs.FreshRoundTrip.{NewAskIsAnswered, RoundTripSufficesAnew};
 ghost use Rattle.bac_liveness.specs.WorldEnds.{AsksEndSo, NodesAreInOrder};
 
 /// Each ask ends, by the same bound: in every world that a run reached, each ask that is accepted has at most one ending, and once a tick of its client has
@@ -32,6 +32,13 @@ pub fn nodes_are_in_order()
 pub fn round_trip_suffices()
     ensures { (u : Reuses) (W overtake : ℕ) (opening reached : World) → IsFresh opening → IsTimely opening.time.pace → IsBounded W overtake opening
         → (events : List Event) → WorldRunSo overtake u opening events reached → RoundTripSufficesAnew overtake u reached }
+{}
+
+/// A new ask at a server of fresh reads, over a network that delivers: where its request goes in one APDU, and is a read or finds a free slot for its address,
+/// and the reply of the server's store goes in one APDU, the delivery of the request and then of its answer perform it with that reply, and end it so.
+pub fn new_ask_is_answered()
+    ensures { (u : Reuses) (W overtake : ℕ) (opening reached : World) → IsFresh opening → IsTimely opening.time.pace → IsBounded W overtake opening
+        → (events : List Event) → WorldRunSo overtake u opening events reached → NewAskIsAnswered overtake u reached }
 {}
 
 /// An APDU of a server that comes for an open ticket of a node of either rule, more than 60,000 ms after its first sending, ends it as Expired, once.
