@@ -14,7 +14,6 @@ use Rattle.bac_protocol.specs.Transaction.{Key, Rules}
 use Rattle.bac_protocol.specs.Pace.{IsTimely}
 use Rattle.bac_protocol.specs.World.{Net, is_lost}
 use Rattle.bac_protocol.specs.Claims as claims
-use Rattle.bac_protocol.proofs.SingleMoves.{reached_net}
 use Rattle.bac_slots.specs.Slots.{value_at, in_order, IsApart, IsDistinct}
 use Rattle.bac_transaction.specs.Keys.{PeerKey, peer_key_cmp, same_key}
 use Rattle.bac_transaction.specs.Sends.{Pairwise}
@@ -26,7 +25,7 @@ use Rattle.bac_transaction.specs.Ends.TransactionSlot.{Open, Closed}
 use Rattle.bac_transaction.proofs.KeyedSlots.{EachSlot, changed_value, value_changed, with_same, slot, decide_slot_key, apart_none, found_first, passed_first}
 use Rattle.bac_transaction.proofs.KeyedSlots.{distinct_in_order, each_in_order, found_in_order, each_at}
 use Rattle.bac_world.specs.Node.{Node, Outcome, NodeTick, IsHeardBy, IsClientTurn}
-use Rattle.bac_world.specs.World.{World, WorldRun, Event, IsFresh, IsBounded, ask_of, is_away, peer_at, link_at}
+use Rattle.bac_world.specs.World.{World, WorldRun, Event, IsFresh, IsBounded, ask_of, is_away, peer_at, link_at, stores_of}
 use Rattle.bac_world.proofs.Bridge.{here_at, IsKnown, IsStranger, TicketFits, slot_key, out_key, newest_near, key_of as node_key}
 use Rattle.bac_world.proofs.Machines.{away_apart}
 use Rattle.bac_world.proofs.Pairs.{IsSplit, pairwise_split, pairwise_none}
@@ -34,11 +33,16 @@ use Rattle.bac_world.proofs.ClientTick.{client_tick}
 use Rattle.bac_world.proofs.Hearing.{ticket_at, out_one}
 use Rattle.bac_world.proofs.NodeLaws.{heard_as}
 use Rattle.bac_world.proofs.Steps.{Over}
-use Rattle.bac_world.proofs.Headline.{fresh_over, rules_of, rules_bounded}
+use Rattle.bac_world.proofs.AsEver.{run_as}
+use Rattle.bac_world.proofs.Headline.{fresh_over, rules_of, rules_bounded, run_over_so}
+use Rattle.bac_world.proofs.Settings.{Setting, always, reuses_in}
+use Rattle.bac_world.specs.ReusingLogs.{Reuses}
+use Rattle.bac_world.specs.ReusingWorlds.{WorldRunSo}
 use Rattle.bac_liveness.specs.WorldEnds.{IsOpen, finishes_of, expired, HasFinish, HasTicketsApart, TickEnds, AnswerEnds, NodesAreInOrder}
 use Rattle.bac_liveness.proofs.Serving.{late_gets}
 use Rattle.bac_liveness.proofs.Endings.{not_from_client}
-use Rattle.bac_liveness.proofs.WorldEndings.{opened, tick_leaves, on_run, opened_net}
+use Rattle.bac_liveness.proofs.Followers.{are_numbered}
+use Rattle.bac_liveness.proofs.WorldEndings.{opened, tick_leaves, opened_net, opened_once}
 
 -- Lists of endings.
 
@@ -242,7 +246,7 @@ answer_ends now peer a old new o gets from apart number t there late = record { 
 -- Nodes of a world that was reached.
 
 module _ (links : ℕ → Option Octets) (apart : (i j : ℕ) (l : Octets) → links i ≡ Some l → links j ≡ Some l → i ≡ j) (W : ℕ) (x : Rules)
-    (bound : claims.IsBounded W x) (w : World) (n : Net) (over : Over links apart W x None w n) (i : ℕ) (a : Node) (at : slice_get w.nodes i ≡ Some a) where
+    (set : Setting) (bound : claims.IsBounded W x) (w : World) (n : Net) (over : Over links apart W x set w n) (i : ℕ) (a : Node) (at : slice_get w.nodes i ≡ Some a) where
   pub record IsTicketOf (p : PeerKey) (number : ℕ) (t : ClientTransaction) : Type 0 where
     pub server : ℕ
     pub link : Octets
@@ -331,12 +335,12 @@ module _ (links : ℕ → Option Octets) (apart : (i j : ℕ) (l : Octets) → l
   same_key_of p q number t u (inr one) (inr two) =
       let numbers : n.far.numbers (out_key i p) ≡ n.far.numbers (out_key i q) =
       (let e : Some (n.far.numbers (out_key i p)) ≡ Some (n.far.numbers (out_key i q)) = sym one.number_is ∙ two.number_is in cc) in
-      out_one i p q (away_apart W x None bound n over.sound (out_key i p) (out_key i q) t u one.ticket two.ticket numbers)
+      out_one i p q (away_apart W x set bound n over.sound (out_key i p) (out_key i q) t u one.ticket two.ticket numbers)
   same_key_of p q number t u (inl one) (inl two) =
       let numbers : n.numbers (node_key i one.server p.invoke_id) ≡ n.numbers (node_key i two.server q.invoke_id) =
       (let e : Some (n.numbers (node_key i one.server p.invoke_id)) ≡ Some (n.numbers (node_key i two.server q.invoke_id)) =
       sym one.number_is ∙ two.number_is in cc) in
-      let key = (reached_net W x bound over.sound.0 over.sound.2 over.sound.1 n over.sound.3).apart (node_key i one.server p.invoke_id) (node_key i two.server q.invoke_id) t u
+      let key = are_numbered W x bound set n over.sound (node_key i one.server p.invoke_id) (node_key i two.server q.invoke_id) t u
       one.ticket two.ticket numbers in
       let link : one.link ≡ two.link =
       (let e : Some one.link ≡ Some two.link = sym one.linked ∙ ap (λ (k : Key). links k.server) key ∙ two.linked in cc) in
@@ -349,11 +353,17 @@ module _ (links : ℕ → Option Octets) (apart : (i j : ℕ) (l : Octets) → l
     going = λ p number t there. going_of p number t (ticket_of p number t there);
   }
 
+-- of either rule
+pub nodes_in_order_so : (u : Reuses) (W overtake : ℕ) (opening reached : World) → IsFresh opening → IsTimely opening.time.pace → IsBounded W overtake opening
+    → (events : List Event) → WorldRunSo overtake u opening events reached → NodesAreInOrder reached
+nodes_in_order_so u W overtake opening reached fresh timely bounded events run i a at =
+    let set : Setting = Some (always u) in
+    let bound = rules_bounded W overtake opening bounded in
+    let m = run_over_so (link_at opening.nodes) fresh.apart W (rules_of overtake opening) set bound refl (stores_of opening.nodes) events opening reached
+    (opened_net opening) (fresh_over set W overtake opening fresh timely bounded) (opened_once u opening fresh) run in
+    tickets_apart (link_at opening.nodes) fresh.apart W (rules_of overtake opening) set bound reached m.0 m.1 i a at
+
 pub nodes_in_order : (W overtake : ℕ) (opening reached : World) → IsFresh opening → IsTimely opening.time.pace → IsBounded W overtake opening
     → (events : List Event) → WorldRun overtake opening events reached → NodesAreInOrder reached
-nodes_in_order W overtake opening reached fresh timely bounded events run i a at =
-    let x : Rules = rules_of overtake opening in
-    let bound = rules_bounded W overtake opening bounded in
-    let f = on_run (link_at opening.nodes) fresh.apart W x bound refl events opening reached (opened_net opening)
-    (fresh_over None W overtake opening fresh timely bounded) run in
-    tickets_apart (link_at opening.nodes) fresh.apart W x bound reached f.net f.over i a at
+nodes_in_order W overtake opening reached fresh timely bounded events run =
+    nodes_in_order_so (reuses_in None) W overtake opening reached fresh timely bounded events (run_as overtake opening events reached run)

@@ -58,7 +58,7 @@ use Rattle.bac_liveness.proofs.Paths.{ask_of, Comes, Step, Path, path_then}
 use Rattle.bac_liveness.proofs.Paths.Path.{Here, Then}
 
 -- in the first of these events a node does not restart, nor in the rest
-first_on : (i : ℕ) (e : Event) (es : List Event) → RunsOn i (e ∷ es) → RunsOn i (e ∷ []) × RunsOn i es
+pub first_on : (i : ℕ) (e : Event) (es : List Event) → RunsOn i (e ∷ es) → RunsOn i (e ∷ []) × RunsOn i es
 first_on i (Ask c s limits r) es h = (tt, h)
 first_on i (AskAway c peer limits r) es h = (tt, h)
 first_on i (Deliver number) es h = (tt, h)

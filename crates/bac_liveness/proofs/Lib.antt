@@ -43,6 +43,17 @@ pub mod AtNode
 pub mod Values
 pub mod Performing
 pub mod WorldRoundTrips
+pub mod Followers
+pub mod OpenTickets
+pub mod GrowingLogs
+pub mod Tracking
+pub mod EitherEndings
+pub mod FreshServing
+pub mod FreshRoundTrips
+pub mod FreshNodes
+pub mod FreeKeys
+pub mod NewAsks
+pub mod FreshComputed
 pub mod Repeating
 pub mod WorldComputed
 pub mod StraightRuns

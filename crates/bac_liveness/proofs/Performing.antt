@@ -31,7 +31,7 @@ use Rattle.bac_liveness.proofs.Serving.{answer_any_time, performed_entry, answer
 use Rattle.bac_liveness.proofs.Following.{Parts}
 use Rattle.bac_liveness.proofs.Asked.{key, ask, client_link}
 
-none_is : (now : ℕ) (o : Option ServerTransaction) → live_entry now o ≡ None → is_none_live now o ≡ true
+pub none_is : (now : ℕ) (o : Option ServerTransaction) → live_entry now o ≡ None → is_none_live now o ≡ true
 none_is now None h = refl
 none_is now (Some e) h = go (is_live now e) h
   where

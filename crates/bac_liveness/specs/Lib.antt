@@ -12,6 +12,9 @@ pub mod WorldRuns
 pub mod WorldEnds
 pub mod WorldRoundTrip
 pub mod WorldRepeats
+pub mod FreshRoundTrip
+pub mod FreshNodes
+pub mod FreshExamples
 pub mod WorldExamples
 pub mod StraightRuns
 pub mod StraightAnswers

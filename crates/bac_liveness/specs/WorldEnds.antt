@@ -15,6 +15,8 @@ use Rattle.bac_transaction.specs.Ends.TransactionSlot.{Open, Closed}
 use Rattle.bac_world.specs.Node.{Node, Outcome, NodeTick}
 use Rattle.bac_world.specs.Laws.{Gets}
 use Rattle.bac_world.specs.Keys.{HasKeysApart}
+use Rattle.bac_world.specs.ReusingLogs.{Reuses}
+use Rattle.bac_world.specs.ReusingWorlds.{WorldRunSo, WorldStepSo}
 use Rattle.bac_world.specs.World.{World, Copy, Event, WorldStep, WorldRun, IsAsked, RunsOn, told}
 use Rattle.bac_world.specs.World.Event.{Deliver, Tick}
 use Rattle.bac_liveness.specs.WorldRuns.{endings_of}
@@ -68,23 +70,35 @@ AnswerEnds =
 
 -- the next ask is accepted: until DEADLINE and beyond it ends at most once; a tick of its client more than DEADLINE later by its own clock, or a copy of its
 -- server's in this transaction that is delivered then, leaves it ended, once, for good, whatever happens in between, but for a restart of its client, and
--- afterwards
-pub record EndsInTime (overtake : ℕ) (old : World) (client server : ℕ) (invoke_id : ℕ) (asked : World) : Type 0 where
-  pub before : (events : List Event) (w : World) → WorldRun overtake asked events w → endings_of (length old.notes) w.log ≤ 1
-  pub tick : (between : List Event) (late ticked : World) → WorldRun overtake asked between late → RunsOn client between
+-- afterwards; steps and runs are those of worlds of either rule
+pub record EndsIn (Step : World → Event → World → Type 0) (Run : World → List Event → World → Type 0) (overtake : ℕ) (old : World)
+    (client server : ℕ) (invoke_id : ℕ) (asked : World) : Type 0 where
+  pub before : (events : List Event) (w : World) → Run asked events w → endings_of (length old.notes) w.log ≤ 1
+  pub tick : (between : List Event) (late ticked : World) → Run asked between late → RunsOn client between
       → DEADLINE < told late client - told old client
-      → WorldStep overtake late (Tick client) ticked
-      → (after : List Event) (w : World) → WorldRun overtake ticked after w → endings_of (length old.notes) w.log ≡ 1
-  pub answer : (between : List Event) (late answered : World) → WorldRun overtake asked between late → RunsOn client between
+      → Step late (Tick client) ticked
+      → (after : List Event) (w : World) → Run ticked after w → endings_of (length old.notes) w.log ≡ 1
+  pub answer : (between : List Event) (late answered : World) → Run asked between late → RunsOn client between
       → DEADLINE < told late client - told old client
-      → (number : ℕ) (c : Copy) → MayArrive overtake late number c → IsFromServer client server invoke_id c → WorldStep overtake late (Deliver number) answered
-      → (after : List Event) (w : World) → WorldRun overtake answered after w → endings_of (length old.notes) w.log ≡ 1
+      → (number : ℕ) (c : Copy) → MayArrive overtake late number c → IsFromServer client server invoke_id c → Step late (Deliver number) answered
+      → (after : List Event) (w : World) → Run answered after w → endings_of (length old.notes) w.log ≡ 1
 
--- each ask that this world accepts
-abbrev pub AsksEnd : (overtake : ℕ) → World → Type 0
-AsksEnd overtake old =
+-- so does each ask that this world accepts
+abbrev pub AsksEndIn : (Step : World → Event → World → Type 0) (Run : World → List Event → World → Type 0) → (overtake : ℕ) → World → Type 0
+AsksEndIn Step Run overtake old =
     (client server : ℕ) (limits : Limits) (r : Request) (asked : World) → (a : IsAsked old client server limits r asked)
-    → EndsInTime overtake old client server a.accepted.invoke_id asked
+    → EndsIn Step Run overtake old client server a.accepted.invoke_id asked
+
+-- where no node lets invoke IDs be used again
+abbrev pub EndsInTime : (overtake : ℕ) → World → (client server : ℕ) → (invoke_id : ℕ) → World → Type 0
+EndsInTime overtake = EndsIn (WorldStep overtake) (WorldRun overtake) overtake
+
+abbrev pub AsksEnd : (overtake : ℕ) → World → Type 0
+AsksEnd overtake old = AsksEndIn (WorldStep overtake) (WorldRun overtake) overtake old
+
+-- where these nodes do
+abbrev pub AsksEndSo : (overtake : ℕ) → Reuses → World → Type 0
+AsksEndSo overtake u old = AsksEndIn (WorldStepSo overtake u) (WorldRunSo overtake u) overtake old
 
 -- each node of a world
 abbrev pub NodesAreInOrder : World → Type 0

@@ -1,5 +1,6 @@
-//! Where the laws end: runs in which an ask is not answered.
+//! Where the laws end: runs in which an ask is not answered, or in which a server of fresh reads does what no strict one does.
 
+ghost use Rattle.bac_liveness.specs.FreshExamples.{AnswerUnheard, ReadTwice};
 ghost use Rattle.bac_liveness.specs.Failures.{WindowUsedUp, ReplyUsedUp, TooOld, OutOfPatience, RepeatWasted, OldAbort};
 
 /// Requests in segments: the retries of a window or of a reply are used up, and a reassembly is too old.
@@ -16,4 +17,11 @@ pub fn requests_of_one_apdu()
     ensures wait_limit { OutOfPatience }
     ensures repeat { RepeatWasted }
     ensures abort { OldAbort }
+{}
+
+/// Fresh reads: one is performed twice, and ends with the later reply; and the answer of one APDU leaves an ask open that collects an earlier one in segments.
+#[tactic(auto, using(crate::proofs::FreshComputed::read_twice, crate::proofs::FreshComputed::answer_unheard))]
+pub fn fresh_reads()
+    ensures twice { ReadTwice }
+    ensures unheard { AnswerUnheard }
 {}

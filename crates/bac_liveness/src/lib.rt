@@ -9,6 +9,7 @@ pub mod examples;
 pub mod failures;
 pub mod machines;
 pub mod node;
+pub mod reusing;
 pub mod straight;
 pub mod tables;
 pub mod world_examples;

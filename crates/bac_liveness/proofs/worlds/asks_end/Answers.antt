@@ -1,5 +1,5 @@
 -- Each ask ends.
-use Rattle.bac_liveness.proofs.WorldEndings.{asks_end}
+use Rattle.bac_liveness.proofs.EitherEndings.{asks_end}
 use Rattle.bac_liveness.proofs.worlds.asks_end.Goals as goal
 
 pub returns : goal.returns
