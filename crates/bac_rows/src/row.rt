@@ -1,6 +1,7 @@
 //! Words of a line by their places, and what a row prints.
 //!
-//! No call stops at a fault: a word without a meaning stands for 0 or for no octets, and what finds no memory is left out. A fault shows in what is printed.
+//! No call stops at a fault: a word without a meaning stands for 0 or for no octets, and what finds no memory is left out. Either shows in what is printed.
+//! Where that does not suffice, calls whose names say so note a fault.
 //! The type of what a row prints names no lifetime, and words are read by functions of their own: so the check of a caller stays small.
 use std::alloc::Global;
 use std::fmt::Display;
@@ -106,6 +107,31 @@ impl Row {
         match hex::decode(self.alloc, word(words, place)) {
             Ok(octets) => octets,
             Err(_) => Vec::new(self.alloc),
+        }
+    }
+
+    /// The decimal number of that place; a fault where it is none.
+    pub fn number_or_fault(&mut self, words: &str, place: usize) -> u64 {
+        let number = word(words, place).parse::<u64>().ok();
+        self.needs(number.is_some());
+        number.unwrap_or(0)
+    }
+
+    /// The decimal number of at most 255 of that place; a fault where it is none.
+    pub fn number8_or_fault(&mut self, words: &str, place: usize) -> u8 {
+        let number = word(words, place).parse::<u8>().ok();
+        self.needs(number.is_some());
+        number.unwrap_or(0)
+    }
+
+    /// The octets of the hexadecimal word of that place; a fault where it is none.
+    pub fn octets_or_fault(&mut self, words: &str, place: usize) -> Vec<u8> {
+        match hex::decode(self.alloc, word(words, place)) {
+            Ok(octets) => octets,
+            Err(_) => {
+                self.has_failed = true;
+                Vec::new(self.alloc)
+            }
         }
     }
 
