@@ -74,15 +74,19 @@ fn datagram(octets: &[u8], row: &mut Row) {
     }
 }
 
-/// Each front of a datagram, with its own length in the BVLL.
+/// A front of a datagram, with its own length in the BVLL.
+fn front(octets: &mut [u8], len: usize, row: &mut Row) {
+    // the low octet of the length (clause J.2)
+    if let Some(octet) = octets.get_mut(3) {
+        *octet = (len % 256) as u8;
+    }
+    row.tell("#: ", len as u64);
+    datagram(octets.get(..len).unwrap_or(&[]), row);
+}
+
 fn fronts(octets: &mut [u8], row: &mut Row) {
     for len in 0..octets.len() {
-        // the low octet of the length (clause J.2)
-        if let Some(octet) = octets.get_mut(3) {
-            *octet = (len % 256) as u8;
-        }
-        row.tell("#: ", len as u64);
-        datagram(octets.get(..len).unwrap_or(&[]), row);
+        front(octets, len, row);
     }
 }
 

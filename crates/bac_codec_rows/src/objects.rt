@@ -7,7 +7,7 @@ use bac_store::{Allowed, File, Object, Property};
 use bac_value::{ObjectIdentifier, read_data};
 use std::alloc::Global;
 
-/// The identifier `TYPE:INSTANCE`; that of device 0 of another word.
+/// The identifier `TYPE:INSTANCE`; None where no object has it.
 pub(crate) fn identifier(word: &str) -> Option<ObjectIdentifier> {
     let (kind, instance) = word.split_once(':').unwrap_or((word, ""));
     ObjectIdentifier::new(
@@ -70,18 +70,23 @@ fn put_part(part: &str, object: &mut Object, row: &mut Row) {
     }
 }
 
+/// The object of an identifier with these parts.
+fn object_of(id: ObjectIdentifier, parts: &str, row: &mut Row) -> Object {
+    let mut object = bare(row.alloc, id);
+    for part in parts.split('/') {
+        if !part.is_empty() {
+            put_part(part, &mut object, row);
+        }
+    }
+    object
+}
+
 /// Adds the object of a word.
 fn put_object(word: &str, objects: &mut Vec<Object>, row: &mut Row) {
     let (name, parts) = word.split_once('/').unwrap_or((word, ""));
     match identifier(name) {
         Some(id) => {
-            let mut object = bare(row.alloc, id);
-            for part in parts.split('/') {
-                if !part.is_empty() {
-                    put_part(part, &mut object, row);
-                }
-            }
-            row.needs(objects.push(object).is_ok());
+            let _ = objects.push(object_of(id, parts, row));
         }
         None => row.fail(),
     }
