@@ -1,7 +1,7 @@
 //! Rows of inputs that fail in the middle of a capture file, and of outputs that fail.
-use crate::printing::{Print, print_end, print_over, status_of};
-use crate::words::{first, number, octets_of};
-use std::alloc::Global;
+use crate::printing::{Print, print_end, print_over};
+use crate::words::octets_of;
+use bac_rows::row::{Row, after, number, word};
 use std::io;
 use std::io::{BufReader, ErrorKind, Read};
 
@@ -24,37 +24,29 @@ impl Read for Broken<'_> {
     }
 }
 
-/// How an input fails.
-fn fault_of(word: &str) -> Option<ErrorKind> {
-    match word.as_bytes() {
-        b"denied" => Some(ErrorKind::PermissionDenied),
-        b"memory" => Some(ErrorKind::OutOfMemory),
-        _ => None,
+fn print_broken(left: &[u8], fault: ErrorKind, row: &mut Row) {
+    match BufReader::new(row.alloc, Broken { left, fault }) {
+        Ok(mut input) => print_over(Print::Check(false), &mut input, row),
+        Err(_) => row.fail(),
     }
 }
 
-fn print_broken(alloc: Global, left: &[u8], fault: ErrorKind, out: &mut Vec<u8>) -> Option<()> {
-    let Ok(mut input) = BufReader::new(alloc, Broken { left, fault }) else {
-        return None;
+/// `FAULT HEX`: a file that gives these octets, and then fails so: `denied`, or for want of memory.
+pub(crate) fn input(words: &str, row: &mut Row) {
+    let fault = if word(words, 0) == "denied" {
+        ErrorKind::PermissionDenied
+    } else {
+        ErrorKind::OutOfMemory
     };
-    print_over(alloc, Print::Check, &mut input, out)
-}
-
-/// `FAULT HEX`: a file that gives these octets, and then fails so.
-pub(crate) fn input(alloc: Global, words: &str, out: &mut Vec<u8>) -> Option<()> {
-    let (fault, digits) = first(words);
-    let fault = fault_of(fault)?;
-    print_broken(alloc, &octets_of(alloc, digits)?, fault, out)
+    print_broken(&octets_of(after(words, 1), row), fault, row);
 }
 
 /// `ROOM HEX`: an output that has room for so many octets, of 40 at most, without other functions by name or with them.
-pub(crate) fn output(alloc: Global, print: Print, words: &str, out: &mut Vec<u8>) -> Option<()> {
-    let (room, digits) = first(words);
-    let octets = octets_of(alloc, digits)?;
-    let mut input = octets.as_slice();
+pub(crate) fn output(named: bool, words: &str, row: &mut Row) {
+    let file = octets_of(after(words, 1), row);
     let mut room_for = [0u8; 40];
-    let mut short = room_for.get_mut(..number(room)? as usize)?;
-    let mut err = Vec::new(alloc);
-    let code = status_of(alloc, print, &mut input, &mut short, &mut err);
-    print_end(code, &err, out)
+    match room_for.get_mut(..number(words, 0) as usize) {
+        Some(mut short) => print_end(Print::Check(named), &file, &mut short, row),
+        None => row.fail(),
+    }
 }

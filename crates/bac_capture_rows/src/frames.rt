@@ -1,46 +1,43 @@
 //! Lines of frames, `NAME; LINK HEX`: the number of the link layer, the frame, and what it carries.
-use crate::words::{first, octets_of};
+use crate::words::octets_of;
 use bac_capture::{Datagram, Endpoint, LinkKind, Ports, read_frame};
-use std::alloc::Global;
-use std::io::Write;
+use bac_rows::row::{Row, after, number};
 
 const PORTS: Ports = Ports { also: Some(40_001) };
 
-fn print_endpoint(alloc: Global, endpoint: Endpoint<'_>, out: &mut Vec<u8>) -> Option<()> {
-    let host = hex::encode_upper(alloc, endpoint.host).ok()?;
-    write!(out, "{host}:{} ", endpoint.port).ok()
+fn print_endpoint(endpoint: Endpoint<'_>, row: &mut Row) {
+    row.say_octets(endpoint.host);
+    row.tell(":# ", u64::from(endpoint.port));
 }
 
-fn print_datagram(alloc: Global, datagram: Datagram<'_>, out: &mut Vec<u8>) -> Option<()> {
-    print_endpoint(alloc, datagram.from, out)?;
-    print_endpoint(alloc, datagram.to, out)?;
-    let octets = hex::encode_upper(alloc, datagram.octets).ok()?;
-    writeln!(out, "{octets}").ok()
+fn print_datagram(datagram: Datagram<'_>, row: &mut Row) {
+    print_endpoint(datagram.from, row);
+    print_endpoint(datagram.to, row);
+    row.say_octets(datagram.octets);
+    row.put(b'\n');
 }
 
-fn print_carried(alloc: Global, link: LinkKind, frame: &[u8], out: &mut Vec<u8>) -> Option<()> {
+fn print_carried(link: LinkKind, frame: &[u8], row: &mut Row) {
     match read_frame(link, PORTS, frame) {
-        Ok(Some(datagram)) => print_datagram(alloc, datagram, out),
-        Ok(None) => out.write_all(b"none\n").ok(),
-        Err(fault) => writeln!(out, "{fault}").ok(),
+        Ok(Some(datagram)) => print_datagram(datagram, row),
+        Ok(None) => row.say("none\n"),
+        Err(fault) => row.line(fault),
     }
 }
 
-fn show(alloc: Global, words: &str, out: &mut Vec<u8>) -> Option<()> {
-    let (link, digits) = first(words);
-    let link = link.parse::<u16>().ok()?;
-    match LinkKind::of(link) {
-        Some(link) => print_carried(alloc, link, &octets_of(alloc, digits)?, out),
-        None => out.write_all(b"another link layer\n").ok(),
+fn show(words: &str, row: &mut Row) {
+    match LinkKind::of((number(words, 0) % 65_536) as u16) {
+        Some(link) => print_carried(link, &octets_of(after(words, 1), row), row),
+        None => row.say("another link layer\n"),
     }
 }
 
 /// Plays the lines of a row.
-pub(crate) fn play(alloc: Global, lines: &str, out: &mut Vec<u8>) -> Option<()> {
+pub(crate) fn play(lines: &str, row: &mut Row) {
     for line in lines.lines() {
-        let (name, words) = line.split_once("; ")?;
-        write!(out, "{name}; ").ok()?;
-        show(alloc, words, out)?;
+        let (name, words) = line.split_once("; ").unwrap_or((line, ""));
+        row.say(name);
+        row.say("; ");
+        show(words, row);
     }
-    Some(())
 }

@@ -5,54 +5,31 @@ use bac_capture::{Ports, check_capture_over};
 use bac_explain_html::explain_html_over;
 use bac_explain_json::explain_json_over;
 use bac_explain_report::{ChartFormat, ChartOptions, ReportOptions, chart_over, explain_over};
+use bac_rows::row::{Row, place_of};
 use std::alloc::Global;
 use std::io::{BufRead, BufReader, Write};
 
 const PORTS: Ports = Ports { also: None };
 
-/// One chart without values.
-pub(crate) const CHART: ChartOptions = ChartOptions {
-    form: ChartFormat::Chart,
-    values: false,
-    pairs: false,
-};
-
-/// A diagram of Mermaid.
-pub(crate) const MERMAID: ChartOptions = ChartOptions {
-    form: ChartFormat::Mermaid,
-    ..CHART
-};
-
-/// One with values.
-pub(crate) const VALUES: ChartOptions = ChartOptions {
-    values: true,
-    ..CHART
-};
-
-/// A diagram of Mermaid with values.
-pub(crate) const MERMAID_VALUES: ChartOptions = ChartOptions {
-    values: true,
-    ..MERMAID
-};
-
-/// A chart for each pair.
-pub(crate) const PAIRS: ChartOptions = ChartOptions {
-    pairs: true,
-    ..CHART
-};
-
-/// Diagrams of Mermaid with values, one for each pair.
-pub(crate) const MERMAID_PAIRS: ChartOptions = ChartOptions {
-    pairs: true,
-    ..MERMAID_VALUES
-};
+/// The options of the chart of a name, as `mermaid-pairs`: its form, whether it has values, and whether there is one for each pair.
+pub(crate) fn chart_of(name: &str) -> ChartOptions {
+    let form = if name.starts_with("mermaid") {
+        ChartFormat::Mermaid
+    } else {
+        ChartFormat::Chart
+    };
+    ChartOptions {
+        form,
+        values: place_of("chart-values mermaid-values mermaid-pairs", name) < 3,
+        pairs: place_of("chart-pairs mermaid-pairs pairs-file", name) < 3,
+    }
+}
 
 /// What is printed of a file.
 #[derive(Clone, Copy)]
 pub(crate) enum Print {
     /// The datagrams that are faulty, and counts; by number, or in words and with other functions by name.
-    Check,
-    Named,
+    Check(bool),
     /// The transactions, as those options say.
     Explain(ReportOptions),
     /// The transactions as objects of JSON, as those options say.
@@ -72,8 +49,7 @@ pub(crate) fn status_of<R: BufRead, O: Write>(
     err: &mut Vec<u8>,
 ) -> u8 {
     let status = match print {
-        Print::Check => check_capture_over(alloc, input, PORTS, false, out, err),
-        Print::Named => check_capture_over(alloc, input, PORTS, true, out, err),
+        Print::Check(named) => check_capture_over(alloc, input, PORTS, named, out, err),
         Print::Explain(options) => explain_over(alloc, options, input, PORTS, out, err),
         Print::ExplainHtml(options) => { explain_html_over(alloc, options, input, PORTS, out, err) }
         Print::ExplainJson(options) => { explain_json_over(alloc, options, input, PORTS, out, err) }
@@ -82,76 +58,58 @@ pub(crate) fn status_of<R: BufRead, O: Write>(
     status.code()
 }
 
-/// Prints what was complained of, and the status.
-pub(crate) fn print_end(code: u8, err: &[u8], out: &mut Vec<u8>) -> Option<()> {
-    if !err.is_empty() {
-        out.write_all(b"! ").ok()?;
-        out.write_all(err).ok()?;
-    }
-    if code != 0 {
-        writeln!(out, "status {code}").ok()?;
-    }
-    Some(())
-}
-
 /// Prints an input, and how it ends.
-pub(crate) fn print_over<R: BufRead>(
-    alloc: Global,
-    print: Print,
-    input: &mut R,
-    out: &mut Vec<u8>,
-) -> Option<()> {
-    let mut err = Vec::new(alloc);
-    let code = status_of(alloc, print, input, out, &mut err);
-    print_end(code, &err, out)
+pub(crate) fn print_over<R: BufRead>(print: Print, input: &mut R, row: &mut Row) {
+    let mut err = Vec::new(row.alloc);
+    let code = status_of(row.alloc, print, input, &mut row.told, &mut err);
+    row.tell_end(code, &err);
 }
 
-/// What is printed of a file whose reader has that many octets at hand at a time.
-fn printed_by(alloc: Global, print: Print, file: &[u8], at_hand: usize) -> Option<Vec<u8>> {
-    let Ok(mut input) = BufReader::with_capacity(alloc, at_hand, file) else {
-        return None;
-    };
-    let mut out = Vec::new(alloc);
-    print_over(alloc, print, &mut input, &mut out)?;
-    Some(out)
-}
-
-/// Prints a file, and whether something else is printed where its reader has few octets at hand.
-fn print_file(alloc: Global, print: Print, file: &[u8], out: &mut Vec<u8>) -> Option<()> {
-    let told = printed_by(alloc, print, file, 8_192)?;
-    out.write_all(&told).ok()?;
-    if printed_by(alloc, print, file, 1)? != told || printed_by(alloc, print, file, 7)? != told {
-        out.write_all(b"otherwise by few octets\n").ok()?;
+/// Prints a file whose reader has that many octets at hand at a time.
+fn print_by(print: Print, file: &[u8], at_hand: usize, row: &mut Row) {
+    match BufReader::with_capacity(row.alloc, at_hand, file) {
+        Ok(mut input) => print_over(print, &mut input, row),
+        Err(_) => row.fail(),
     }
-    Some(())
+}
+
+/// Notes a fault where something else is printed of a file whose reader has few octets at hand.
+fn compare(print: Print, file: &[u8], at_hand: usize, told: &[u8], row: &mut Row) {
+    let mut other = Row::new(row.alloc);
+    print_by(print, file, at_hand, &mut other);
+    row.needs(other.told.as_slice() == told);
+}
+
+/// Prints a file, which has to print the same where its reader has few octets at hand.
+fn print_file(print: Print, file: &[u8], row: &mut Row) {
+    let mut told = Row::new(row.alloc);
+    print_by(print, file, 8_192, &mut told);
+    row.take(&told);
+    compare(print, file, 1, &told.told, row);
+    compare(print, file, 7, &told.told, row);
 }
 
 /// Prints a file of hexadecimal digits.
-pub(crate) fn print_octets(
-    alloc: Global,
-    print: Print,
-    digits: &str,
-    out: &mut Vec<u8>,
-) -> Option<()> {
-    print_file(alloc, print, &octets_of(alloc, digits)?, out)
+pub(crate) fn print_octets(print: Print, digits: &str, row: &mut Row) {
+    print_file(print, &octets_of(digits, row), row);
 }
 
 /// Prints a file of datagrams.
-pub(crate) fn print_seen(
-    alloc: Global,
-    print: Print,
-    lines: &str,
-    out: &mut Vec<u8>,
-) -> Option<()> {
-    print_file(alloc, print, &file_of(alloc, lines)?, out)
+pub(crate) fn print_seen(print: Print, lines: &str, row: &mut Row) {
+    let file = file_of(lines, row);
+    print_file(print, &file.told, row);
+}
+
+/// Prints how a print of a file ends whose output is that one.
+pub(crate) fn print_end<O: Write>(print: Print, mut file: &[u8], out: &mut O, row: &mut Row) {
+    let mut err = Vec::new(row.alloc);
+    let code = status_of(row.alloc, print, &mut file, out, &mut err);
+    row.tell_end(code, &err);
 }
 
 /// Prints how a chart of a file of datagrams ends, and not the chart.
-pub(crate) fn print_end_of_chart(alloc: Global, lines: &str, out: &mut Vec<u8>) -> Option<()> {
-    let file = file_of(alloc, lines)?;
-    let mut input = file.as_slice();
-    let mut drawn = Vec::new(alloc);
-    let mut err = Vec::new(alloc);
-    let code = status_of(alloc, Print::Chart(CHART), &mut input, &mut drawn, &mut err);
-    print_end(code, &err, out)
+pub(crate) fn print_end_of_chart(lines: &str, row: &mut Row) {
+    let file = file_of(lines, row);
+    let mut drawn = Vec::new(row.alloc);
+    print_end(Print::Chart(chart_of("chart")), &file.told, &mut drawn, row);
 }

@@ -1,124 +1,64 @@
 //! Rows one after the other.
-use crate::printing::{
-    CHART, MERMAID, MERMAID_PAIRS, MERMAID_VALUES, PAIRS, Print, VALUES, print_end_of_chart,
-    print_octets, print_seen,
-};
-use crate::selected::{ALL, closed, options_of};
-use crate::words::first;
+use crate::printing::{Print, chart_of, print_end_of_chart, print_octets, print_seen};
+use crate::selected::{ALL, options_of};
 use crate::{failing, frames, transactions, worlds};
+use bac_rows::row::{Row, first, place_of};
 use std::alloc::Global;
 use std::io;
 use std::io::Write;
 
-/// What plays a row.
-#[derive(Clone, Copy)]
-enum Kind {
-    Frames,
-    Transaction,
-    /// Worlds that are made up from numbers.
-    Worlds,
-    /// A capture file of datagrams that are seen.
-    Seen(Print),
-    /// A capture file of datagrams that are seen, behind a line of options.
-    Selected,
-    /// A capture file as of `Selected`, printed as objects of JSON.
-    SelectedJson,
-    /// A capture file as of `Selected`, printed as a page of HTML.
-    SelectedHtml,
-    /// A capture file in hexadecimal digits.
-    File(Print),
-    /// How a chart ends.
-    End,
-    /// An input or an output that fails.
-    Input,
-    Output(Print),
-}
+/// Rows that are printed of a capture file in hexadecimal digits.
+const FILES: &str = "check named explain-file chart-file mermaid-file pairs-file";
 
-const KINDS: &[(&str, Kind)] = &[
-    ("frames", Kind::Frames),
-    ("transaction", Kind::Transaction),
-    ("worlds", Kind::Worlds),
-    ("explain", Kind::Seen(Print::Explain(ALL))),
-    ("explain-with", Kind::Selected),
-    ("explain-json", Kind::SelectedJson),
-    ("explain-html", Kind::SelectedHtml),
-    ("chart", Kind::Seen(Print::Chart(CHART))),
-    ("mermaid", Kind::Seen(Print::Chart(MERMAID))),
-    ("chart-values", Kind::Seen(Print::Chart(VALUES))),
-    ("mermaid-values", Kind::Seen(Print::Chart(MERMAID_VALUES))),
-    ("chart-pairs", Kind::Seen(Print::Chart(PAIRS))),
-    ("mermaid-pairs", Kind::Seen(Print::Chart(MERMAID_PAIRS))),
-    ("end", Kind::End),
-    ("check", Kind::File(Print::Check)),
-    ("named", Kind::File(Print::Named)),
-    ("explain-file", Kind::File(Print::Explain(ALL))),
-    ("chart-file", Kind::File(Print::Chart(CHART))),
-    ("mermaid-file", Kind::File(Print::Chart(MERMAID))),
-    ("pairs-file", Kind::File(Print::Chart(PAIRS))),
-    ("input", Kind::Input),
-    ("output", Kind::Output(Print::Check)),
-    ("named-output", Kind::Output(Print::Named)),
-];
-
-fn kind_of(word: &str) -> Option<Kind> {
-    for (name, kind) in KINDS {
-        if *name == word {
-            return Some(*kind);
-        }
-    }
-    None
-}
-
-fn play_lines(alloc: Global, kind: Kind, lines: &str, out: &mut Vec<u8>) -> Option<()> {
-    match kind {
-        Kind::Frames => frames::play(alloc, lines, out),
-        Kind::Transaction => transactions::play(alloc, lines, out),
-        Kind::Worlds => worlds::play(alloc, lines, out),
-        Kind::Seen(print) => print_seen(alloc, print, lines, out),
-        Kind::Selected => {
-            let (options, lines) = lines.split_once('\n')?;
-            print_seen(alloc, Print::Explain(options_of(options)?), lines, out)
-        }
-        Kind::SelectedJson => {
-            let (options, lines) = lines.split_once('\n')?;
-            print_seen(
-                alloc,
-                Print::ExplainJson(closed(options_of(options)?)),
-                lines,
-                out,
-            )
-        }
-        Kind::SelectedHtml => {
-            let (options, lines) = lines.split_once('\n')?;
-            print_seen(
-                alloc,
-                Print::ExplainHtml(closed(options_of(options)?)),
-                lines,
-                out,
-            )
-        }
-        Kind::File(print) => print_octets(alloc, print, lines, out),
-        Kind::End => print_end_of_chart(alloc, lines, out),
-        Kind::Input => failing::input(alloc, lines, out),
-        Kind::Output(print) => failing::output(alloc, print, lines, out),
+/// Plays a row of a capture file of datagrams that are seen: all transactions, some by a line of options, or a chart of them.
+fn play_seen(kind: &str, lines: &str, row: &mut Row) {
+    let (words, seen) = lines.split_once('\n').unwrap_or((lines, ""));
+    match place_of("explain explain-with explain-json explain-html", kind) {
+        0 => print_seen(Print::Explain(ALL), lines, row),
+        1 => print_seen(Print::Explain(options_of(words, true)), seen, row),
+        2 => print_seen(Print::ExplainJson(options_of(words, false)), seen, row),
+        3 => print_seen(Print::ExplainHtml(options_of(words, false)), seen, row),
+        _ => print_seen(Print::Chart(chart_of(kind)), lines, row),
     }
 }
 
-/// A row's title and its lines; the title's first word says what plays it.
-fn play(alloc: Global, row: &str, out: &mut Vec<u8>) -> Option<()> {
-    let row = row.trim_end_matches('\n');
-    let (title, lines) = row.split_once('\n').unwrap_or((row, ""));
-    writeln!(out, "\n={title}").ok()?;
-    play_lines(alloc, kind_of(first(title).0)?, lines, out)
+/// Plays a row of a capture file.
+fn play_file(kind: &str, lines: &str, row: &mut Row) {
+    match place_of(FILES, kind) {
+        0 => print_octets(Print::Check(false), lines, row),
+        1 => print_octets(Print::Check(true), lines, row),
+        2 => print_octets(Print::Explain(ALL), lines, row),
+        3 | 4 | 5 => print_octets(Print::Chart(chart_of(kind)), lines, row),
+        _ => play_seen(kind, lines, row),
+    }
+}
+
+/// Plays a row; the first word of its title says what plays it.
+fn play(text: &str, row: &mut Row) {
+    let (title, lines) = text.split_once('\n').unwrap_or((text, ""));
+    row.say_line("\n=", title);
+    let kind = first(title).0;
+    match place_of(
+        "frames transaction worlds end input output named-output",
+        kind,
+    ) {
+        0 => frames::play(lines, row),
+        1 => transactions::play(lines, row),
+        2 => worlds::play(lines, row),
+        3 => print_end_of_chart(lines, row),
+        4 => failing::input(lines, row),
+        5 => failing::output(false, lines, row),
+        6 => failing::output(true, lines, row),
+        _ => play_file(kind, lines, row),
+    }
+    row.mark_fault();
 }
 
 /// Plays each row of a text, and prints what comes of it. An Err is out of memory.
 pub fn play_all(alloc: Global, text: &str, out: &mut Vec<u8>) -> io::Result<()> {
-    let rows = text.strip_prefix('=').unwrap_or(text);
-    for row in rows.split("\n=") {
-        if play(alloc, row, out).is_none() {
-            out.write_all(b"?\n")?;
-        }
+    let mut row = Row::new(alloc);
+    for text in text.strip_prefix('=').unwrap_or(text).split("\n=") {
+        play(text.trim_end_matches('\n'), &mut row);
     }
-    Ok(())
+    out.write_all(&row.told)
 }

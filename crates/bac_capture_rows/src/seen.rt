@@ -1,7 +1,7 @@
 //! Lines of datagrams that are seen, `MOMENT FROM TO HEX`: the moment in milliseconds, the numbers of the hosts, and the octets.
-use crate::words::{first, number, octets_of};
+use crate::words::octets_of;
+use bac_rows::row::{Row, after, decimal, number, word};
 use bac_rows::script::{ranged, spelled};
-use std::alloc::{AllocError, Global};
 
 /// A datagram, when it is seen, and between which BACnet/IP addresses.
 #[derive(Drop)]
@@ -13,83 +13,92 @@ pub(crate) struct Seen {
 }
 
 /// The address of the host of a number, at port 47,808, or where a colon follows, at the next port.
-fn host(word: &str) -> Option<[u8; 6]> {
-    let (number, port) = match word.strip_suffix(':') {
-        Some(number) => (number, 0xC1),
-        None => (word, 0xC0),
+fn host(word: &str) -> [u8; 6] {
+    let number = word.strip_suffix(':').unwrap_or(word);
+    let port = if number.len() < word.len() {
+        0xC1
+    } else {
+        0xC0
     };
-    Some([10, 0, 0, number.parse::<u8>().ok()?, 0xBA, port])
+    [10, 0, 0, (decimal(number) % 256) as u8, 0xBA, port]
 }
 
 /// What a line says.
-pub(crate) fn seen_of(alloc: Global, line: &str) -> Option<Seen> {
-    let (moment, line) = first(line);
-    let (from, line) = first(line);
-    let (to, digits) = first(line);
-    let (moment, from, to) = (number(moment)?, host(from)?, host(to)?);
-    let datagram = octets_of(alloc, digits)?;
-    Some(Seen {
-        moment,
-        from,
-        to,
-        datagram,
-    })
+pub(crate) fn seen_of(line: &str, row: &Row) -> Seen {
+    Seen {
+        moment: number(line, 0),
+        from: host(word(line, 1)),
+        to: host(word(line, 2)),
+        datagram: octets_of(after(line, 3), row),
+    }
 }
 
 /// The header of a file of pcap, of packets of IP and nothing else.
 const HEADER: &[u8] = b"\xD4\xC3\xB2\xA1\x02\0\x04\0\0\0\0\0\0\0\0\0\0\0\x04\0\x65\0\0\0";
 
 /// A number of four octets, the least significant first.
-fn push_long(file: &mut Vec<u8>, number: u64) -> Result<(), AllocError> {
+fn put_long(number: u64, file: &mut Row) {
     let [first, second, third, fourth, ..] = number.to_le_bytes();
-    file.extend_from_slice(&[first, second, third, fourth])
+    file.put_all(&[first, second, third, fourth]);
 }
 
 /// A number of two octets, the most significant first.
-fn push_word(file: &mut Vec<u8>, number: usize) -> Result<(), AllocError> {
-    file.extend_from_slice(&[(number / 0x100 % 0x100) as u8, (number % 0x100) as u8])
+fn put_word(number: usize, file: &mut Row) {
+    file.put((number / 0x100 % 0x100) as u8);
+    file.put((number % 0x100) as u8);
 }
 
 /// A datagram of UDP over IPv4.
-fn push_packet(file: &mut Vec<u8>, seen: &Seen) -> Result<(), AllocError> {
+fn put_packet(seen: &Seen, file: &mut Row) {
     let len = seen.datagram.len();
-    file.extend_from_slice(&[0x45, 0])?;
-    push_word(file, len.saturating_add(28))?;
-    file.extend_from_slice(&[0, 0, 0, 0, 64, 17, 0, 0])?;
-    file.extend_from_slice(&seen.from[..4])?;
-    file.extend_from_slice(&seen.to[..4])?;
-    file.extend_from_slice(&seen.from[4..])?;
-    file.extend_from_slice(&seen.to[4..])?;
-    push_word(file, len.saturating_add(8))?;
-    push_word(file, 0)?;
-    file.extend_from_slice(&seen.datagram)
+    put_word(0x4500, file);
+    put_word(len.saturating_add(28), file);
+    file.put_all(&[0, 0, 0, 0, 64, 17, 0, 0]);
+    file.put_all(&seen.from[..4]);
+    file.put_all(&seen.to[..4]);
+    file.put_all(&seen.from[4..]);
+    file.put_all(&seen.to[4..]);
+    put_word(len.saturating_add(8), file);
+    put_word(0, file);
+    file.put_all(&seen.datagram);
 }
 
 /// A record of pcap: its moment in seconds and microseconds, how many octets it has, twice, and they.
-fn push_record(file: &mut Vec<u8>, seen: &Seen) -> Result<(), AllocError> {
+fn put_record(seen: &Seen, file: &mut Row) {
     let len = (seen.datagram.len() as u64).saturating_add(28);
-    push_long(file, seen.moment / 1_000)?;
-    push_long(file, seen.moment % 1_000 * 1_000)?;
-    push_long(file, len)?;
-    push_long(file, len)?;
-    push_packet(file, seen)
+    put_long(seen.moment / 1_000, file);
+    put_long(seen.moment % 1_000 * 1_000, file);
+    put_long(len, file);
+    put_long(len, file);
+    put_packet(seen, file);
+}
+
+/// The datagram of a line with a number.
+fn put_line(line: &str, number: u64, file: &mut Row) {
+    match spelled(file.alloc, "", line, number) {
+        Ok(line) => put_record(&seen_of(&line, file), file),
+        Err(_) => file.fail(),
+    }
 }
 
 /// The datagrams of a line, which may stand for many.
-fn push_line(alloc: Global, line: &str, file: &mut Vec<u8>) -> Option<()> {
-    let (numbers, line) = ranged(line).ok()?;
-    for place in 0..numbers.count {
-        let line = spelled(alloc, "", line, numbers.at(place)).ok()?;
-        push_record(file, &seen_of(alloc, &line)?).ok()?;
+fn put_lines(line: &str, file: &mut Row) {
+    match ranged(line) {
+        Ok((numbers, line)) => {
+            for place in 0..numbers.count {
+                put_line(line, numbers.at(place), file);
+            }
+        }
+        Err(_) => file.fail(),
     }
-    Some(())
 }
 
 /// A capture file of what is seen.
-pub(crate) fn file_of(alloc: Global, lines: &str) -> Option<Vec<u8>> {
-    let mut file = Vec::from_slice(alloc, HEADER).ok()?;
+pub(crate) fn file_of(lines: &str, row: &Row) -> Row {
+    let mut file = Row::new(row.alloc);
+    file.put_all(HEADER);
     for line in lines.lines() {
-        push_line(alloc, line, &mut file)?;
+        put_lines(line, &mut file);
     }
-    Some(file)
+    file
 }

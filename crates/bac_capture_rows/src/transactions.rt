@@ -1,34 +1,36 @@
 //! Rows of the datagrams of transactions: the moment of each, and what is wrong with it, or `-`.
 use crate::seen::{Seen, seen_of};
-use bac_explain::{Explainer, Finding, read_sighting};
-use std::alloc::Global;
-use std::io::Write;
+use bac_explain::{Explainer, Sighting, read_sighting};
+use bac_rows::row::Row;
 
-fn print_finding(finding: Option<Finding>, out: &mut Vec<u8>) -> Option<()> {
-    match finding {
-        Some(finding) => writeln!(out, "{finding}").ok(),
-        None => out.write_all(b"-\n").ok(),
+fn print_finding(explainer: &mut Explainer, moment: u64, it: Sighting<'_>, row: &mut Row) {
+    match explainer.hear(row.alloc, moment, it, true) {
+        Ok(heard) => match heard.finding {
+            Some(finding) => row.line(finding),
+            None => row.say("-\n"),
+        },
+        Err(_) => row.fail(),
     }
 }
 
-fn hear(alloc: Global, explainer: &mut Explainer, seen: &Seen, out: &mut Vec<u8>) -> Option<()> {
-    write!(out, "{} ", seen.moment).ok()?;
-    let Some(it) = read_sighting(seen.from, seen.to, &seen.datagram) else {
-        return print_finding(None, out);
-    };
-    match explainer.hear(alloc, seen.moment, it, true) {
-        Ok(heard) => print_finding(heard.finding, out),
-        Err(_) => None,
+fn hear(explainer: &mut Explainer, seen: &Seen, row: &mut Row) {
+    row.tell("# ", seen.moment);
+    match read_sighting(seen.from, seen.to, &seen.datagram) {
+        Some(it) => print_finding(explainer, seen.moment, it, row),
+        None => row.say("-\n"),
+    }
+}
+
+fn hear_all(explainer: &mut Explainer, lines: &str, row: &mut Row) {
+    for line in lines.lines() {
+        hear(explainer, &seen_of(line, row), row);
     }
 }
 
 /// Plays the lines of a row.
-pub(crate) fn play(alloc: Global, lines: &str, out: &mut Vec<u8>) -> Option<()> {
-    let Ok(mut explainer) = Explainer::new(alloc) else {
-        return None;
-    };
-    for line in lines.lines() {
-        hear(alloc, &mut explainer, &seen_of(alloc, line)?, out)?;
+pub(crate) fn play(lines: &str, row: &mut Row) {
+    match Explainer::new(row.alloc) {
+        Ok(mut explainer) => hear_all(&mut explainer, lines, row),
+        Err(_) => row.fail(),
     }
-    Some(())
 }

@@ -3,195 +3,188 @@
 //! `apdu` reads an APDU and writes it again; `bvll`, `npdu` and `datagram` read a frame or a part of one, and `fronts` each prefix of a datagram with its own
 //! length. `frame PEER EXPECTING HEX` writes a frame after an octet, and `head` what comes before the APDU. `order` prints how peers compare. A peer is `near` or
 //! `NETWORK:HEX`.
-use crate::words::{first, number, octets_of, print_again, print_digits, print_octets};
+ghost use Rattle.std.specs.Prelude.{◌≤◌, length};
+
+use crate::words::{print_again, print_octets};
 use bac_apdu::{Apdu, apdu_len, read, write};
 use bac_npdu::{
     LinkAddress, Peer, Route, read_bvll, read_datagram, read_npdu, write_datagram, write_frame_head,
 };
-use std::alloc::Global;
+use bac_rows::row::{Row, decimal, place_of, word};
 use std::cmp::Ordering;
-use std::io::Write;
+use std::fmt::Debug;
 
 /// The link from which datagrams come.
 const LINK: LinkAddress = [0x7F, 0, 0, 1, 0xBA, 0xC1];
 
-fn write_again(alloc: Global, apdu: &Apdu<'_>, octets: &[u8], out: &mut Vec<u8>) -> Option<()> {
-    let mut written = Vec::new(alloc);
-    write(apdu, &mut written).ok()?;
-    writeln!(out, "length {}", apdu_len(apdu)).ok()?;
-    print_again(&written, octets, out)
+fn write_again(apdu: &Apdu<'_>, octets: &[u8], row: &mut Row) {
+    let mut written = Vec::new(row.alloc);
+    let _ = write(apdu, &mut written);
+    row.tell("length #\n", apdu_len(apdu) as u64);
+    print_again(&written, octets, row);
 }
 
-fn apdu(alloc: Global, octets: &[u8], out: &mut Vec<u8>) -> Option<()> {
+/// Prints the number of a fault, and its name.
+fn print_fault<F: Debug + Drop>(number: u8, fault: F, row: &mut Row) {
+    row.tell("fault #: ", u64::from(number));
+    row.line(format_args!("{fault:?}"));
+}
+
+fn apdu(octets: &[u8], row: &mut Row) {
     match read(octets) {
-        Ok(apdu) => write_again(alloc, &apdu, octets, out),
-        Err(fault) => writeln!(out, "fault {}: {fault:?}", fault.number()).ok(),
+        Ok(apdu) => write_again(&apdu, octets, row),
+        Err(fault) => print_fault(fault.number(), fault, row),
     }
 }
 
-fn bvll(octets: &[u8], out: &mut Vec<u8>) -> Option<()> {
+fn bvll(octets: &[u8], row: &mut Row) {
     match read_bvll(octets) {
         Ok(npdu) => {
-            out.write_all(b"npdu ").ok()?;
-            print_octets(npdu, out)
+            row.say("npdu ");
+            print_octets(npdu, row);
         }
-        Err(fault) => writeln!(out, "fault {}: {fault:?}", fault.number()).ok(),
+        Err(fault) => print_fault(fault.number(), fault, row),
     }
 }
 
-fn npdu(octets: &[u8], out: &mut Vec<u8>) -> Option<()> {
+fn npdu(octets: &[u8], row: &mut Row) {
     match read_npdu(octets) {
-        Ok(_) => writeln!(out, "read").ok(),
-        Err(fault) => writeln!(out, "fault {}: {fault:?}", fault.number()).ok(),
+        Ok(_) => row.say("read\n"),
+        Err(fault) => print_fault(fault.number(), fault, row),
     }
 }
 
-fn print_peer(peer: &Peer, out: &mut Vec<u8>) -> Option<()> {
-    out.write_all(b"from ").ok()?;
-    print_digits(&peer.link, out)?;
+fn print_peer(peer: &Peer, row: &mut Row) {
+    row.say("from ");
+    row.say_octets(&peer.link);
     if let Some(route) = &peer.route {
-        write!(out, " {}:", route.network).ok()?;
-        print_digits(route.address.octets(), out)?;
+        row.tell(" #:", u64::from(route.network));
+        row.say_octets(route.address.octets());
     }
-    Some(())
 }
 
-fn datagram(octets: &[u8], out: &mut Vec<u8>) -> Option<()> {
+fn datagram(octets: &[u8], row: &mut Row) {
     match read_datagram(LINK, octets) {
         Ok((peer, apdu)) => {
-            print_peer(&peer, out)?;
-            out.write_all(b" apdu ").ok()?;
-            print_octets(apdu, out)
+            print_peer(&peer, row);
+            row.say(" apdu ");
+            print_octets(apdu, row);
         }
-        Err(dropped) => writeln!(out, "dropped {dropped:?}").ok(),
+        Err(dropped) => row.line(format_args!("dropped {dropped:?}")),
     }
 }
 
 /// A front of a datagram, with its own length in the BVLL.
-fn front(octets: &mut [u8], len: u8, out: &mut Vec<u8>) -> Option<()> {
+fn front(octets: &mut [u8], len: usize, row: &mut Row) {
     // the low octet of the length (clause J.2)
-    *octets.get_mut(3)? = len;
-    write!(out, "{len}: ").ok()?;
-    datagram(octets.get(..usize::from(len))?, out)
+    if let Some(octet) = octets.get_mut(3) {
+        *octet = (len % 256) as u8;
+    }
+    row.tell("#: ", len as u64);
+    datagram(octets.get(..len).unwrap_or(&[]), row);
 }
 
-fn fronts(octets: &mut [u8], out: &mut Vec<u8>) -> Option<()> {
+fn fronts(octets: &mut [u8], row: &mut Row) {
     for len in 0..octets.len() {
-        front(octets, u8::try_from(len).ok()?, out)?;
+        front(octets, len, row);
     }
-    Some(())
 }
 
 /// The route of `NETWORK:HEX`; None of `near`.
-fn route_of(alloc: Global, word: &str) -> Option<Route> {
-    let (network, digits) = word.split_once(':')?;
-    let network = u16::try_from(number(network)?).ok()?;
-    Route::new(network, &octets_of(alloc, digits)?)
+fn route_of(word: &str, row: &Row) -> Option<Route> {
+    match word.split_once(':') {
+        Some((network, digits)) => {
+            let octets = row.octets(digits, 0);
+            Route::new((decimal(network) % 65_536) as u16, &octets)
+        }
+        None => None,
+    }
 }
 
 /// The peer of a word, at that link.
-pub(crate) fn peer_of(alloc: Global, link: LinkAddress, word: &str) -> Peer {
+pub(crate) fn peer_of(link: LinkAddress, word: &str, row: &Row) -> Peer {
     Peer {
         link,
-        route: route_of(alloc, word),
+        route: route_of(word, row),
     }
 }
 
-/// What a frame is written for.
-struct Framed {
-    peer: Peer,
-    expecting: bool,
-    apdu: Vec<u8>,
-}
-
-fn frame_of(alloc: Global, words: &str) -> Option<Framed> {
-    let (peer, words) = first(words);
-    let (expecting, digits) = first(words);
-    Some(Framed {
-        peer: peer_of(alloc, LINK, peer),
-        expecting: expecting == "expecting",
-        apdu: octets_of(alloc, digits)?,
-    })
-}
-
-fn frame(alloc: Global, words: &str, out: &mut Vec<u8>) -> Option<()> {
-    let Framed {
-        peer,
-        expecting,
-        apdu,
-    } = frame_of(alloc, words)?;
-    // no APDU is longer (clause 20.1.2.5)
-    if apdu.len() > 1_476 {
-        return None;
-    }
+/// Prints what is written for a peer: a whole frame, or what comes before the APDU.
+fn print_written(is_whole: bool, peer: &Peer, expecting: bool, apdu: &[u8], row: &mut Row)
+    requires { length apdu.now ≤ 1476 }
+{
+    let mut out = Vec::new(row.alloc);
     // a frame is appended to what is there
-    let mut written = Vec::from_slice(alloc, b"\xAA").ok()?;
-    write_datagram(&peer, expecting, &apdu, &mut written).ok()?;
-    print_octets(&written, out)
+    let _ = out.push(0xAAu8);
+    let _ = if is_whole {
+        write_datagram(peer, expecting, apdu, &mut out)
+    } else {
+        write_frame_head(peer, expecting, apdu.len(), &mut out)
+    };
+    print_octets(&out, row);
 }
 
-fn head(alloc: Global, words: &str, out: &mut Vec<u8>) -> Option<()> {
-    let Framed {
-        peer,
-        expecting,
-        apdu,
-    } = frame_of(alloc, words)?;
+fn frame(is_whole: bool, words: &str, row: &mut Row) {
+    let peer = peer_of(LINK, word(words, 0), row);
+    let expecting = word(words, 1) == "expecting";
+    let apdu = row.octets(words, 2);
     // no APDU is longer (clause 20.1.2.5)
-    if apdu.len() > 1_476 {
-        return None;
+    if apdu.len() <= 1_476 {
+        print_written(is_whole, &peer, expecting, &apdu, row);
     }
-    // a head is appended to what is there
-    let mut written = Vec::from_slice(alloc, b"\xAA").ok()?;
-    write_frame_head(&peer, expecting, apdu.len(), &mut written).ok()?;
-    print_octets(&written, out)
 }
 
 /// The peer of `OCTET,PEER`, whose link ends in that octet.
-fn placed(alloc: Global, word: &str) -> Option<Peer> {
-    let (octet, peer) = word.split_once(',')?;
+fn placed(word: &str, row: &Row) -> Peer {
+    let (octet, peer) = word.split_once(',').unwrap_or((word, ""));
     let mut link = LINK;
-    link[5] = u8::try_from(number(octet)?).ok()?;
-    Some(peer_of(alloc, link, peer))
+    link[5] = (decimal(octet) % 256) as u8;
+    peer_of(link, peer, row)
+}
+
+fn sign(ordering: Ordering) -> u8 {
+    match ordering {
+        Ordering::Less => b'<',
+        Ordering::Equal => b'=',
+        Ordering::Greater => b'>',
+    }
 }
 
 /// Prints how a peer compares with each of some.
-fn compare(alloc: Global, one: &Peer, words: &str, out: &mut Vec<u8>) -> Option<()> {
+fn compare(one: &Peer, words: &str, row: &mut Row) {
     for word in words.split(' ') {
-        let sign = match one.cmp(&placed(alloc, word)?) {
-            Ordering::Less => "<",
-            Ordering::Equal => "=",
-            Ordering::Greater => ">",
-        };
-        out.write_all(sign.as_bytes()).ok()?;
+        row.put(sign(one.cmp(&placed(word, row))));
     }
-    out.write_all(b"\n").ok()
+    row.put(b'\n');
 }
 
-fn order(alloc: Global, words: &str, out: &mut Vec<u8>) -> Option<()> {
+fn order(words: &str, row: &mut Row) {
     for word in words.split(' ') {
-        compare(alloc, &placed(alloc, word)?, words, out)?;
+        compare(&placed(word, row), words, row);
     }
-    Some(())
 }
 
 /// Shows octets, which are lent, so that nothing is to be dropped at the end of each arm.
-fn show_octets(alloc: Global, verb: &str, octets: &mut [u8], out: &mut Vec<u8>) -> Option<()> {
-    match verb.as_bytes() {
-        b"apdu" => apdu(alloc, octets, out),
-        b"bvll" => bvll(octets, out),
-        b"npdu" => npdu(octets, out),
-        b"datagram" => datagram(octets, out),
-        b"fronts" => fronts(octets, out),
-        _ => None,
+fn show_octets(verb: &str, octets: &mut [u8], row: &mut Row) {
+    match place_of("apdu bvll npdu datagram fronts", verb) {
+        0 => apdu(octets, row),
+        1 => bvll(octets, row),
+        2 => npdu(octets, row),
+        3 => datagram(octets, row),
+        4 => fronts(octets, row),
+        _ => row.fail(),
     }
 }
 
 /// Shows what a line says.
-pub(crate) fn show(alloc: Global, verb: &str, text: &str, out: &mut Vec<u8>) -> Option<()> {
-    match verb.as_bytes() {
-        b"frame" => frame(alloc, text, out),
-        b"head" => head(alloc, text, out),
-        b"order" => order(alloc, text, out),
-        _ => show_octets(alloc, verb, &mut octets_of(alloc, text)?, out),
+pub(crate) fn show(verb: &str, words: &str, row: &mut Row) {
+    match place_of("frame head order", verb) {
+        0 => frame(true, words, row),
+        1 => frame(false, words, row),
+        2 => order(words, row),
+        _ => {
+            let mut octets = row.octets(words, 0);
+            show_octets(verb, &mut octets, row);
+        }
     }
 }

@@ -1,74 +1,71 @@
 //! Rows one after the other.
-use crate::words::{first, spelled};
+use crate::words::spelled;
 use crate::{ends, frames, scripts, segments, services, slots, stores, texts, values};
+use bac_rows::row::{Row, first, place_of};
 use std::alloc::Global;
 use std::io;
 use std::io::Write;
 
-/// What plays the lines of a row, where no line depends on those before it.
-#[derive(Clone, Copy)]
-enum Kind {
-    Values,
-    Frames,
-    Services,
-    Texts,
-    Scripts,
-    Ends,
+/// What plays the lines of a row.
+pub(crate) trait Stage {
+    /// Prints the result of a verb with its words.
+    fn hear(&mut self, verb: &str, words: &str, row: &mut Row);
 }
 
-fn kind_of(word: &str) -> Option<Kind> {
-    match word.as_bytes() {
-        b"values" => Some(Kind::Values),
-        b"frames" => Some(Kind::Frames),
-        b"services" => Some(Kind::Services),
-        b"texts" => Some(Kind::Texts),
-        b"scripts" => Some(Kind::Scripts),
-        b"ends" => Some(Kind::Ends),
-        _ => None,
-    }
+/// Prints a line and its result; `?` where something goes wrong.
+fn play_line<S: Stage>(stage: &mut S, line: &str, row: &mut Row) {
+    row.say_line("> ", line);
+    let text = spelled(row.alloc, line);
+    let (verb, words) = first(text.text());
+    stage.hear(verb, words, row);
+    row.mark_fault();
 }
 
-fn show(alloc: Global, kind: Kind, line: &str, out: &mut Vec<u8>) -> Option<()> {
-    let (verb, text) = first(line);
-    match kind {
-        Kind::Values => values::show(alloc, verb, text, out),
-        Kind::Frames => frames::show(alloc, verb, text, out),
-        Kind::Services => services::show(alloc, verb, text, out),
-        Kind::Texts => texts::show(alloc, verb, text, out),
-        Kind::Scripts => scripts::show(alloc, verb, text, out),
-        Kind::Ends => ends::show(alloc, verb, text, out),
-    }
-}
-
-fn play_each(alloc: Global, kind: Kind, lines: &str, out: &mut Vec<u8>) -> Option<()> {
+/// Prints each line and its result.
+pub(crate) fn play_lines<S: Stage>(stage: &mut S, lines: &str, row: &mut Row) {
     for line in lines.lines() {
-        writeln!(out, "> {line}").ok()?;
-        let line = spelled(alloc, line)?;
-        show(alloc, kind, &line, out)?;
+        play_line(stage, line, row);
     }
-    Some(())
+}
+
+/// The first words of titles: those of rows whose lines depend on those before them, and others from place 3 on.
+const KINDS: &str = "segments slots store values frames services texts scripts ends";
+
+/// The place of what plays lines of which none depends on those before it.
+#[derive(Clone, Copy)]
+struct Kind(usize);
+
+impl Stage for Kind {
+    fn hear(&mut self, verb: &str, words: &str, row: &mut Row) {
+        match self.0 {
+            3 => values::show(verb, words, row),
+            4 => frames::show(verb, words, row),
+            5 => services::show(verb, words, row),
+            6 => texts::show(verb, words, row),
+            7 => scripts::show(verb, words, row),
+            8 => ends::show(verb, words, row),
+            _ => row.fail(),
+        }
+    }
 }
 
 /// A row's title and its lines; the title's first word says what plays it.
-fn play(alloc: Global, row: &str, out: &mut Vec<u8>) -> Option<()> {
-    let (title, lines) = row.trim_end_matches('\n').split_once('\n')?;
-    writeln!(out, "\n={title}").ok()?;
-    let (word, _) = first(title);
-    match word.as_bytes() {
-        b"segments" => segments::play(alloc, lines, out),
-        b"slots" => slots::play(alloc, lines, out),
-        b"store" => stores::play(alloc, lines, out),
-        _ => play_each(alloc, kind_of(word)?, lines, out),
+fn play(text: &str, row: &mut Row) {
+    let (title, lines) = text.split_once('\n').unwrap_or((text, ""));
+    row.say_line("\n=", title);
+    match place_of(KINDS, first(title).0) {
+        0 => segments::play(lines, row),
+        1 => slots::play(lines, row),
+        2 => stores::play(lines, row),
+        kind => play_lines(&mut Kind(kind), lines, row),
     }
 }
 
 /// Plays each row of a text, and prints what comes of it. An Err is out of memory.
 pub fn play_all(alloc: Global, text: &str, out: &mut Vec<u8>) -> io::Result<()> {
-    let rows = text.strip_prefix('=').unwrap_or(text);
-    for row in rows.split("\n=") {
-        if play(alloc, row, out).is_none() {
-            out.write_all(b"?\n")?;
-        }
+    let mut row = Row::new(alloc);
+    for text in text.strip_prefix('=').unwrap_or(text).split("\n=") {
+        play(text.trim_end_matches('\n'), &mut row);
     }
-    Ok(())
+    out.write_all(&row.told)
 }

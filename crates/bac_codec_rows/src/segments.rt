@@ -7,45 +7,39 @@
 //! with how much room.
 ghost use Rattle.std.specs.Prelude.{◌≤◌, ◌<◌, length};
 
-use crate::words::{first, number, octets_of, small, spelled};
+use crate::rows::{Stage, play_lines};
 use bac_apdu::Window;
+use bac_rows::row::{Row, number, number8, place_of};
 use bac_segment::chunks::append;
 use bac_segment::{Incoming, Outgoing, Progress, SegmentFault, Step};
 use std::alloc::Global;
-use std::io::Write;
 
 const THIRTY_TWO: Window = Window { size: 32 };
 
 /// Both ends of a transfer.
 #[derive(Drop)]
 struct Both {
-    alloc: Global,
     sender: Outgoing,
     receiver: Incoming,
 }
 
-/// A sender of octets that name their places.
-fn sender(alloc: Global, len: u64, size: usize) -> Option<Outgoing>
-    requires { 1 ≤ size }
-{
+/// The sender of `OCTETS SIZE`: of octets that name their places.
+fn sender_of(alloc: Global, words: &str) -> Outgoing {
     let mut octets = Vec::new(alloc);
-    for place in 0..len {
+    for place in 0..number(words, 0) {
         // modulo 251, so that pieces of 256 octets differ too
-        octets.push((place % 251) as u8).ok()?;
+        let _ = octets.push((place % 251) as u8);
     }
-    Some(Outgoing::new(octets, size))
-}
-
-/// The sender of `OCTETS SIZE`, and the words after it.
-fn sender_of(alloc: Global, words: &str) -> Option<(Outgoing, &str)> {
-    let (len, words) = first(words);
-    let (size, words) = first(words);
     // pieces of no octets would never end
-    let size = number(size)?.max(1) as usize;
-    Some((sender(alloc, number(len)?, size)?, words))
+    Outgoing::new(octets, (number(words, 1) as usize).max(1))
 }
 
-/// Hands a piece to the receiver, as a segment.
+/// The window of a size; that of 32 where no window has that size.
+fn window_of(size: u8) -> Window {
+    Window::new(size).unwrap_or(THIRTY_TWO)
+}
+
+/// Hands a piece to the receiver, as a segment; None where there is no such piece.
 fn offer(
     sender: &Outgoing,
     receiver: &mut Incoming,
@@ -67,211 +61,177 @@ struct Sent {
     last: Option<u8>,
 }
 
-/// Sends the window once; None where a segment is not taken.
-fn send_window(sender: &Outgoing, receiver: &mut Incoming, sent: &mut Sent) -> Option<()> {
-    for n in sender.window() {
-        sent.segments = sent.segments.saturating_add(1);
-        match offer(sender, receiver, n)? {
-            Ok(Step::Taken { ack: false }) => {}
-            Ok(Step::Taken { ack: true } | Step::Whole) => {
-                sent.acks = sent.acks.saturating_add(1);
-                sent.last = Some((n % 256) as u8);
-            }
-            _ => return None,
+impl Sent {
+    /// Notes what came of a segment.
+    fn note(&mut self, n: usize, came: Option<Result<Step, SegmentFault>>) {
+        self.segments = self.segments.saturating_add(1);
+        if let Some(Ok(Step::Taken { ack: true } | Step::Whole)) = came {
+            self.acks = self.acks.saturating_add(1);
+            self.last = Some((n % 256) as u8);
         }
     }
-    Some(())
 }
 
-/// Sends each window once, in order, until all were acknowledged.
-fn send_all(sender: &mut Outgoing, receiver: &mut Incoming, own: Window) -> Option<Sent> {
-    let mut sent = Sent {
-        segments: 0,
-        acks: 0,
-        last: None,
-    };
-    // a bound on the windows, so that each row ends
-    for _ in 0..2_000 {
+impl Both {
+    /// Sends the window once; whether more are to be sent.
+    fn sends_on(&mut self, own: Window, sent: &mut Sent) -> bool {
         sent.last = None;
-        send_window(sender, receiver, &mut sent)?;
-        match sender.on_ack(sent.last?, receiver.window(), own) {
-            Progress::Moved => {}
-            Progress::Finished => return Some(sent),
-            Progress::Ignored => return None,
+        for n in self.sender.window() {
+            sent.note(n, offer(&self.sender, &mut self.receiver, n));
+        }
+        match sent.last {
+            Some(last) => {
+                self.sender.on_ack(last, self.receiver.window(), own) == Progress::Moved
+            }
+            None => false,
         }
     }
-    None
-}
 
-fn transfer(alloc: Global, words: &str, out: &mut Vec<u8>) -> Option<()> {
-    let (mut sender, words) = sender_of(alloc, words)?;
-    let (own, other) = first(words);
-    let own = Window::new(small(own)?)?;
-    let mut receiver = Incoming::new(alloc, own, Window::new(small(other)?)?);
-    let sent = send_all(&mut sender, &mut receiver, own)?;
-    let taken = receiver.len();
-    writeln!(
-        out,
-        "segments {} acks {} octets {taken}",
-        sent.segments, sent.acks
-    )
-    .ok()
-}
-
-fn print_taken(
-    receiver: &Incoming,
-    step: Result<Step, SegmentFault>,
-    out: &mut Vec<u8>,
-) -> Option<()> {
-    let (taken, len) = (receiver.taken(), receiver.len());
-    match step {
-        Ok(step) => writeln!(out, "{step:?}, {taken} taken, {len} octets").ok(),
-        Err(fault) => writeln!(out, "{fault:?}, {taken} taken, {len} octets").ok(),
+    /// Sends each window once, in order, until all were acknowledged, and prints how much was sent.
+    fn send_all(&mut self, own: Window, row: &mut Row) {
+        let mut sent = Sent {
+            segments: 0,
+            acks: 0,
+            last: None,
+        };
+        let mut goes_on = true;
+        // a bound on the windows, so that each row ends
+        for _ in 0..2_000 {
+            goes_on = goes_on && self.sends_on(own, &mut sent);
+        }
+        row.needs(!goes_on);
+        row.tell_two("segments # acks #", sent.segments, sent.acks);
+        row.tell(" octets #\n", self.receiver.len() as u64);
     }
+
+    fn print_taken(&self, step: Result<Step, SegmentFault>, row: &mut Row) {
+        match step {
+            Ok(step) => row.show(format_args!("{step:?}")),
+            Err(fault) => row.show(format_args!("{fault:?}")),
+        }
+        let taken = self.receiver.taken() as u64;
+        row.tell_two(", # taken, # octets\n", taken, self.receiver.len() as u64);
+    }
+
+    fn offer(&mut self, n: usize, row: &mut Row) {
+        match offer(&self.sender, &mut self.receiver, n) {
+            Some(step) => self.print_taken(step, row),
+            None => row.fail(),
+        }
+    }
+
+    fn ack(&mut self, number: u8, row: &mut Row) {
+        let progress = self.sender.on_ack(number, THIRTY_TWO, THIRTY_TWO);
+        row.line(format_args!("{progress:?}"));
+    }
+
+    fn window(&self, row: &mut Row) {
+        let window = self.sender.window();
+        row.tell_two("from # to #", window.start as u64, window.end as u64);
+        row.tell_truth(", retry ", self.sender.has_retry());
+    }
+
+    fn timeout(&mut self, row: &mut Row) {
+        let timeout = self.sender.on_timeout();
+        row.line(format_args!("{timeout:?}"));
+    }
+
+    fn next(&mut self, more: bool, words: &str, row: &mut Row) {
+        let octets = row.octets(words, 0);
+        let number = (self.receiver.taken() % 256) as u8;
+        let step = self.receiver.on_segment(number, more, &octets);
+        self.print_taken(step, row);
+    }
+
+    fn begin(&mut self, words: &str, alloc: Global) {
+        self.sender = sender_of(alloc, words);
+        self.receiver = Incoming::new(alloc, THIRTY_TWO, THIRTY_TWO);
+    }
+
+    fn compare(&self, words: &str, row: &mut Row) {
+        let other = receiver_of(words, row);
+        row.tell_truth("same ", self.receiver.same(&other));
+    }
+}
+
+/// The ends of `OCTETS SIZE WINDOW WINDOW` send all, which leaves those of the row as they are.
+fn transfer(words: &str, row: &mut Row) {
+    let own = window_of(number8(words, 2));
+    let mut both = Both {
+        sender: sender_of(row.alloc, words),
+        receiver: Incoming::new(row.alloc, own, window_of(number8(words, 3))),
+    };
+    both.send_all(own, row);
 }
 
 /// A receiver that has taken so many segments with these octets, and more follow.
-fn receiver(alloc: Global, count: u64, octets: &[u8]) -> Option<Incoming> {
-    let mut receiver = Incoming::new(alloc, THIRTY_TWO, THIRTY_TWO);
-    for n in 0..count {
-        let step = receiver.on_segment((n % 256) as u8, true, octets);
-        if step != Ok(Step::Taken { ack: n % 32 == 0 }) {
-            return None;
-        }
+fn receiver_of(words: &str, row: &Row) -> Incoming {
+    let octets = row.octets(words, 1);
+    let mut receiver = Incoming::new(row.alloc, THIRTY_TWO, THIRTY_TWO);
+    for n in 0..number(words, 0) {
+        let _ = receiver.on_segment((n % 256) as u8, true, &octets);
     }
-    Some(receiver)
-}
-
-fn receiver_of(alloc: Global, words: &str) -> Option<Incoming> {
-    let (count, digits) = first(words);
-    receiver(alloc, number(count)?, &octets_of(alloc, digits)?)
+    receiver
 }
 
 /// How many vectors such segments are kept in, and their room.
-fn print_room(chunks: &[Vec<u8>], out: &mut Vec<u8>) -> Option<()> {
+fn print_room(chunks: &[Vec<u8>], row: &mut Row) {
     let mut room = 0usize;
     for chunk in chunks {
         room = room.saturating_add(chunk.capacity());
     }
-    writeln!(out, "{} vectors, room {room}", chunks.len()).ok()
+    row.tell_two("# vectors, room #\n", chunks.len() as u64, room as u64);
 }
 
-fn kept(alloc: Global, one: &[u8], other: &[u8], count: u64) -> Option<Vec<Vec<u8>>> {
+fn octets_alike(alloc: Global, len: u64) -> Vec<u8> {
+    let mut octets = Vec::new(alloc);
+    let _ = octets.resize(len as usize, 7u8);
+    octets
+}
+
+fn kept(alloc: Global, one: &[u8], other: &[u8], count: u64) -> Vec<Vec<u8>> {
     let mut chunks = Vec::new(alloc);
     for n in 0..count {
         let octets = if n % 2 == 0 { one } else { other };
-        append(alloc, &mut chunks, octets).ok()?;
+        let _ = append(alloc, &mut chunks, octets);
     }
-    Some(chunks)
+    chunks
 }
 
-fn octets_alike(alloc: Global, words: &str) -> Option<Vec<u8>> {
-    let len = number(words)? as usize;
-    let mut octets = Vec::new(alloc);
-    octets.resize(len, 7u8).ok()?;
-    Some(octets)
+fn rooms(words: &str, row: &mut Row) {
+    let one = octets_alike(row.alloc, number(words, 0));
+    let other = octets_alike(row.alloc, number(words, 1));
+    let chunks = kept(row.alloc, &one, &other, number(words, 2));
+    print_room(&chunks, row);
 }
 
-fn rooms(alloc: Global, words: &str, out: &mut Vec<u8>) -> Option<()> {
-    let (one, words) = first(words);
-    let (other, count) = first(words);
-    let one = octets_alike(alloc, one)?;
-    let other = octets_alike(alloc, other)?;
-    print_room(&kept(alloc, &one, &other, number(count)?)?, out)
-}
+const VERBS: &str = "begin offer ack window timeout resume receive same more last rooms transfer";
 
-impl Both {
-    fn offer(&mut self, words: &str, out: &mut Vec<u8>) -> Option<()> {
-        let n = number(words)? as usize;
-        let step = offer(&self.sender, &mut self.receiver, n)?;
-        print_taken(&self.receiver, step, out)
-    }
-
-    fn ack(&mut self, words: &str, out: &mut Vec<u8>) -> Option<()> {
-        let progress = self.sender.on_ack(small(words)?, THIRTY_TWO, THIRTY_TWO);
-        writeln!(out, "{progress:?}").ok()
-    }
-
-    fn window(&self, out: &mut Vec<u8>) -> Option<()> {
-        let window = self.sender.window();
-        let has_retry = self.sender.has_retry();
-        writeln!(
-            out,
-            "from {} to {}, retry {has_retry}",
-            window.start, window.end
-        )
-        .ok()
-    }
-
-    fn timeout(&mut self, out: &mut Vec<u8>) -> Option<()> {
-        let timeout = self.sender.on_timeout();
-        writeln!(out, "{timeout:?}").ok()
-    }
-
-    fn next(&mut self, more: bool, digits: &str, out: &mut Vec<u8>) -> Option<()> {
-        let octets = octets_of(self.alloc, digits)?;
-        let number = (self.receiver.taken() % 256) as u8;
-        let step = self.receiver.on_segment(number, more, &octets);
-        print_taken(&self.receiver, step, out)
-    }
-
-    fn begin(&mut self, words: &str) -> Option<()> {
-        self.sender = sender_of(self.alloc, words)?.0;
-        self.receiver = Incoming::new(self.alloc, THIRTY_TWO, THIRTY_TWO);
-        Some(())
-    }
-
-    fn compare(&self, words: &str, out: &mut Vec<u8>) -> Option<()> {
-        let other = receiver_of(self.alloc, words)?;
-        writeln!(out, "same {}", self.receiver.same(&other)).ok()
-    }
-
-    fn receive(&mut self, verb: &str, words: &str, out: &mut Vec<u8>) -> Option<()> {
-        match verb.as_bytes() {
-            b"receive" => {
-                self.receiver = receiver_of(self.alloc, words)?;
-                Some(())
-            }
-            b"same" => self.compare(words, out),
-            b"more" => self.next(true, words, out),
-            b"last" => self.next(false, words, out),
-            b"rooms" => rooms(self.alloc, words, out),
-            b"transfer" => transfer(self.alloc, words, out),
-            _ => None,
+impl Stage for Both {
+    fn hear(&mut self, verb: &str, words: &str, row: &mut Row) {
+        match place_of(VERBS, verb) {
+            0 => self.begin(words, row.alloc),
+            1 => self.offer(number(words, 0) as usize, row),
+            2 => self.ack(number8(words, 0), row),
+            3 => self.window(row),
+            4 => self.timeout(row),
+            5 => self.sender.resume(),
+            6 => self.receiver = receiver_of(words, row),
+            7 => self.compare(words, row),
+            8 => self.next(true, words, row),
+            9 => self.next(false, words, row),
+            10 => rooms(words, row),
+            11 => transfer(words, row),
+            _ => row.fail(),
         }
-    }
-
-    fn hear(&mut self, line: &str, out: &mut Vec<u8>) -> Option<()> {
-        let (verb, words) = first(line);
-        match verb.as_bytes() {
-            b"begin" => self.begin(words),
-            b"offer" => self.offer(words, out),
-            b"ack" => self.ack(words, out),
-            b"window" => self.window(out),
-            b"timeout" => self.timeout(out),
-            b"resume" => {
-                self.sender.resume();
-                Some(())
-            }
-            _ => self.receive(verb, words, out),
-        }
-    }
-
-    fn play(&mut self, lines: &str, out: &mut Vec<u8>) -> Option<()> {
-        for line in lines.lines() {
-            writeln!(out, "> {line}").ok()?;
-            self.hear(&spelled(self.alloc, line)?, out)?;
-        }
-        Some(())
     }
 }
 
 /// Plays the lines of a row.
-pub(crate) fn play(alloc: Global, lines: &str, out: &mut Vec<u8>) -> Option<()> {
-    let mut transfer = Both {
-        alloc,
-        sender: Outgoing::new(Vec::new(alloc), 1),
-        receiver: Incoming::new(alloc, THIRTY_TWO, THIRTY_TWO),
+pub(crate) fn play(lines: &str, row: &mut Row) {
+    let mut both = Both {
+        sender: Outgoing::new(Vec::new(row.alloc), 1),
+        receiver: Incoming::new(row.alloc, THIRTY_TWO, THIRTY_TWO),
     };
-    transfer.play(lines, out)
+    play_lines(&mut both, lines, row);
 }

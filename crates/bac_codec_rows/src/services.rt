@@ -1,229 +1,207 @@
 //! Lines of service data: `request CHOICE HEX` and `reply CHOICE HEX`.
 //!
 //! They are read whole and in pieces, and written again, by themselves and by their copies. Up to 200 octets are cut in two at every place, and into
-//! pieces of every size with and without empty ones between. Longer ones are cut into pieces of 1,024 octets. A line reports where pieces are read
+//! pieces of every size with and without empty ones between. Longer ones are cut into pieces of 1,024 octets. A line prints `?` where pieces are read
 //! otherwise than the whole.
 ghost use Rattle.std.specs.Prelude.{◌<◌};
 
-use crate::pieces::{between_empty_ones, cut, pieces_of};
-use crate::words::{first, octets_of, small};
+use crate::pieces::{cut, pieces_of};
+use bac_rows::row::{Row, number8, place_of};
 use bac_service::{
     AnyReply, Complex, ReadError, Reply, Request, read_reply, read_reply_parts, read_request,
     read_request_parts, reads_reply_parts, reply_len, request_len, write_reply, write_request,
 };
-use bac_value::Parts;
+use bac_value::{Fault, Parts};
 use std::alloc::Global;
-use std::io::Write;
 
-/// What was made of octets.
-#[derive(Clone, Copy, PartialEq, Eq)]
-enum Outcome {
-    /// They are written again as they are, so many.
-    Again(usize),
-    /// They are written as others.
-    Differs,
-    /// A request is refused for this reason.
-    Reject(u8),
-    /// They have a fault of this number, at a place.
-    Fault(u8, usize),
-}
-
-fn is_request_written(alloc: Global, request: Request<'_>, octets: &[u8]) -> Option<bool> {
+fn is_request_written(alloc: Global, request: Request<'_>, octets: &[u8]) -> bool {
     let mut written = Vec::new(alloc);
-    write_request(request, &mut written).ok()?;
-    Some(written.as_slice() == octets)
+    let _ = write_request(request, &mut written);
+    written.as_slice() == octets && request_len(request) == octets.len()
 }
 
-/// A request, and its copy, written again.
-fn request_again(alloc: Global, request: Request<'_>, octets: &[u8]) -> Option<Outcome> {
-    let copy = request.to_owned(alloc).ok()?;
-    let is_again = is_request_written(alloc, request, octets)?
-        && is_request_written(alloc, copy.as_request(), octets)?
-        && request_len(request) == octets.len();
-    if is_again {
-        Some(Outcome::Again(octets.len()))
-    } else {
-        Some(Outcome::Differs)
+fn is_request_copied(alloc: Global, request: Request<'_>, octets: &[u8]) -> bool {
+    match request.to_owned(alloc) {
+        Ok(copy) => is_request_written(alloc, copy.as_request(), octets),
+        Err(_) => false,
     }
 }
 
-fn is_complex_written(alloc: Global, complex: Complex<'_>, octets: &[u8]) -> Option<bool> {
+fn is_complex_written(alloc: Global, complex: Complex<'_>, octets: &[u8]) -> bool {
     let mut written = Vec::new(alloc);
-    write_reply(complex, &mut written).ok()?;
-    Some(written.as_slice() == octets)
+    let _ = write_reply(complex, &mut written);
+    written.as_slice() == octets && reply_len(complex) == octets.len()
+}
+
+fn is_complex_copied(alloc: Global, complex: Complex<'_>, octets: &[u8]) -> bool {
+    match complex.to_owned(alloc) {
+        Ok(copy) => is_complex_written(alloc, copy.as_complex(), octets),
+        Err(_) => false,
+    }
+}
+
+fn is_reply_written(alloc: Global, reply: Reply<'_>, octets: &[u8]) -> bool {
+    match reply {
+        AnyReply::Complex(complex) => is_complex_written(alloc, complex, octets),
+        _ => false,
+    }
 }
 
 /// Whether the copy of a reply with these service data is written as these octets.
-fn is_reply_copied(alloc: Global, complex: Complex<'_>, octets: &[u8]) -> Option<bool> {
+fn is_reply_copied(alloc: Global, complex: Complex<'_>, octets: &[u8]) -> bool {
     let reply: Reply<'_> = AnyReply::Complex(complex);
-    let copy = reply.to_owned(alloc).ok()?;
-    match copy.as_reply() {
-        AnyReply::Complex(copied) => is_complex_written(alloc, copied, octets),
-        _ => Some(false),
+    match reply.to_owned(alloc) {
+        Ok(copy) => is_reply_written(alloc, copy.as_reply(), octets),
+        Err(_) => false,
     }
+}
+
+/// Prints whether octets are written again as they are.
+fn print_written(is_again: bool, octets: &[u8], row: &mut Row) {
+    if is_again {
+        row.tell("# octets, written again\n", octets.len() as u64);
+    } else {
+        row.say("written as others\n");
+    }
+}
+
+/// A request, and its copy, written again.
+fn request_again(request: Request<'_>, octets: &[u8], row: &mut Row) {
+    let is_written = is_request_written(row.alloc, request, octets);
+    let is_copied = is_request_copied(row.alloc, request, octets);
+    print_written(is_written && is_copied, octets, row);
 }
 
 /// Service data of a ComplexACK, their copy and a reply's copy written again.
-fn complex_again(alloc: Global, complex: Complex<'_>, octets: &[u8]) -> Option<Outcome> {
-    let copy = complex.to_owned(alloc).ok()?;
-    let is_again = is_complex_written(alloc, complex, octets)?
-        && is_complex_written(alloc, copy.as_complex(), octets)?
-        && is_reply_copied(alloc, complex, octets)?
-        && reply_len(complex) == octets.len();
-    if is_again {
-        Some(Outcome::Again(octets.len()))
-    } else {
-        Some(Outcome::Differs)
+fn complex_again(complex: Complex<'_>, octets: &[u8], row: &mut Row) {
+    let is_written = is_complex_written(row.alloc, complex, octets);
+    let is_copied = is_complex_copied(row.alloc, complex, octets);
+    let is_in_copy = is_reply_copied(row.alloc, complex, octets);
+    print_written(is_written && is_copied && is_in_copy, octets, row);
+}
+
+fn print_reject(reason: u8, row: &mut Row) {
+    row.tell("reject #\n", u64::from(reason));
+}
+
+fn print_fault(fault: Fault, row: &mut Row) {
+    row.tell_two(
+        "fault # at #\n",
+        u64::from(fault.kind.number()),
+        fault.at as u64,
+    );
+}
+
+fn request(choice: u8, octets: &[u8], row: &mut Row) {
+    match read_request(choice, octets) {
+        Ok(request) => request_again(request, octets, row),
+        Err(reject) => print_reject(reject.reason(), row),
     }
 }
 
-/// Whether octets are read as a request or as a reply.
-#[derive(Clone, Copy)]
-enum Side {
-    Request,
-    Reply,
+fn reply(choice: u8, octets: &[u8], row: &mut Row) {
+    match read_reply(choice, octets) {
+        Ok(complex) => complex_again(complex, octets, row),
+        Err(fault) => print_fault(fault, row),
+    }
 }
 
-/// A service choice, and as what its octets are read.
+fn request_in(choice: u8, parts: Parts<'_>, octets: &[u8], row: &mut Row) {
+    match read_request_parts(row.alloc, choice, parts) {
+        Ok(owned) => request_again(owned.as_request(), octets, row),
+        Err(ReadError::Refused(reject)) => print_reject(reject.reason(), row),
+        Err(ReadError::NoMemory) => row.fail(),
+    }
+}
+
+fn reply_in(choice: u8, parts: Parts<'_>, octets: &[u8], row: &mut Row) {
+    match read_reply_parts(row.alloc, choice, parts) {
+        Ok(owned) => {
+            row.needs(reads_reply_parts(choice, parts));
+            complex_again(owned.as_complex(), octets, row);
+        }
+        Err(ReadError::Refused(fault)) => {
+            row.needs(!reads_reply_parts(choice, parts));
+            print_fault(fault, row);
+        }
+        Err(ReadError::NoMemory) => row.fail(),
+    }
+}
+
+/// Octets that are read, and what was printed of them as a whole.
 #[derive(Clone, Copy)]
-struct Reading {
-    side: Side,
+struct Reading<'a> {
+    is_reply: bool,
     choice: u8,
+    octets: &'a [u8],
+    told: &'a [u8],
 }
 
-fn whole(alloc: Global, reading: Reading, octets: &[u8]) -> Option<Outcome> {
-    match reading.side {
-        Side::Request => match read_request(reading.choice, octets) {
-            Ok(request) => request_again(alloc, request, octets),
-            Err(reject) => Some(Outcome::Reject(reject.reason())),
-        },
-        Side::Reply => match read_reply(reading.choice, octets) {
-            Ok(complex) => complex_again(alloc, complex, octets),
-            Err(fault) => Some(Outcome::Fault(fault.kind.number(), fault.at)),
-        },
-    }
-}
-
-fn request_in(alloc: Global, choice: u8, parts: Parts<'_>, octets: &[u8]) -> Option<Outcome> {
-    match read_request_parts(alloc, choice, parts) {
-        Ok(owned) => request_again(alloc, owned.as_request(), octets),
-        Err(ReadError::Refused(reject)) => Some(Outcome::Reject(reject.reason())),
-        Err(ReadError::NoMemory) => None,
-    }
-}
-
-fn reply_in(alloc: Global, choice: u8, parts: Parts<'_>, octets: &[u8]) -> Option<Outcome> {
-    let reads = reads_reply_parts(choice, parts);
-    match read_reply_parts(alloc, choice, parts) {
-        Ok(owned) if reads => complex_again(alloc, owned.as_complex(), octets),
-        Err(ReadError::Refused(fault)) if !reads => {
-            Some(Outcome::Fault(fault.kind.number(), fault.at))
-        }
-        Err(ReadError::NoMemory) => None,
-        _ => Some(Outcome::Differs),
-    }
-}
-
-fn in_pieces(
-    alloc: Global,
-    reading: Reading,
-    pieces: &[Vec<u8>],
-    octets: &[u8],
-) -> Option<Outcome> {
-    let parts = Parts::try_new(pieces)?;
-    match reading.side {
-        Side::Request => request_in(alloc, reading.choice, parts, octets),
-        Side::Reply => reply_in(alloc, reading.choice, parts, octets),
-    }
-}
-
-/// Whether octets cut in two are at every place read as that.
-fn is_at_every_cut(
-    alloc: Global,
-    reading: Reading,
-    octets: &[u8],
-    expected: Outcome,
-) -> Option<bool> {
-    for place in 0..=octets.len() {
-        let pieces = cut(alloc, octets, place)?;
-        if in_pieces(alloc, reading, &pieces, octets)? != expected {
-            return Some(false);
+impl Reading<'_> {
+    fn read_in(self, parts: Parts<'_>, row: &mut Row) {
+        if self.is_reply {
+            reply_in(self.choice, parts, self.octets, row);
+        } else {
+            request_in(self.choice, parts, self.octets, row);
         }
     }
-    Some(true)
-}
 
-/// Whether octets in pieces of that size are read as that.
-fn is_by(
-    alloc: Global,
-    reading: Reading,
-    octets: &[u8],
-    size: usize,
-    expected: Outcome,
-) -> Option<bool>
-    requires { 0 < size }
-{
-    let pieces = pieces_of(alloc, octets, size)?;
-    let others = between_empty_ones(alloc, octets, size)?;
-    Some(
-        in_pieces(alloc, reading, &pieces, octets)? == expected
-            && in_pieces(alloc, reading, &others, octets)? == expected,
-    )
-}
+    /// Notes a fault where pieces are read otherwise.
+    fn check(self, pieces: &[Vec<u8>], row: &mut Row) {
+        let mut other = Row::new(row.alloc);
+        if let Some(parts) = Parts::try_new(pieces) {
+            self.read_in(parts, &mut other);
+        }
+        row.needs(!other.has_failed && other.told.as_slice() == self.told);
+    }
 
-fn is_by_every_size(
-    alloc: Global,
-    reading: Reading,
-    octets: &[u8],
-    expected: Outcome,
-) -> Option<bool> {
-    for size in 1..=octets.len() {
-        if !is_by(alloc, reading, octets, size, expected)? {
-            return Some(false);
+    fn check_size(self, size: usize, row: &mut Row)
+        requires { 0 < size }
+    {
+        self.check(&pieces_of(row.alloc, self.octets, size, false), row);
+        self.check(&pieces_of(row.alloc, self.octets, size, true), row);
+    }
+
+    fn check_cuts(self, row: &mut Row) {
+        for place in 0..=self.octets.len() {
+            self.check(&cut(row.alloc, self.octets, place), row);
+        }
+        for size in 1..=self.octets.len() {
+            self.check_size(size, row);
         }
     }
-    Some(true)
 }
 
-/// Whether octets in pieces are read as the whole.
-fn is_in_pieces(alloc: Global, reading: Reading, octets: &[u8], expected: Outcome) -> Option<bool> {
-    if octets.len() > 200 {
-        return is_by(alloc, reading, octets, 1_024, expected);
-    }
-    Some(
-        is_at_every_cut(alloc, reading, octets, expected)?
-            && is_by_every_size(alloc, reading, octets, expected)?,
-    )
-}
-
-fn print_outcome(outcome: Outcome, out: &mut Vec<u8>) -> Option<()> {
-    match outcome {
-        Outcome::Again(len) => writeln!(out, "{len} octets, written again").ok(),
-        Outcome::Differs => writeln!(out, "written as others").ok(),
-        Outcome::Reject(reason) => writeln!(out, "reject {reason}").ok(),
-        Outcome::Fault(number, at) => writeln!(out, "fault {number} at {at}").ok(),
-    }
-}
-
-fn read_all(alloc: Global, reading: Reading, octets: &[u8], out: &mut Vec<u8>) -> Option<()> {
-    let outcome = whole(alloc, reading, octets)?;
-    print_outcome(outcome, out)?;
-    if is_in_pieces(alloc, reading, octets, outcome)? {
-        Some(())
+/// Reads octets in pieces.
+fn check_pieces(reading: Reading<'_>, row: &mut Row) {
+    if reading.octets.len() > 200 {
+        reading.check_size(1_024, row);
     } else {
-        writeln!(out, "in pieces something else").ok()
+        reading.check_cuts(row);
     }
+}
+
+fn read_all(is_reply: bool, choice: u8, octets: &[u8], row: &mut Row) {
+    let mut told = Row::new(row.alloc);
+    if is_reply {
+        reply(choice, octets, &mut told);
+    } else {
+        request(choice, octets, &mut told);
+    }
+    row.take(&told);
+    let reading = Reading {
+        is_reply,
+        choice,
+        octets,
+        told: &told.told,
+    };
+    check_pieces(reading, row);
 }
 
 /// Shows what a line says.
-pub(crate) fn show(alloc: Global, verb: &str, text: &str, out: &mut Vec<u8>) -> Option<()> {
-    let side = match verb.as_bytes() {
-        b"request" => Side::Request,
-        b"reply" => Side::Reply,
-        _ => return None,
-    };
-    let (choice, digits) = first(text);
-    let choice = small(choice)?;
-    let octets = octets_of(alloc, digits)?;
-    read_all(alloc, Reading { side, choice }, &octets, out)
+pub(crate) fn show(verb: &str, words: &str, row: &mut Row) {
+    let octets = row.octets(words, 1);
+    let side = place_of("request reply", verb);
+    row.needs(side < 2);
+    read_all(side == 1, number8(words, 0), &octets, row);
 }

@@ -2,85 +2,46 @@
 //!
 //! `room N` makes both tables. A call is `VERB KEY VALUE`, with a place for the key where the call takes one. `compared KEY ..` prints how many keys the plain
 //! table has compared in all, and `chance COUNT` makes so many generated calls.
-use crate::words::{first, number, small, spelled};
+use crate::rows::{Stage, play_lines};
+use bac_rows::row::{Row, decimal, number, number8, number32, place_of};
 use bac_slots::{Count, IndexSlots, PlainSlots, SlotTable};
-use std::alloc::Global;
-use std::io::Write;
 
-/// One call of a table, or one field of a slot that it gives by its place in order of keys or of putting.
-#[derive(Clone, Copy)]
-enum Call {
-    Len,
-    Find,
-    Rank,
-    KeyAt,
-    BeginAt,
-    ValueAt,
-    KeyByAge,
-    BeginByAge,
-    ValueByAge,
-    Get,
-    GetMut,
-    Set,
-    Remove,
-    Put,
-}
+/// The calls of a table, or of a field of a slot that it gives by its place in order of keys or of putting. In generated calls each number from 13 on is `put`.
+const CALLS: &str =
+    "len find key-at begin-at value-at key-by-age begin-by-age value-by-age get set remove get-mut rank put";
 
-const CALLS: &[(&str, Call)] = &[
-    ("len", Call::Len),
-    ("find", Call::Find),
-    ("key-at", Call::KeyAt),
-    ("begin-at", Call::BeginAt),
-    ("value-at", Call::ValueAt),
-    ("key-by-age", Call::KeyByAge),
-    ("begin-by-age", Call::BeginByAge),
-    ("value-by-age", Call::ValueByAge),
-    ("get", Call::Get),
-    ("set", Call::Set),
-    ("remove", Call::Remove),
-    ("get-mut", Call::GetMut),
-    ("rank", Call::Rank),
-    ("put", Call::Put),
-];
-
-fn call_of(verb: &str) -> Option<Call> {
-    for (name, call) in CALLS {
-        if *name == verb {
-            return Some(*call);
-        }
+/// A field of a slot, by the place of the call.
+fn field(call: usize, slot: Option<(u32, u64, &u8)>) -> Option<u64> {
+    match slot {
+        Some((key, begin, value)) => Some(match call {
+            2 | 5 => u64::from(key),
+            3 | 6 => begin,
+            _ => u64::from(*value),
+        }),
+        None => None,
     }
-    None
-}
-
-fn key_in(slot: Option<(u32, u64, &u8)>) -> Option<u64> {
-    let slot = slot?;
-    Some(u64::from(slot.0))
-}
-
-fn begin_in(slot: Option<(u32, u64, &u8)>) -> Option<u64> {
-    let slot = slot?;
-    Some(slot.1)
-}
-
-fn value_in(slot: Option<(u32, u64, &u8)>) -> Option<u64> {
-    let slot = slot?;
-    Some(u64::from(*slot.2))
 }
 
 fn number_of(value: Option<u8>) -> Option<u64> {
-    let value = value?;
-    Some(u64::from(value))
+    match value {
+        Some(value) => Some(u64::from(value)),
+        None => None,
+    }
 }
 
 /// The value behind a loan, in place of which another is left.
 fn replaced(value: Option<&mut u8>, other: u8) -> Option<u64> {
-    let value = value?;
-    Some(u64::from(std::mem::replace(value, other)))
+    match value {
+        Some(value) => Some(u64::from(std::mem::replace(value, other))),
+        None => None,
+    }
 }
 
 fn place<S: SlotTable<u32, u8>>(table: &S, key: u32) -> Option<u64> {
-    let place = table.find(&key, &mut Count { comparisons: 0 })?;
-    Some(place as u64)
+    match table.find(&key, &mut Count { comparisons: 0 }) {
+        Some(place) => Some(place as u64),
+        None => None,
+    }
 }
 
 /// The value, where it is handed back; a key that is there already is not put.
@@ -88,30 +49,26 @@ fn put<S: SlotTable<u32, u8>>(table: &mut S, key: u32, value: u8) -> Option<u64>
     if table.get(&key).is_some() {
         return Some(u64::from(value));
     }
-    let Err(refused) = table.put(key, u64::from(value), value) else {
-        return None;
-    };
-    Some(u64::from(refused.1))
+    match table.put(key, u64::from(value), value) {
+        Ok(_) => None,
+        Err(refused) => Some(u64::from(refused.1)),
+    }
 }
 
 /// What a call answers, as a number: a place or `n` is the key.
-fn called<S: SlotTable<u32, u8>>(table: &mut S, call: Call, key: u32, value: u8) -> Option<u64> {
+fn called<S: SlotTable<u32, u8>>(table: &mut S, call: usize, key: u32, value: u8) -> Option<u64> {
     let n = key as usize;
     match call {
-        Call::Len => Some(table.len() as u64),
-        Call::Find => place(table, key),
-        Call::Rank => Some(table.rank(&key) as u64),
-        Call::KeyAt => key_in(table.at(n)),
-        Call::BeginAt => begin_in(table.at(n)),
-        Call::ValueAt => value_in(table.at(n)),
-        Call::KeyByAge => key_in(table.by_age(n)),
-        Call::BeginByAge => begin_in(table.by_age(n)),
-        Call::ValueByAge => value_in(table.by_age(n)),
-        Call::Get => number_of(table.get(&key).copied()),
-        Call::GetMut => replaced(table.get_mut(&key), value),
-        Call::Set => number_of(table.set(&key, value)),
-        Call::Remove => number_of(table.remove(&key)),
-        Call::Put => put(table, key, value),
+        0 => Some(table.len() as u64),
+        1 => place(table, key),
+        2 | 3 | 4 => field(call, table.at(n)),
+        5 | 6 | 7 => field(call, table.by_age(n)),
+        8 => number_of(table.get(&key).copied()),
+        9 => number_of(table.set(&key, value)),
+        10 => number_of(table.remove(&key)),
+        11 => replaced(table.get_mut(&key), value),
+        12 => Some(table.rank(&key) as u64),
+        _ => put(table, key, value),
     }
 }
 
@@ -128,96 +85,75 @@ fn next(state: u64) -> u64 {
         .wrapping_add(1_442_695_040_888_963_407)
 }
 
-/// The call of a number of 0 to 17; from 13 on that is a put.
-fn call_by_chance(state: u64) -> Call {
-    match CALLS.get(((state >> 33) % 18) as usize) {
-        Some((_, call)) => *call,
-        None => Call::Put,
+impl Tables {
+    /// Calls both, and notes a fault where they answer otherwise.
+    fn call(&mut self, call: usize, key: u32, value: u8, row: &mut Row) -> Option<u64> {
+        let answer = called(&mut self.plain, call, key, value);
+        row.needs(called(&mut self.index, call, key, value) == answer);
+        answer
+    }
+
+    fn compared(&self, words: &str, row: &mut Row) {
+        let mut count = Count { comparisons: 0 };
+        for word in words.split(' ') {
+            let key = (decimal(word) % 4_294_967_296) as u32;
+            self.plain.find(&key, &mut count);
+            row.tell("#\n", count.comparisons);
+        }
+    }
+
+    /// A call by chance, and the state of chance after it.
+    fn chance_call(&mut self, state: u64, row: &mut Row) -> u64 {
+        let state = next(state);
+        let call = ((state >> 33) % 18) as usize;
+        let state = next(state);
+        let key = ((state >> 33) % 48) as u32;
+        self.call(call, key, (state >> 56) as u8, row);
+        state
+    }
+
+    fn chance(&mut self, count: u64, row: &mut Row) {
+        let mut state = 1;
+        let mut is_full = false;
+        for _ in 0..count {
+            state = self.chance_call(state, row);
+            is_full = is_full || self.plain.len() == self.plain.room();
+        }
+        row.tell_truth("full ", is_full);
+    }
+
+    fn answer(&mut self, verb: &str, words: &str, row: &mut Row) {
+        let call = place_of(CALLS, verb);
+        row.needs(call < 14);
+        match self.call(call, number32(words, 0), number8(words, 1), row) {
+            Some(answer) => row.tell("#\n", answer),
+            None => row.say("none\n"),
+        }
     }
 }
 
-impl Tables {
-    fn new(alloc: Global, room: usize) -> Option<Tables> {
-        let Ok(plain) = PlainSlots::new(alloc, room) else {
-            return None;
-        };
-        let Ok(index) = IndexSlots::new(alloc, room) else {
-            return None;
-        };
-        Some(Tables { plain, index })
-    }
-
-    /// Calls both; what they answer, alike.
-    fn call(&mut self, call: Call, key: u32, value: u8) -> Option<Option<u64>> {
-        let answer = called(&mut self.plain, call, key, value);
-        if called(&mut self.index, call, key, value) == answer {
-            Some(answer)
-        } else {
-            None
+impl Stage for Tables {
+    fn hear(&mut self, verb: &str, words: &str, row: &mut Row) {
+        match place_of("room compared chance", verb) {
+            0 => row.tell_two(
+                "room # #\n",
+                self.plain.room() as u64,
+                self.index.room() as u64,
+            ),
+            1 => self.compared(words, row),
+            2 => self.chance(number(words, 0), row),
+            _ => self.answer(verb, words, row),
         }
-    }
-
-    fn room(&self, out: &mut Vec<u8>) -> Option<()> {
-        writeln!(out, "room {} {}", self.plain.room(), self.index.room()).ok()
-    }
-
-    fn compared(&self, words: &str, out: &mut Vec<u8>) -> Option<()> {
-        let mut count = Count { comparisons: 0 };
-        for word in words.split(' ') {
-            let key = u32::try_from(number(word)?).ok()?;
-            self.plain.find(&key, &mut count);
-            writeln!(out, "{}", count.comparisons).ok()?;
-        }
-        Some(())
-    }
-
-    fn chance(&mut self, words: &str, out: &mut Vec<u8>) -> Option<()> {
-        let mut state = 1;
-        let mut full = 0u64;
-        for _ in 0..number(words)? {
-            state = next(state);
-            let call = call_by_chance(state);
-            state = next(state);
-            let key = ((state >> 33) % 48) as u32;
-            self.call(call, key, (state >> 56) as u8)?;
-            if self.plain.len() == self.plain.room() {
-                full = full.saturating_add(1);
-            }
-        }
-        writeln!(out, "full {}", full > 0).ok()
-    }
-
-    fn answer(&mut self, call: Call, words: &str, out: &mut Vec<u8>) -> Option<()> {
-        let (key, value) = first(words);
-        let key = u32::try_from(number(key)?).ok()?;
-        match self.call(call, key, small(value).unwrap_or(0))? {
-            Some(answer) => writeln!(out, "{answer}").ok(),
-            None => writeln!(out, "none").ok(),
-        }
-    }
-
-    fn hear(&mut self, verb: &str, words: &str, out: &mut Vec<u8>) -> Option<()> {
-        match verb.as_bytes() {
-            b"room" => self.room(out),
-            b"compared" => self.compared(words, out),
-            b"chance" => self.chance(words, out),
-            _ => self.answer(call_of(verb)?, words, out),
-        }
-    }
-
-    fn play(&mut self, alloc: Global, lines: &str, out: &mut Vec<u8>) -> Option<()> {
-        for line in lines.lines() {
-            writeln!(out, "> {line}").ok()?;
-            let line = spelled(alloc, line)?;
-            let (verb, words) = first(&line);
-            self.hear(verb, words, out)?;
-        }
-        Some(())
     }
 }
 
 /// Plays the lines of a row; the first one says the room of the tables.
-pub(crate) fn play(alloc: Global, lines: &str, out: &mut Vec<u8>) -> Option<()> {
-    let (room, _) = lines.strip_prefix("room ")?.split_once('\n')?;
-    Tables::new(alloc, number(room)? as usize)?.play(alloc, lines, out)
+pub(crate) fn play(lines: &str, row: &mut Row) {
+    let room = number(lines.lines().next().unwrap_or(""), 1) as usize;
+    let plain = PlainSlots::new(row.alloc, room);
+    let index = IndexSlots::new(row.alloc, room);
+    match (plain, index) {
+        (Ok(plain), Ok(index)) => play_lines(&mut Tables { plain, index }, lines, row),
+        _ => row.fail(),
+    }
 }

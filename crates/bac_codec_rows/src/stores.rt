@@ -3,253 +3,211 @@
 //! `house`, `document TEXT`, `objects OBJECT ..` and `many COUNT` make another store, or print why there is none; `copy` continues with a copy, and `same` compares
 //! with the house, or with the store of a document. `ask CHOICE HEX` performs a request and prints the reply. `change OBJECT PROPERTY HEX` and `fill FILE HEX`
 //! are changes at the node. `findings TEXT` prints all faults of a document, each with its line. `find COUNT` looks up so many objects, and `faults` prints all faults of changes.
-use crate::objects::{bare, identifier, objects_of};
-use crate::words::{first, number, octets_of, print_octets, put, small, spelled};
+use crate::objects::{descending, identifier, objects_of};
+use crate::rows::{Stage, play_lines};
+use crate::words::print_octets;
 use bac_objects::{document_findings, read_objects};
-use bac_service::{AnyReply, Complex, Reply, read_request, write_reply};
+use bac_rows::row::{Row, number8, number32, place_of, word};
+use bac_service::{AnyReply, Complex, Reply, Request, read_request, write_reply};
 use bac_store::{Change, ChangeFault, Object, Store, house};
-use bac_value::ObjectIdentifier;
 use std::alloc::Global;
-use std::io::Write;
+use std::fmt::Display;
 
-fn print_complex(alloc: Global, complex: Complex<'_>, out: &mut Vec<u8>) -> Option<()> {
+fn spelling_of(alloc: Global, complex: Complex<'_>) -> Vec<u8> {
     let mut octets = Vec::new(alloc);
-    write_reply(complex, &mut octets).ok()?;
-    out.write_all(b"complex ").ok()?;
-    print_octets(&octets, out)
+    let _ = write_reply(complex, &mut octets);
+    octets
 }
 
-fn print_reply(alloc: Global, reply: Reply<'_>, out: &mut Vec<u8>) -> Option<()> {
+fn print_reply(reply: Reply<'_>, row: &mut Row) {
     match reply {
-        AnyReply::Simple => writeln!(out, "simple").ok(),
-        AnyReply::Complex(complex) => print_complex(alloc, complex, out),
-        AnyReply::Error { class, code } => writeln!(out, "error {class} {code}").ok(),
-        AnyReply::Reject(reason) => writeln!(out, "reject {reason}").ok(),
+        AnyReply::Simple => row.say("simple\n"),
+        AnyReply::Complex(complex) => {
+            row.say("complex ");
+            print_octets(&spelling_of(row.alloc, complex), row);
+        }
+        AnyReply::Error { class, code } => {
+            row.tell_two("error # #\n", u64::from(class), u64::from(code));
+        }
+        AnyReply::Reject(reason) => row.tell("reject #\n", u64::from(reason)),
     }
 }
 
-/// Objects in descending order.
-fn descending(alloc: Global, count: u32) -> Option<Vec<Object>> {
-    let mut objects = Vec::new(alloc);
-    for place in 0..count {
-        let id = ObjectIdentifier::new(0, count.saturating_sub(1).saturating_sub(place))?;
-        put(&mut objects, bare(alloc, id)?)?;
+/// Whether a reply has service data that end so.
+fn ends_with(alloc: Global, reply: Reply<'_>, end: &[u8]) -> bool {
+    match reply {
+        AnyReply::Complex(complex) => spelling_of(alloc, complex).ends_with(end),
+        _ => false,
     }
-    Some(objects)
 }
 
 /// A store, and what plays on it.
 #[derive(Drop)]
 struct Playing {
-    alloc: Global,
     store: Store,
 }
 
 impl Playing {
-    /// Continues with a store of these objects, or prints why there is none.
-    fn make(&mut self, objects: Vec<Object>, out: &mut Vec<u8>) -> Option<()> {
-        match Store::new(self.alloc, objects) {
+    /// Continues with a store, or prints why there is none.
+    fn make<F: Display + Drop>(&mut self, made: Result<Store, F>, row: &mut Row) {
+        match made {
             Ok(store) => {
                 self.store = store;
-                writeln!(out, "store").ok()
+                row.say("store\n");
             }
-            Err(fault) => writeln!(out, "{fault}").ok(),
+            Err(fault) => row.line(fault),
         }
     }
 
-    fn read_document(&mut self, text: &str, out: &mut Vec<u8>) -> Option<()> {
-        match read_objects(self.alloc, text.as_bytes()) {
-            Ok(store) => {
-                self.store = store;
-                writeln!(out, "store").ok()
-            }
-            Err(fault) => writeln!(out, "{fault}").ok(),
+    /// Prints whether it is that other store.
+    fn compare<F: Drop>(&self, other: Result<Store, F>, row: &mut Row) {
+        match other {
+            Ok(other) => row.tell_truth("same ", self.store.same(&other)),
+            Err(_) => row.fail(),
         }
-    }
-
-    fn is_house(&self) -> Option<bool> {
-        match house(self.alloc) {
-            Ok(house) => Some(self.store.same(&house)),
-            Err(_) => None,
-        }
-    }
-
-    /// Whether it is the store of a document.
-    fn is_of(&self, text: &str) -> Option<bool> {
-        match read_objects(self.alloc, text.as_bytes()) {
-            Ok(other) => Some(self.store.same(&other)),
-            Err(_) => None,
-        }
-    }
-
-    fn compare(&self, text: &str, out: &mut Vec<u8>) -> Option<()> {
-        let same = if text.is_empty() {
-            self.is_house()?
-        } else {
-            self.is_of(text)?
-        };
-        writeln!(out, "same {same}").ok()
     }
 
     /// Continues with a copy.
-    fn copy(&mut self, out: &mut Vec<u8>) -> Option<()> {
-        let Ok(copy) = self.store.copy(self.alloc) else {
-            return None;
-        };
-        let same = self.store.same(&copy);
-        self.store = copy;
-        writeln!(out, "same {same}").ok()
+    fn copy(&mut self, row: &mut Row) {
+        match self.store.copy(row.alloc) {
+            Ok(copy) => {
+                row.tell_truth("same ", self.store.same(&copy));
+                self.store = copy;
+            }
+            Err(_) => row.fail(),
+        }
     }
 
     /// Performs a request by a plan.
-    fn perform(&mut self, choice: u8, octets: &[u8], out: &mut Vec<u8>) -> Option<()> {
-        let request = read_request(choice, octets).ok()?;
-        let Ok(plan) = self.store.prepare(self.alloc, &request) else {
-            return None;
-        };
-        let told = print_reply(self.alloc, plan.reply(), out);
-        self.store.commit(plan);
-        told
+    fn perform(&mut self, request: &Request<'_>, row: &mut Row) {
+        match self.store.prepare(row.alloc, request) {
+            Ok(plan) => {
+                print_reply(plan.reply(), row);
+                self.store.commit(plan);
+            }
+            Err(_) => row.fail(),
+        }
     }
 
-    fn ask(&mut self, words: &str, out: &mut Vec<u8>) -> Option<()> {
-        let (choice, digits) = first(words);
-        let octets = octets_of(self.alloc, digits)?;
-        self.perform(small(choice)?, &octets, out)
+    fn ask(&mut self, words: &str, row: &mut Row) {
+        let octets = row.octets(words, 1);
+        match read_request(number8(words, 0), &octets) {
+            Ok(request) => self.perform(&request, row),
+            Err(_) => row.fail(),
+        }
     }
 
-    /// Makes a change, or prints why not, and whether the store is as it was.
-    fn make_change(&mut self, change: &Change, out: &mut Vec<u8>) -> Option<()> {
-        let Ok(before) = self.store.copy(self.alloc) else {
-            return None;
-        };
-        let Err(fault) = self.store.change(self.alloc, change) else {
-            return out.write_all(b"changed\n").ok();
-        };
-        let same = self.store.same(&before);
-        writeln!(out, "{}: {fault}, same {same}", fault.number()).ok()
+    /// Prints what came of a change; of one that was not made, why, and whether the store is as it was.
+    fn print_changed(&self, changed: Result<(), ChangeFault>, before: &Store, row: &mut Row) {
+        match changed {
+            Ok(()) => row.say("changed\n"),
+            Err(fault) => {
+                row.tell("#: ", u64::from(fault.number()));
+                row.show(fault);
+                row.tell_truth(", same ", self.store.same(before));
+            }
+        }
     }
 
-    fn change(&mut self, words: &str, out: &mut Vec<u8>) -> Option<()> {
-        let (object, words) = first(words);
-        let (property, digits) = first(words);
-        let change = Change::Value {
-            object: identifier(object)?,
-            property: u32::try_from(number(property)?).ok()?,
-            octets: octets_of(self.alloc, digits)?,
-        };
-        self.make_change(&change, out)
+    fn make_change(&mut self, change: &Change, row: &mut Row) {
+        match self.store.copy(row.alloc) {
+            Ok(before) => {
+                let changed = self.store.change(row.alloc, change);
+                self.print_changed(changed, &before, row);
+            }
+            Err(_) => row.fail(),
+        }
     }
 
-    fn fill(&mut self, words: &str, out: &mut Vec<u8>) -> Option<()> {
-        let (object, digits) = first(words);
-        let change = Change::File {
-            object: identifier(object)?,
-            octets: octets_of(self.alloc, digits)?,
-        };
-        self.make_change(&change, out)
+    fn change(&mut self, words: &str, row: &mut Row) {
+        match identifier(word(words, 0)) {
+            Some(object) => {
+                let change = Change::Value {
+                    object,
+                    property: number32(words, 1),
+                    octets: row.octets(words, 2),
+                };
+                self.make_change(&change, row);
+            }
+            None => row.fail(),
+        }
     }
 
-    /// Whether a reply has service data that end so.
-    fn ends_with(&self, reply: Reply<'_>, end: &[u8]) -> Option<bool> {
-        let AnyReply::Complex(complex) = reply else {
-            return Some(false);
-        };
-        let mut data = Vec::new(self.alloc);
-        write_reply(complex, &mut data).ok()?;
-        Some(data.ends_with(end))
+    fn fill(&mut self, words: &str, row: &mut Row) {
+        match identifier(word(words, 0)) {
+            Some(object) => {
+                let change = Change::File {
+                    object,
+                    octets: row.octets(words, 1),
+                };
+                self.make_change(&change, row);
+            }
+            None => row.fail(),
+        }
     }
 
-    /// Whether a read is answered by service data that end so.
-    fn answers(&self, octets: &[u8], end: &[u8]) -> Option<bool> {
-        let request = read_request(12, octets).ok()?;
-        match self.store.prepare(self.alloc, &request) {
-            Ok(plan) => self.ends_with(plan.reply(), end),
-            Err(_) => None,
+    /// Whether a request is answered by service data that end so.
+    fn answers(&self, alloc: Global, request: &Request<'_>, end: &[u8]) -> bool {
+        match self.store.prepare(alloc, request) {
+            Ok(plan) => ends_with(alloc, plan.reply(), end),
+            Err(_) => false,
         }
     }
 
     /// Whether a read of the object-identifier of an analog-input gets it.
-    fn finds(&self, instance: u32) -> Option<bool> {
+    fn finds(&self, alloc: Global, instance: u32) -> bool {
         let [_, high, middle, low] = instance.to_be_bytes();
-        self.answers(
-            &[0x0C, 0, high, middle, low, 0x19, 75],
-            &[0xC4, 0, high, middle, low, 0x3F],
-        )
+        let end = [0xC4, 0, high, middle, low, 0x3F];
+        match read_request(12, &[0x0C, 0, high, middle, low, 0x19, 75]) {
+            Ok(request) => self.answers(alloc, &request, &end),
+            Err(_) => false,
+        }
     }
 
     /// How many of so many instances there are, and whether the last one is.
-    fn find(&self, count: u32, out: &mut Vec<u8>) -> Option<()> {
-        let mut found = 0u32;
+    fn find(&self, count: u32, row: &mut Row) {
+        let mut found = 0u64;
         let mut is_last = false;
         for instance in 0..count {
-            is_last = self.finds(instance)?;
-            found = found.saturating_add(u32::from(is_last));
+            is_last = self.finds(row.alloc, instance);
+            found = found.saturating_add(u64::from(is_last));
         }
-        writeln!(out, "found {found}, the last {is_last}").ok()
+        row.tell("found #", found);
+        row.tell_truth(", the last ", is_last);
     }
 
     /// Continues with the house.
-    fn make_house(&mut self) -> Option<()> {
-        let Ok(store) = house(self.alloc) else {
-            return None;
-        };
-        self.store = store;
-        Some(())
-    }
-
-    fn make_objects(&mut self, words: &str, out: &mut Vec<u8>) -> Option<()> {
-        let objects = objects_of(self.alloc, words)?;
-        self.make(objects, out)
-    }
-
-    fn make_many(&mut self, count: u32, out: &mut Vec<u8>) -> Option<()> {
-        let objects = descending(self.alloc, count)?;
-        self.make(objects, out)
-    }
-
-    fn make_other(&mut self, verb: &str, words: &str, out: &mut Vec<u8>) -> Option<()> {
-        match verb.as_bytes() {
-            b"house" => self.make_house(),
-            b"document" => self.read_document(words, out),
-            b"findings" => print_findings(self.alloc, words, out),
-            b"objects" => self.make_objects(words, out),
-            b"many" => self.make_many(words.parse::<u32>().ok()?, out),
-            b"find" => self.find(words.parse::<u32>().ok()?, out),
-            b"faults" => print_faults(out),
-            _ => None,
+    fn make_house(&mut self, row: &mut Row) {
+        match house(row.alloc) {
+            Ok(store) => self.store = store,
+            Err(_) => row.fail(),
         }
     }
 
-    fn hear(&mut self, verb: &str, words: &str, out: &mut Vec<u8>) -> Option<()> {
-        match verb.as_bytes() {
-            b"ask" => self.ask(words, out),
-            b"change" => self.change(words, out),
-            b"fill" => self.fill(words, out),
-            b"same" => self.compare(words, out),
-            b"copy" => self.copy(out),
-            _ => self.make_other(verb, words, out),
-        }
+    fn make_of(&mut self, objects: Vec<Object>, row: &mut Row) {
+        self.make(Store::new(row.alloc, objects), row);
     }
 
-    fn play(&mut self, lines: &str, out: &mut Vec<u8>) -> Option<()> {
-        for line in lines.lines() {
-            writeln!(out, "> {line}").ok()?;
-            let line = spelled(self.alloc, line)?;
-            let (verb, words) = first(&line);
-            self.hear(verb, words, out)?;
+    /// Prints whether the store is the house store, or that of a document.
+    fn compare_with(&self, text: &str, row: &mut Row) {
+        if text.is_empty() {
+            self.compare(house(row.alloc), row);
+        } else {
+            self.compare(read_objects(row.alloc, text.as_bytes()), row);
         }
-        Some(())
     }
 }
 
 /// Prints all faults of a document.
-fn print_findings(alloc: Global, text: &str, out: &mut Vec<u8>) -> Option<()> {
-    let findings = document_findings(alloc, text.as_bytes()).ok()?;
-    for finding in findings.iter() {
-        writeln!(out, "{finding}").ok()?;
+fn print_findings(text: &[u8], row: &mut Row) {
+    match document_findings(row.alloc, text) {
+        Ok(findings) => {
+            for finding in findings.iter() {
+                row.line(finding);
+            }
+        }
+        Err(_) => row.fail(),
     }
-    Some(())
 }
 
 const FAULTS: &[ChangeFault] = &[
@@ -260,17 +218,39 @@ const FAULTS: &[ChangeFault] = &[
     ChangeFault::NoMemory,
 ];
 
-fn print_faults(out: &mut Vec<u8>) -> Option<()> {
+fn print_faults(row: &mut Row) {
     for fault in FAULTS {
-        writeln!(out, "{}: {fault}", fault.number()).ok()?;
+        row.tell("#: ", u64::from(fault.number()));
+        row.line(fault);
     }
-    Some(())
+}
+
+const VERBS: &str = "house document objects many copy same ask change fill findings find faults";
+
+impl Stage for Playing {
+    fn hear(&mut self, verb: &str, words: &str, row: &mut Row) {
+        match place_of(VERBS, verb) {
+            0 => self.make_house(row),
+            1 => self.make(read_objects(row.alloc, words.as_bytes()), row),
+            2 => self.make_of(objects_of(words, row), row),
+            3 => self.make_of(descending(row.alloc, number32(words, 0)), row),
+            4 => self.copy(row),
+            5 => self.compare_with(words, row),
+            6 => self.ask(words, row),
+            7 => self.change(words, row),
+            8 => self.fill(words, row),
+            9 => print_findings(words.as_bytes(), row),
+            10 => self.find(number32(words, 0), row),
+            11 => print_faults(row),
+            _ => row.fail(),
+        }
+    }
 }
 
 /// Plays the lines of a row.
-pub(crate) fn play(alloc: Global, lines: &str, out: &mut Vec<u8>) -> Option<()> {
-    let Ok(store) = house(alloc) else {
-        return None;
-    };
-    Playing { alloc, store }.play(lines, out)
+pub(crate) fn play(lines: &str, row: &mut Row) {
+    match house(row.alloc) {
+        Ok(store) => play_lines(&mut Playing { store }, lines, row),
+        Err(_) => row.fail(),
+    }
 }

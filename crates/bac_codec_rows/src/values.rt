@@ -3,181 +3,200 @@
 //! `tag`, `element` and `data` read octets and print how many were read, or the number and the place of a fault. `piece SIZE` reads an element in pieces of
 //! that size. Values and data that were read are written again. `member` reads an element under a context tag, prints the tag's number and the contents, and
 //! writes it again. `print` prints the value of octets as text, and `value` reads the text of one.
-use crate::pieces::{between_empty_ones, pieces_of};
-use crate::words::{first, number, octets_of, print_again, print_octets};
+use crate::pieces::pieces_of;
+use crate::words::{print_again, print_octets};
+use bac_rows::row::{Row, number, place_of};
 use bac_value::{
     Class, Data, Element, Fault, Form, Octets, Parts, Tag, Value, copy_out, read_data,
     read_element, read_tag, take_element, value_of, write_data, write_tag, write_value,
 };
-use bac_value_text::{Separator, ValueFault, read_value, value_text};
+use bac_value_text::{Separator, read_value, value_text};
 use std::alloc::Global;
-use std::io::Write;
 
-fn print_length(len: usize, out: &mut Vec<u8>) -> Option<()> {
-    writeln!(out, "length {len}").ok()
+/// Prints how many octets were read.
+fn print_length(len: usize, row: &mut Row) {
+    row.tell("length #\n", len as u64);
 }
 
-fn print_fault(fault: Fault, out: &mut Vec<u8>) -> Option<()> {
-    writeln!(out, "fault {} at {}", fault.kind.number(), fault.at).ok()
+fn print_fault(fault: Fault, row: &mut Row) {
+    row.tell_two(
+        "fault # at #\n",
+        u64::from(fault.kind.number()),
+        fault.at as u64,
+    );
 }
 
-fn tag(octets: &[u8], out: &mut Vec<u8>) -> Option<()> {
+fn tag(octets: &[u8], row: &mut Row) {
     match read_tag(octets) {
-        Ok((_, len)) => print_length(len, out),
-        Err(fault) => print_fault(fault, out),
+        Ok((_, len)) => print_length(len, row),
+        Err(fault) => print_fault(fault, row),
     }
 }
 
-fn spelling_of(alloc: Global, value: &Value) -> Option<Vec<u8>> {
+fn spelling_of(alloc: Global, value: &Value) -> Vec<u8> {
     let mut out = Vec::new(alloc);
-    write_value(value, &mut out).ok()?;
-    Some(out)
+    let _ = write_value(value, &mut out);
+    out
 }
 
 /// Writes the value of an element again, where it is one.
-fn write_again(
-    alloc: Global,
-    value: Option<Value>,
-    octets: &[u8],
-    out: &mut Vec<u8>,
-) -> Option<()> {
-    match value {
-        Some(value) => print_again(&spelling_of(alloc, &value)?, octets, out),
-        None => writeln!(out, "no value").ok(),
+fn write_value_of<O: Octets>(element: Element<O>, octets: &[u8], row: &mut Row) {
+    match value_of(row.alloc, element) {
+        Ok(Some(value)) => print_again(&spelling_of(row.alloc, &value), octets, row),
+        Ok(None) => row.say("no value\n"),
+        Err(_) => row.fail(),
     }
 }
 
-fn element(alloc: Global, octets: &[u8], out: &mut Vec<u8>) -> Option<()> {
+/// So many of the first octets.
+fn front(octets: &[u8], len: usize) -> &[u8] {
+    octets.get(..len).unwrap_or(octets)
+}
+
+/// Writes contents under a context tag.
+fn write_member(tag: &Tag, contents: &[u8], octets: &[u8], row: &mut Row) {
+    let mut out = Vec::new(row.alloc);
+    let _ = write_tag(tag, &mut out);
+    let _ = out.extend_from_slice(contents);
+    print_again(&out, octets, row);
+}
+
+/// Writes an element under a context tag again.
+fn member_again(element: Element<&[u8]>, octets: &[u8], row: &mut Row) {
+    let number = element.tag.number;
+    row.tell("context # contents ", u64::from(number));
+    print_octets(element.contents, row);
+    let len = u32::try_from(element.contents.len()).unwrap_or(0);
+    match Tag::new(number, Class::Context, Form::Length(len)) {
+        Some(tag) => write_member(&tag, element.contents, octets, row),
+        None => row.fail(),
+    }
+}
+
+/// Reads an element, under a context tag or not, and writes it again.
+fn element(is_member: bool, octets: &[u8], row: &mut Row) {
     match read_element(octets) {
         Ok((element, len)) => {
-            print_length(len, out)?;
-            write_again(
-                alloc,
-                value_of(alloc, element).ok()?,
-                octets.get(..len)?,
-                out,
-            )
+            print_length(len, row);
+            if is_member {
+                member_again(element, front(octets, len), row);
+            } else {
+                write_value_of(element, front(octets, len), row);
+            }
         }
-        Err(fault) => print_fault(fault, out),
+        Err(fault) => print_fault(fault, row),
     }
 }
 
-/// The spelling of contents under a context tag of that number.
-fn member_of(alloc: Global, number: u8, contents: &[u8]) -> Option<Vec<u8>> {
-    let len = u32::try_from(contents.len()).ok()?;
-    let tag = Tag::new(number, Class::Context, Form::Length(len))?;
-    let mut out = Vec::new(alloc);
-    write_tag(&tag, &mut out).ok()?;
-    out.extend_from_slice(contents).ok()?;
-    Some(out)
+fn write_data_again(data: Data<'_>, octets: &[u8], row: &mut Row) {
+    let mut written = Vec::new(row.alloc);
+    let _ = write_data(data, &mut written);
+    print_again(&written, octets, row);
 }
 
-fn print_member(element: Element<&[u8]>, out: &mut Vec<u8>) -> Option<()> {
-    write!(out, "context {} contents ", element.tag.number).ok()?;
-    print_octets(element.contents, out)
-}
-
-/// Reads an element under a context tag, and writes it again.
-fn member(alloc: Global, octets: &[u8], out: &mut Vec<u8>) -> Option<()> {
-    match read_element(octets) {
-        Ok((element, len)) => {
-            print_length(len, out)?;
-            print_member(element, out)?;
-            let written = member_of(alloc, element.tag.number, element.contents)?;
-            print_again(&written, octets.get(..len)?, out)
-        }
-        Err(fault) => print_fault(fault, out),
-    }
-}
-
-fn write_data_again(alloc: Global, data: Data<'_>, octets: &[u8], out: &mut Vec<u8>) -> Option<()> {
-    let mut written = Vec::new(alloc);
-    write_data(data, &mut written).ok()?;
-    print_again(&written, octets, out)
-}
-
-fn data(alloc: Global, octets: &[u8], out: &mut Vec<u8>) -> Option<()> {
+fn data(octets: &[u8], row: &mut Row) {
     match read_data(octets) {
         Ok((data, len)) => {
-            print_length(len, out)?;
-            write_data_again(alloc, data, octets.get(..len)?, out)
+            print_length(len, row);
+            write_data_again(data, front(octets, len), row);
         }
-        Err(fault) => print_fault(fault, out),
+        Err(fault) => print_fault(fault, row),
     }
 }
 
-fn copy_again(alloc: Global, parts: &Parts<'_>, octets: &[u8], out: &mut Vec<u8>) -> Option<()> {
-    let mut copied = Vec::new(alloc);
-    copy_out(parts, 0, parts.len(), &mut copied).ok()?;
-    print_again(&copied, octets, out)
+fn copy_again(parts: &Parts<'_>, octets: &[u8], row: &mut Row) {
+    let mut copied = Vec::new(row.alloc);
+    let _ = copy_out(parts, 0, parts.len(), &mut copied);
+    print_again(&copied, octets, row);
+}
+
+fn parts_again(parts: Parts<'_>, octets: &[u8], row: &mut Row) {
+    copy_again(&parts, octets, row);
+    match take_element(parts) {
+        Ok((element, _)) => write_value_of(element, octets, row),
+        Err(_) => row.fail(),
+    }
 }
 
 /// Copies pieces, and writes the value again that they begin with.
-fn element_in(alloc: Global, pieces: &[Vec<u8>], octets: &[u8], out: &mut Vec<u8>) -> Option<()> {
-    let parts = Parts::try_new(pieces)?;
-    copy_again(alloc, &parts, octets, out)?;
-    let (element, _) = take_element(parts).ok()?;
-    write_again(alloc, value_of(alloc, element).ok()?, octets, out)
+fn element_in(pieces: &[Vec<u8>], octets: &[u8], row: &mut Row) {
+    match Parts::try_new(pieces) {
+        Some(parts) => parts_again(parts, octets, row),
+        None => row.fail(),
+    }
 }
 
-fn piece(alloc: Global, words: &str, out: &mut Vec<u8>) -> Option<()> {
-    let (size, digits) = first(words);
-    let size = number(size)?.max(1) as usize;
-    let octets = octets_of(alloc, digits)?;
-    element_in(alloc, &pieces_of(alloc, &octets, size)?, &octets, out)?;
-    element_in(
-        alloc,
-        &between_empty_ones(alloc, &octets, size)?,
-        &octets,
-        out,
-    )
+fn pieces_again(octets: &[u8], size: usize, empty: bool, row: &mut Row) {
+    let pieces = pieces_of(row.alloc, octets, size.max(1), empty);
+    element_in(&pieces, octets, row);
+}
+
+fn piece(words: &str, row: &mut Row) {
+    let size = number(words, 0) as usize;
+    let octets = row.octets(words, 1);
+    pieces_again(&octets, size, false, row);
+    pieces_again(&octets, size, true, row);
 }
 
 /// Reads a text and prints the octets of its value.
-fn read_text(alloc: Global, separator: Separator, text: &[u8], out: &mut Vec<u8>) -> Option<()> {
-    match read_value(alloc, separator, text) {
-        Ok(value) => print_octets(&spelling_of(alloc, &value)?, out),
-        Err(ValueFault::NoValue) => writeln!(out, "no value").ok(),
-        Err(ValueFault::NoMemory) => None,
+fn read_text(separator: Separator, text: &[u8], row: &mut Row) {
+    match read_value(row.alloc, separator, text) {
+        Ok(value) => print_octets(&spelling_of(row.alloc, &value), row),
+        Err(_) => row.say("no value\n"),
     }
 }
 
 /// Prints a value, and the octets of the value that is read from that text.
-fn print_and_read(
-    alloc: Global,
-    separator: Separator,
-    value: &Value,
-    out: &mut Vec<u8>,
-) -> Option<()> {
-    let text = value_text(alloc, separator, value).ok()?;
-    out.write_all(&text).ok()?;
-    out.write_all(b"\n").ok()?;
-    read_text(alloc, separator, &text, out)
+fn print_and_read(separator: Separator, value: &Value, row: &mut Row) {
+    match value_text(row.alloc, separator, value) {
+        Ok(text) => {
+            row.put_all(&text);
+            row.put(b'\n');
+            read_text(separator, &text, row);
+        }
+        Err(_) => row.fail(),
+    }
 }
 
-fn print(alloc: Global, octets: &[u8], out: &mut Vec<u8>) -> Option<()> {
-    let (element, _) = read_element(octets).ok()?;
-    let value = value_of(alloc, element).ok()??;
-    print_and_read(alloc, Separator::Space, &value, out)?;
-    print_and_read(alloc, Separator::Colon, &value, out)
+fn print_value(element: Element<&[u8]>, row: &mut Row) {
+    match value_of(row.alloc, element) {
+        Ok(Some(value)) => {
+            print_and_read(Separator::Space, &value, row);
+            print_and_read(Separator::Colon, &value, row);
+        }
+        _ => row.fail(),
+    }
 }
 
-fn show_octets(alloc: Global, verb: &str, octets: &[u8], out: &mut Vec<u8>) -> Option<()> {
-    match verb.as_bytes() {
-        b"tag" => tag(octets, out),
-        b"element" => element(alloc, octets, out),
-        b"member" => member(alloc, octets, out),
-        b"data" => data(alloc, octets, out),
-        b"print" => print(alloc, octets, out),
-        _ => None,
+fn print(octets: &[u8], row: &mut Row) {
+    match read_element(octets) {
+        Ok((element, _)) => print_value(element, row),
+        Err(_) => row.fail(),
+    }
+}
+
+const VERBS: &str = "tag element member data print";
+
+/// Shows octets, which are lent, so that nothing is to be dropped at the end of each arm.
+fn show_octets(verb: &str, octets: &[u8], row: &mut Row) {
+    match place_of(VERBS, verb) {
+        0 => tag(octets, row),
+        1 => element(false, octets, row),
+        2 => element(true, octets, row),
+        3 => data(octets, row),
+        4 => print(octets, row),
+        _ => row.fail(),
     }
 }
 
 /// Shows what a line says.
-pub(crate) fn show(alloc: Global, verb: &str, text: &str, out: &mut Vec<u8>) -> Option<()> {
-    match verb.as_bytes() {
-        b"piece" => piece(alloc, text, out),
-        b"value" => read_text(alloc, Separator::Colon, text.as_bytes(), out),
-        _ => show_octets(alloc, verb, &octets_of(alloc, text)?, out),
+pub(crate) fn show(verb: &str, words: &str, row: &mut Row) {
+    match place_of("piece value", verb) {
+        0 => piece(words, row),
+        1 => read_text(Separator::Colon, words.as_bytes(), row),
+        _ => {
+            let octets = row.octets(words, 0);
+            show_octets(verb, &octets, row);
+        }
     }
 }

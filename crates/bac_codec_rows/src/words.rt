@@ -1,160 +1,104 @@
-//! The words of a line, and what they spell.
+//! What a line spells, and how octets are printed.
 //!
 //! In a line `|` stands for the end of a line, `~` for a carriage return, `^` for a tab and `_` for nothing; `$COUNT*TEXT$` for the text so many times, and
 //! `$COUNT$` for so many octets that count up from 0 to 250, in hexadecimal.
+use bac_rows::row::{Row, decimal};
 use std::alloc::Global;
-use std::fmt::Write as _;
-use std::io::Write;
 
-/// The first word of a text, and what follows it.
-pub(crate) fn first(text: &str) -> (&str, &str) {
-    text.split_once(' ').unwrap_or((text, ""))
-}
-
-/// A decimal number.
-pub(crate) fn number(text: &str) -> Option<u64> {
-    text.parse::<u64>().ok()
-}
-
-/// A decimal number of at most 255.
-pub(crate) fn small(text: &str) -> Option<u8> {
-    text.parse::<u8>().ok()
-}
-
-/// Appends an item; None where memory is refused.
-pub(crate) fn put<T: Drop>(items: &mut Vec<T>, item: T) -> Option<()> {
-    match items.push(item) {
-        Ok(()) => Some(()),
-        Err(_) => None,
+/// What an octet stands for.
+fn meant(octet: u8) -> u8 {
+    match octet {
+        b'|' => b'\n',
+        b'~' => b'\r',
+        b'^' => b'\t',
+        other => other,
     }
 }
 
-/// The octets of hexadecimal digits.
-pub(crate) fn octets_of(alloc: Global, digits: &str) -> Option<Vec<u8>> {
-    hex::decode(alloc, digits).ok()
-}
-
-fn put_counting(count: u64, out: &mut String) -> Option<()> {
-    for place in 0..count {
-        write!(out, "{:02X}", place % 251).ok()?;
-    }
-    Some(())
-}
-
-/// What a character stands for.
-fn meant(character: char) -> Option<char> {
-    match character {
-        '|' => Some('\n'),
-        '~' => Some('\r'),
-        '^' => Some('\t'),
-        '_' => None,
-        other => Some(other),
-    }
-}
-
-fn put_plain(text: &str, out: &mut String) -> Option<()> {
-    for character in text.chars() {
-        if let Some(character) = meant(character) {
-            out.push(character).ok()?;
+fn put_plain(text: &str, out: &mut Row) {
+    for octet in text.as_bytes() {
+        if *octet != b'_' {
+            out.put(meant(*octet));
         }
     }
-    Some(())
 }
 
-fn put_times(count: u64, text: &str, out: &mut String) -> Option<()> {
-    for _ in 0..count {
-        put_plain(text, out)?;
-    }
-    Some(())
-}
-
-fn put_repeated(word: &str, out: &mut String) -> Option<()> {
+fn put_repeated(word: &str, out: &mut Row) {
     match word.split_once('*') {
-        Some((count, text)) => put_times(number(count)?, text, out),
-        None => put_counting(number(word)?, out),
-    }
-}
-
-/// What a line spells.
-pub(crate) fn spelled(alloc: Global, line: &str) -> Option<String> {
-    let mut out = String::new(alloc);
-    let mut is_repeated = false;
-    for part in line.split('$') {
-        if is_repeated {
-            put_repeated(part, &mut out)?;
-        } else {
-            put_plain(part, &mut out)?;
+        Some((count, text)) => {
+            for _ in 0..decimal(count) {
+                put_plain(text, out);
+            }
         }
-        is_repeated = !is_repeated;
+        None => {
+            for place in 0..decimal(word) {
+                out.say_octet((place % 251) as u8);
+            }
+        }
     }
-    Some(out)
 }
 
-/// How octets are printed: in hexadecimal, or as the characters that they are.
-#[derive(Clone, Copy)]
-enum Look {
-    Hexadecimal,
-    Text,
+/// What a line spells, as it would be printed.
+pub(crate) fn spelled(alloc: Global, line: &str) -> Row {
+    let mut out = Row::new(alloc);
+    for (place, part) in line.split('$').enumerate() {
+        if place % 2 == 0 {
+            put_plain(part, &mut out);
+        } else {
+            put_repeated(part, &mut out);
+        }
+    }
+    out
 }
 
-fn print_octet(octet: u8, look: Look, out: &mut Vec<u8>) -> Option<()> {
-    match look {
-        Look::Hexadecimal => write!(out, "{octet:02X}").ok(),
-        Look::Text => out.write_all(&[octet]).ok(),
+/// Prints an octet: as it is, or in hexadecimal.
+fn print_octet(octet: u8, as_text: bool, row: &mut Row) {
+    if as_text {
+        row.put(octet);
+    } else {
+        row.say_octet(octet);
     }
 }
 
 /// Prints one octet so many times; more than 20 as in a line that spells them.
-fn print_run(octet: u8, count: u64, look: Look, out: &mut Vec<u8>) -> Option<()> {
+fn print_run(octet: u8, count: u64, as_text: bool, row: &mut Row) {
     if count > 20 {
-        write!(out, "${count}*").ok()?;
-        print_octet(octet, look, out)?;
-        return out.write_all(b"$").ok();
+        row.tell("$#*", count);
+        print_octet(octet, as_text, row);
+        row.put(b'$');
+    } else {
+        for _ in 0..count {
+            print_octet(octet, as_text, row);
+        }
     }
-    for _ in 0..count {
-        print_octet(octet, look, out)?;
-    }
-    Some(())
 }
 
-fn print_runs(octets: &[u8], look: Look, out: &mut Vec<u8>) -> Option<()> {
+/// Prints octets as a line: as they are, or in hexadecimal.
+pub(crate) fn print_runs(octets: &[u8], as_text: bool, row: &mut Row) {
     let mut last = 0;
     let mut count = 0u64;
     for octet in octets {
         if *octet != last {
-            print_run(last, count, look, out)?;
+            print_run(last, count, as_text, row);
             last = *octet;
             count = 0;
         }
         count = count.saturating_add(1);
     }
-    print_run(last, count, look, out)?;
-    out.write_all(b"\n").ok()
+    print_run(last, count, as_text, row);
+    row.put(b'\n');
 }
 
-/// Prints octets in hexadecimal, each by two digits.
-pub(crate) fn print_digits(octets: &[u8], out: &mut Vec<u8>) -> Option<()> {
-    for octet in octets {
-        print_octet(*octet, Look::Hexadecimal, out)?;
-    }
-    Some(())
-}
-
-/// Prints octets in hexadecimal.
-pub(crate) fn print_octets(octets: &[u8], out: &mut Vec<u8>) -> Option<()> {
-    print_runs(octets, Look::Hexadecimal, out)
-}
-
-/// Prints a long text.
-pub(crate) fn print_text(text: &[u8], out: &mut Vec<u8>) -> Option<()> {
-    print_runs(text, Look::Text, out)
+/// Prints octets in hexadecimal, as a line.
+pub(crate) fn print_octets(octets: &[u8], row: &mut Row) {
+    print_runs(octets, false, row);
 }
 
 /// Prints whether octets that were written are those that were read; if not, which they are.
-pub(crate) fn print_again(written: &[u8], read: &[u8], out: &mut Vec<u8>) -> Option<()> {
+pub(crate) fn print_again(written: &[u8], read: &[u8], row: &mut Row) {
     if written == read {
-        writeln!(out, "written again").ok()
+        row.say("written again\n");
     } else {
-        print_octets(written, out)
+        print_octets(written, row);
     }
 }

@@ -9,21 +9,20 @@
 //! - `set OBJECT PROPERTY HEX` and `file OBJECT HEX` are calls too.
 //! - `due` prints when something is next due, and `free` when a slot for a request is.
 //! - `count` prints how many slots are held and how many entries live, and `compare` whether the node and its store are as new.
+use crate::printing::{print_refusal, print_ticket};
 use crate::scene::{limits_of, link, nodes_of};
 use crate::telling::{framed, print_outcome, print_sends};
-use crate::words::{change_of, first, octets_of, request_of};
+use crate::words::{change_of, request_of};
 use bac_apdu::read;
-use bac_commands::{print_asked, print_refused};
 use bac_node::{MEMORY, Node, NodeFault, Outcome};
 use bac_npdu::Peer;
 use bac_requester::{AskFault, Asked};
-use bac_store::ChangeFault;
+use bac_rows::row::{Row, after, number, place_of, word};
+use bac_store::{Change, ChangeFault};
 use bac_transaction::Rules;
-use std::alloc::Global;
-use std::io::Write;
 
 /// How a node took an event.
-#[derive(Clone, Copy, PartialEq)]
+#[derive(Clone, Copy)]
 pub(crate) enum Came {
     /// It was accepted, and set the latest moment.
     Heard,
@@ -35,180 +34,147 @@ pub(crate) enum Came {
     NoMemory,
 }
 
-/// A new node of a scene.
-pub(crate) fn node_of(alloc: Global, scene: &str) -> Option<Node> {
-    let (config, store) = nodes_of(alloc, scene, 1)?.pop()?;
-    match Node::new(alloc, config, store) {
-        Ok(node) => Some(node),
-        Err(_) => None,
+/// A new node of a scene; None is a fault.
+pub(crate) fn node_of(scene: &str, row: &mut Row) -> Option<Node> {
+    let made = match nodes_of(scene, 1, row).pop() {
+        Some((config, store)) => Node::new(row.alloc, config, store).ok(),
+        None => None,
+    };
+    row.needs(made.is_some());
+    made
+}
+
+/// Prints what came of a call that was accepted.
+fn told_of(mut outcome: Outcome, row: &mut Row) -> Came {
+    print_outcome(&mut outcome, row);
+    if outcome.dropped.is_some() {
+        Came::Dropped
+    } else {
+        Came::Heard
     }
 }
 
 /// Prints the result of a call.
-fn told(alloc: Global, came: Result<Outcome, NodeFault>, out: &mut Vec<u8>) -> Option<Came> {
+fn told(came: Result<Outcome, NodeFault>, row: &mut Row) -> Came {
     match came {
-        Ok(mut outcome) => {
-            print_outcome(alloc, &mut outcome, out)?;
-            match outcome.dropped {
-                Some(_) => Some(Came::Dropped),
-                None => Some(Came::Heard),
-            }
-        }
-        Err(NodeFault::NoMemory) => Some(Came::NoMemory),
+        Ok(outcome) => told_of(outcome, row),
+        Err(NodeFault::NoMemory) => Came::NoMemory,
         Err(fault) => {
-            writeln!(out, "fault {}", fault.number()).ok()?;
-            Some(Came::Refused)
+            row.tell("fault #\n", u64::from(fault.number()));
+            Came::Refused
         }
     }
 }
 
-/// The datagram of a line. Octets that are not an APDU have no frame.
-fn datagram_of(alloc: Global, verb: &str, digits: &str) -> Option<Vec<u8>> {
-    let octets = octets_of(alloc, digits)?;
-    if verb == "hear" {
-        return Some(octets);
+/// The rules of a node that hears something, by the verb and its words.
+fn rules_of(verb: &str, words: &str) -> Rules {
+    match place_of("reuse remember memory", verb) {
+        0 => Rules::of(true).within(MEMORY),
+        1 => Rules {
+            remember: Some(number(words, 0)),
+            ..Rules::of(true).within(MEMORY)
+        },
+        2 => Rules::of(word(words, 1) == "reuse").within(number(words, 0) as usize),
+        _ => Rules::of(false).within(MEMORY),
     }
-    let _ = read(&octets).ok()?;
-    framed(alloc, &octets)
 }
 
-/// The rules by which clients may use invoke IDs again or not, with so many octets at the most.
-fn rules_of(reuse: bool, memory: usize) -> Rules {
-    Rules::of(reuse).within(memory)
+/// The words behind those of the rules.
+fn behind_rules<'a>(verb: &str, words: &'a str) -> &'a str {
+    if verb == "memory" && word(words, 1) == "reuse" {
+        after(words, 2)
+    } else if verb == "memory" || verb == "remember" {
+        after(words, 1)
+    } else {
+        words
+    }
+}
+
+/// A datagram, or an APDU in a frame. Octets that are not an APDU have no frame.
+fn datagram_of(verb: &str, digits: &str, row: &mut Row) -> Vec<u8> {
+    let octets = row.octets_or_fault(digits, 0);
+    if verb == "hear" {
+        return octets;
+    }
+    row.needs(read(&octets).is_ok());
+    framed(&octets, row)
 }
 
 /// A datagram or an APDU arrives, at a node whose rules the verb says.
-fn hears(
-    alloc: Global,
-    node: &mut Node,
-    now: u64,
-    verb: &str,
-    words: &str,
-    out: &mut Vec<u8>,
-) -> Option<Came> {
-    let (peer, digits) = words.split_once(' ')?;
-    let from = link(peer.parse::<u8>().ok()?);
-    let octets = datagram_of(alloc, verb, digits)?;
-    let rules = rules_of(verb == "reuse", MEMORY);
-    told(alloc, node.hear(&rules, now, from, &octets), out)
-}
-
-/// The sender and the datagram of the words `PEER HEX`, where HEX is an APDU.
-fn sent_in(alloc: Global, words: &str) -> Option<([u8; 6], Vec<u8>)> {
-    let (peer, digits) = words.split_once(' ')?;
-    let from = link(peer.parse::<u8>().ok()?);
-    Some((from, datagram_of(alloc, "from", digits)?))
-}
-
-/// An APDU arrives at a node that remembers a request for so many milliseconds.
-fn remembers(
-    alloc: Global,
-    node: &mut Node,
-    now: u64,
-    words: &str,
-    out: &mut Vec<u8>,
-) -> Option<Came> {
-    let (milliseconds, words) = first(words);
-    let rules = Rules {
-        remember: Some(milliseconds.parse::<u64>().ok()?),
-        ..rules_of(true, MEMORY)
-    };
-    let (from, octets) = sent_in(alloc, words)?;
-    told(alloc, node.hear(&rules, now, from, &octets), out)
-}
-
-/// An APDU arrives at a node that keeps no more than so many octets.
-fn hears_within(
-    alloc: Global,
-    node: &mut Node,
-    now: u64,
-    words: &str,
-    out: &mut Vec<u8>,
-) -> Option<Came> {
-    let (memory, words) = first(words);
-    let memory = memory.parse::<usize>().ok()?;
-    let (reuse, words) = match words.strip_prefix("reuse ") {
-        Some(words) => (true, words),
-        None => (false, words),
-    };
-    let (from, octets) = sent_in(alloc, words)?;
-    match told(
-        alloc,
-        node.hear(&rules_of(reuse, memory), now, from, &octets),
-        out,
-    )? {
+fn hears(node: &mut Node, now: u64, verb: &str, words: &str, row: &mut Row) -> Came {
+    let rules = rules_of(verb, words);
+    let heard = behind_rules(verb, words);
+    let octets = datagram_of(verb, after(heard, 1), row);
+    let from = link(row.number8_or_fault(heard, 0));
+    let came = told(node.hear(&rules, now, from, &octets), row);
+    match came {
         // the bound on memory refuses too: the row says so, and does not try again
-        Came::NoMemory => {
-            out.write_all(b"no room\n").ok()?;
-            Some(Came::Refused)
+        Came::NoMemory if verb == "memory" => {
+            row.say("no room\n");
+            Came::Refused
         }
-        came => Some(came),
+        came => came,
     }
 }
 
 /// A tick is prepared, and not made: the node keeps its latest moment.
-fn prepares(alloc: Global, node: &Node, now: u64, out: &mut Vec<u8>) -> Option<Came> {
-    match told(alloc, node.prepare_tick(now), out)? {
-        Came::Heard => Some(Came::Timeless),
-        came => Some(came),
+fn prepares(node: &Node, now: u64, row: &mut Row) -> Came {
+    match told(node.prepare_tick(now), row) {
+        Came::Heard => Came::Timeless,
+        came => came,
     }
 }
 
 /// Prints the result of an ask.
-fn told_of_ask(alloc: Global, came: Result<Asked, AskFault>, out: &mut Vec<u8>) -> Option<Came> {
+fn told_of_ask(came: Result<Asked, AskFault>, row: &mut Row) -> Came {
     match came {
         Ok(asked) => {
-            print_asked(asked.ticket, asked.invoke_id, out).ok()?;
-            print_sends(alloc, &asked.sends, out)?;
-            Some(Came::Heard)
+            print_ticket(asked.ticket, asked.invoke_id, row);
+            print_sends(&asked.sends, row);
+            Came::Heard
         }
-        Err(AskFault::NoMemory) => Some(Came::NoMemory),
+        Err(AskFault::NoMemory) => Came::NoMemory,
         Err(fault) => {
-            print_refused(fault.number(), out).ok()?;
-            Some(Came::Refused)
+            print_refusal(fault.number(), row);
+            Came::Refused
         }
     }
 }
 
 /// A node asks a peer.
-fn asks(alloc: Global, node: &mut Node, now: u64, words: &str, out: &mut Vec<u8>) -> Option<Came> {
-    let (number, words) = first(words);
-    let (limits, words) = first(words);
+fn asks(node: &mut Node, now: u64, words: &str, row: &mut Row) -> Came {
     let peer = Peer {
-        link: link(number.parse::<u8>().ok()?),
+        link: link(row.number8_or_fault(words, 0)),
         route: None,
     };
-    let limits = limits_of(alloc, limits)?;
-    let request = request_of(alloc, words)?;
-    told_of_ask(alloc, node.ask(now, &peer, &limits, &request), out)
+    let limits = limits_of(word(words, 1), row);
+    match request_of(after(words, 2), row) {
+        Some(request) => told_of_ask(node.ask(now, &peer, &limits, &request), row),
+        None => Came::Refused,
+    }
 }
 
-/// A node changes its own store.
-fn changes(
-    alloc: Global,
-    node: &mut Node,
-    verb: &str,
-    words: &str,
-    out: &mut Vec<u8>,
-) -> Option<Came> {
-    let change = change_of(alloc, verb, words)?;
-    match node.change(&change) {
+/// Prints the result of a change.
+fn told_of_change(changed: Result<(), ChangeFault>, row: &mut Row) -> Came {
+    match changed {
         Ok(()) => {
-            out.write_all(b"changed\n").ok()?;
-            Some(Came::Timeless)
+            row.say("changed\n");
+            Came::Timeless
         }
-        Err(ChangeFault::NoMemory) => Some(Came::NoMemory),
+        Err(ChangeFault::NoMemory) => Came::NoMemory,
         Err(fault) => {
-            writeln!(out, "unchanged {}", fault.number()).ok()?;
-            Some(Came::Refused)
+            row.tell("unchanged #\n", u64::from(fault.number()));
+            Came::Refused
         }
     }
 }
 
-/// Sets where the node's invoke IDs begin.
-fn begins(node: &mut Node, words: &str) -> Option<Came> {
-    node.set_first_invoke_id(words.parse::<u8>().ok()?);
-    Some(Came::Timeless)
+/// A node changes its own store.
+fn changes(node: &mut Node, change: Option<Change>, row: &mut Row) -> Came {
+    match change {
+        Some(change) => told_of_change(node.change(&change), row),
+        None => Came::Refused,
+    }
 }
 
 /// A node restarts with the store that it has.
@@ -220,61 +186,59 @@ fn restarts(node: &mut Node, now: u64) -> Came {
 }
 
 /// Prints when a tick does something next.
-fn print_due(node: &Node, out: &mut Vec<u8>) -> Option<()> {
+fn print_due(node: &Node, row: &mut Row) {
     match node.next_due() {
-        Some(moment) => writeln!(out, "due {moment}").ok(),
-        None => out.write_all(b"due none\n").ok(),
+        Some(moment) => row.tell("due #\n", moment),
+        None => row.say("due none\n"),
     }
 }
 
 /// Prints whether a node is as a new one of the scene, and whether its store is.
-fn compare(alloc: Global, node: &Node, scene: &str, out: &mut Vec<u8>) -> Option<()> {
-    let new = node_of(alloc, scene)?;
-    let is_new = node.same(&new);
-    let has_new = node.store().same(new.store());
-    writeln!(out, "new node {is_new} store {has_new}").ok()
+fn compare(node: &Node, scene: &str, row: &mut Row) {
+    if let Some(new) = node_of(scene, row) {
+        row.say("new node ");
+        row.say_truth(node.same(&new));
+        row.tell_truth(" store ", node.store().same(new.store()));
+    }
 }
 
 /// Prints what a line asks about a node.
-fn tells(
-    alloc: Global,
-    node: &Node,
-    scene: &str,
-    now: u64,
-    verb: &str,
-    out: &mut Vec<u8>,
-) -> Option<Came> {
-    match verb.as_bytes() {
-        b"due" => print_due(node, out)?,
-        b"free" => writeln!(out, "free {}", node.next_free(now)).ok()?,
-        b"count" => writeln!(out, "held {} live {}", node.held(now), node.live(now)).ok()?,
-        b"compare" => compare(alloc, node, scene, out)?,
-        _ => return None,
+fn tells(node: &Node, scene: &str, now: u64, verb: &str, row: &mut Row) {
+    match place_of("due free count compare", verb) {
+        0 => print_due(node, row),
+        1 => row.line(format_args!("free {}", node.next_free(now))),
+        2 => row.tell_two(
+            "held # live #\n",
+            node.held(now) as u64,
+            node.live(now) as u64,
+        ),
+        3 => compare(node, scene, row),
+        _ => row.fail(),
     }
-    Some(Came::Timeless)
 }
 
+/// The verbs that do something to a node, those by which it hears something first.
+const VERBS: &str = "from hear reuse remember memory tick prepare ask set file begin restart";
+
 /// Does what a line says to a node of a scene, and prints the result; where an allocation fails in the node, prints nothing.
-pub(crate) fn happens(
-    alloc: Global,
-    node: &mut Node,
-    scene: &str,
-    line: &str,
-    out: &mut Vec<u8>,
-) -> Option<Came> {
-    let (moment, line) = first(line);
-    let now = moment.parse::<u64>().ok()?;
-    let (verb, words) = first(line);
-    match verb.as_bytes() {
-        b"from" | b"hear" | b"reuse" => hears(alloc, node, now, verb, words, out),
-        b"remember" => remembers(alloc, node, now, words, out),
-        b"memory" => hears_within(alloc, node, now, words, out),
-        b"tick" => told(alloc, node.tick(now), out),
-        b"prepare" => prepares(alloc, node, now, out),
-        b"ask" => asks(alloc, node, now, words, out),
-        b"set" | b"file" => changes(alloc, node, verb, words, out),
-        b"begin" => begins(node, words),
-        b"restart" => Some(restarts(node, now)),
-        _ => tells(alloc, node, scene, now, verb, out),
+pub(crate) fn happens(node: &mut Node, scene: &str, line: &str, row: &mut Row) -> Came {
+    let now = row.number_or_fault(line, 0);
+    let (verb, words) = (word(line, 1), after(line, 2));
+    match place_of(VERBS, verb) {
+        0..=4 => hears(node, now, verb, words, row),
+        5 => told(node.tick(now), row),
+        6 => prepares(node, now, row),
+        7 => asks(node, now, words, row),
+        8 => changes(node, change_of("set", words, row), row),
+        9 => changes(node, change_of("file", words, row), row),
+        10 => {
+            node.set_first_invoke_id(row.number8_or_fault(words, 0));
+            Came::Timeless
+        }
+        11 => restarts(node, now),
+        _ => {
+            tells(node, scene, now, verb, row);
+            Came::Timeless
+        }
     }
 }

@@ -1,102 +1,92 @@
 //! Rows of worlds that are made, or are not.
 //!
 //! A line is the number of the second node's link and a scene, in which `|` stands for the end of a line. Prints `made`, or the fault.
-use crate::scene::{link, nodes_of, overtake_of};
-use crate::words::{first, put};
+use crate::scene::{line_of, link, nodes_of, overtake_of};
 use bac_network::{NewClocksFault, NewWorldFault, Pace, World};
 use bac_node::Config;
+use bac_rows::row::{Row, after, number8, number32};
 use bac_rows::script::plain;
 use bac_store::Store;
-use std::alloc::Global;
-use std::io::Write;
 
-/// Clocks of nodes: their pace, and where each begins.
-#[derive(Drop)]
-struct Clocks {
-    pace: Pace,
-    starts: Vec<u32>,
-}
-
-/// The clocks `DRIFT LIFE START START ..`.
-fn clocks_of(alloc: Global, words: &str) -> Option<Clocks> {
-    let (drift, words) = first(words);
-    let (life, words) = first(words);
-    let (drift, life) = (drift.parse::<u32>().ok()?, life.parse::<u32>().ok()?);
-    let mut starts = Vec::new(alloc);
+/// The starts of clocks.
+fn starts_of(words: &str, row: &mut Row) -> Vec<u32> {
+    let mut starts = Vec::new(row.alloc);
     for word in words.split(' ') {
-        put(&mut starts, word.parse::<u32>().ok()?)?;
+        row.needs(starts.push(number32(word, 0)).is_ok());
     }
-    Some(Clocks {
-        pace: Pace { drift, life },
-        starts,
-    })
+    starts
 }
 
-/// What a scene says of the clocks of its nodes.
-fn clock_words(scene: &str) -> Option<&str> {
-    for line in scene.lines() {
-        if let Some(words) = line.strip_prefix("clocks ") {
-            return Some(words);
-        }
-    }
-    None
-}
-
-fn with_one_clock(
-    alloc: Global,
+/// A world of those nodes with the clocks `DRIFT LIFE START START ..`.
+fn with_clocks(
+    clocks: &str,
     nodes: Vec<(Config, Store)>,
     overtake: u64,
+    row: &mut Row,
 ) -> Result<World, NewClocksFault> {
-    match World::new(alloc, nodes, overtake) {
-        Ok(world) => Ok(world),
-        Err(fault) => Err(NewClocksFault::NotMade(fault)),
-    }
+    let pace = Pace {
+        drift: number32(clocks, 0),
+        life: number32(clocks, 1),
+    };
+    let starts = starts_of(after(clocks, 2), row);
+    World::with_clocks(row.alloc, nodes, overtake, pace, &starts)
 }
 
 /// A world of a scene, with those nodes.
 pub(crate) fn made(
-    alloc: Global,
     scene: &str,
     nodes: Vec<(Config, Store)>,
-) -> Option<Result<World, NewClocksFault>> {
-    let overtake = overtake_of(scene)?;
-    let Some(words) = clock_words(scene) else {
-        return Some(with_one_clock(alloc, nodes, overtake));
-    };
-    let Clocks { pace, starts } = clocks_of(alloc, words)?;
-    Some(World::with_clocks(alloc, nodes, overtake, pace, &starts))
-}
-
-/// The nodes of a scene, of which the second one is at the link of that number.
-fn nodes_at(alloc: Global, number: u8, scene: &str) -> Option<Vec<(Config, Store)>> {
-    let mut nodes = nodes_of(alloc, scene, 0)?;
-    nodes.get_mut(1)?.0.link = link(number);
-    Some(nodes)
-}
-
-fn print_fault(fault: NewClocksFault, out: &mut Vec<u8>) -> Option<()> {
-    match fault {
-        NewClocksFault::NotMade(NewWorldFault::NoMemory) => None,
-        NewClocksFault::NotMade(why) => writeln!(out, "fault {}: {why}", why.number()).ok(),
-        _ => writeln!(out, "{fault}").ok(),
+    row: &mut Row,
+) -> Result<World, NewClocksFault> {
+    let overtake = overtake_of(scene);
+    match line_of(scene, "clocks ") {
+        Some(clocks) => with_clocks(clocks, nodes, overtake, row),
+        None => match World::new(row.alloc, nodes, overtake) {
+            Ok(world) => Ok(world),
+            Err(fault) => Err(NewClocksFault::NotMade(fault)),
+        },
     }
 }
 
-fn tell(alloc: Global, line: &str, out: &mut Vec<u8>) -> Option<()> {
-    let (number, scene) = first(line);
-    let number = number.parse::<u8>().ok()?;
-    let scene = plain(alloc, scene).ok()?;
-    match made(alloc, &scene, nodes_at(alloc, number, &scene)?)? {
-        Ok(_) => out.write_all(b"made\n").ok(),
-        Err(fault) => print_fault(fault, out),
+/// The nodes of a scene, of which the second one is at the link of that number.
+fn nodes_at(number: u8, scene: &str, row: &mut Row) -> Vec<(Config, Store)> {
+    let mut nodes = nodes_of(scene, 0, row);
+    match nodes.get_mut(1) {
+        Some(node) => node.0.link = link(number),
+        None => row.fail(),
+    }
+    nodes
+}
+
+fn print_fault(fault: NewClocksFault, row: &mut Row) {
+    match fault {
+        NewClocksFault::NotMade(NewWorldFault::NoMemory) => row.fail(),
+        NewClocksFault::NotMade(why) => {
+            row.line(format_args!("fault {}: {why}", why.number()));
+        }
+        _ => row.line(fault),
+    }
+}
+
+/// Prints whether a scene is made.
+fn tell_made(number: u8, scene: &str, row: &mut Row) {
+    match made(scene, nodes_at(number, scene, row), row) {
+        Ok(_) => row.say("made\n"),
+        Err(fault) => print_fault(fault, row),
+    }
+}
+
+fn tell(line: &str, row: &mut Row) {
+    match plain(row.alloc, after(line, 1)) {
+        Ok(scene) => tell_made(number8(line, 0), &scene, row),
+        Err(_) => row.fail(),
     }
 }
 
 /// Plays the lines of a row.
-pub(crate) fn play(alloc: Global, lines: &str, out: &mut Vec<u8>) -> Option<()> {
+pub(crate) fn play(lines: &str, row: &mut Row) {
     for line in lines.lines() {
-        writeln!(out, "> {line}").ok()?;
-        tell(alloc, line, out)?;
+        row.say_line("> ", line);
+        tell(line, row);
     }
-    Some(())
 }

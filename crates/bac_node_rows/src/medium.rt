@@ -3,9 +3,9 @@ ghost use Rattle.std.specs.Prelude.{◌≤◌, length, IfOk, IfSome};
 
 use bac_driver::LinkFault;
 use bac_npdu::LinkAddress;
+use bac_rows::row::Row;
 use std::alloc::Global;
 use std::collections::VecDeque;
-use std::io::Write;
 
 /// The end of a link.
 #[derive(Clone, Copy, PartialEq, Eq)]
@@ -51,7 +51,6 @@ impl End {
 /// Datagrams under way, oldest first, the moment, and the calls so far, one a line.
 #[derive(Drop)]
 pub(crate) struct Medium {
-    alloc: Global,
     to_client: VecDeque<Vec<u8>>,
     to_server: VecDeque<Vec<u8>>,
     /// Which call to send fails, and which to receive, counted from 1 over both links; 0 is none.
@@ -64,7 +63,7 @@ pub(crate) struct Medium {
     /// The moments that clocks read, in this order, in place of that one, and how many were read.
     pub(crate) moments: Vec<u64>,
     pub(crate) told: usize,
-    pub(crate) calls: Vec<u8>,
+    pub(crate) calls: Row,
 }
 
 /// Copies octets to the front of a buffer, as many as fit, and returns how many.
@@ -80,7 +79,6 @@ impl Medium {
     /// A medium at moment 0, with nothing under way, on which no call fails.
     pub(crate) fn new(alloc: Global) -> Medium {
         Medium {
-            alloc,
             to_client: VecDeque::new(alloc),
             to_server: VecDeque::new(alloc),
             failing_send: 0,
@@ -90,44 +88,75 @@ impl Medium {
             moment: 0,
             moments: Vec::new(alloc),
             told: 0,
-            calls: Vec::new(alloc),
+            calls: Row::new(alloc),
         }
     }
 
-    /// Notes a datagram that was sent or received.
-    fn note_octets(&mut self, end: End, verb: &str, octets: &[u8]) -> Option<()> {
-        let octets = hex::encode_upper(self.alloc, octets).ok()?;
-        writeln!(&mut self.calls, "{} {verb} {octets}", end.name()).ok()
+    /// Notes the end and the verb of a call.
+    fn say_call(&mut self, end: End, verb: &str) {
+        self.calls.say(end.name());
+        self.calls.put(b' ');
+        self.calls.say(verb);
+        self.calls.put(b' ');
     }
 
-    fn put(&mut self, to: LinkAddress, octets: Vec<u8>) -> Option<()> {
-        match End::of(to) {
-            End::Client => self.to_client.push_back(octets).ok(),
-            End::Server => self.to_server.push_back(octets).ok(),
-        }
+    /// Notes a call.
+    fn note(&mut self, end: End, verb: &str, octets: &[u8]) {
+        self.say_call(end, verb);
+        self.calls.say_octets(octets);
+        self.calls.put(b'\n');
     }
 
-    /// Takes a datagram over; None where the call fails.
-    pub(crate) fn send(&mut self, end: End, to: LinkAddress, octets: &[u8]) -> Option<()> {
-        self.note_octets(end, "sent", octets)?;
-        self.sends = self.sends.saturating_add(1);
-        if self.sends == self.failing_send {
-            return None;
-        }
-        self.put(to, octets.to_vec(self.alloc).ok()?)
+    /// Notes how long a call waits, or that it waits for nothing.
+    fn note_wait(&mut self, end: End, verb: &str, wait: u64) {
+        self.say_call(end, verb);
+        self.calls.tell("#\n", wait);
     }
 
-    fn take(&mut self, end: End) -> Option<Vec<u8>> {
+    fn under_way(&mut self, end: End) -> &mut VecDeque<Vec<u8>> {
         match end {
-            End::Client => self.to_client.pop_front(),
-            End::Server => self.to_server.pop_front(),
+            End::Client => &mut self.to_client,
+            End::Server => &mut self.to_server,
         }
     }
 
-    /// No datagram comes: notes that, and time goes on.
-    fn nothing(&mut self, end: End, wait: u64) -> Option<()> {
-        self.moment = self.moment.saturating_add(100);
-        writeln!(&mut self.calls, "{} nothing {wait}", end.name()).ok()
+    /// A copy of a datagram is under way; whether it found memory.
+    fn put(&mut self, to: LinkAddress, octets: &[u8]) -> bool {
+        match octets.to_vec(self.calls.alloc) {
+            Ok(copy) => self.under_way(End::of(to)).push_back(copy).is_ok(),
+            Err(_) => false,
+        }
+    }
+
+    /// Takes a datagram over; false where the call fails.
+    pub(crate) fn send(&mut self, end: End, to: LinkAddress, octets: &[u8]) -> bool {
+        self.note(end, "sent", octets);
+        self.sends = self.sends.saturating_add(1);
+        self.sends != self.failing_send && self.put(to, octets)
+    }
+
+    /// Hands a datagram over, or nothing: then time goes on.
+    fn hand_over(
+        &mut self,
+        end: End,
+        datagram: Option<Vec<u8>>,
+        buffer: &mut [u8],
+        wait: u64,
+    ) -> Option<(LinkAddress, usize)>
+        ensures { IfSome result (λ d. d.1 ≤ length buffer.new) }
+    {
+        match datagram {
+            Some(octets) => {
+                self.note_wait(end, "waits", wait);
+                self.note(end, "received", &octets);
+                Some((end.other().link(), copy_front(&octets, buffer)))
+            }
+            None => {
+                self.moment = self.moment.saturating_add(100);
+                self.note_wait(end, "nothing", wait);
+                None
+            }
+        }
     }
 
     /// Hands over the oldest datagram for a link.
@@ -141,20 +170,11 @@ impl Medium {
     {
         self.receives = self.receives.saturating_add(1);
         if self.receives == self.failing_receive {
-            // a note that finds no memory is missing, and then the row fails
-            let _ = writeln!(&mut self.calls, "{} failed", end.name()).is_ok();
+            self.calls.say_line(end.name(), " failed");
             return Err(LinkFault);
         }
-        let Some(octets) = self.take(end) else {
-            // a note that finds no memory is missing, and then the row fails
-            let _ = self.nothing(end, wait).is_some();
-            return Ok(None);
-        };
-        // a note that finds no memory is missing, and then the row fails
-        let _ = writeln!(&mut self.calls, "{} waits {wait}", end.name()).is_ok();
-        let _ = self.note_octets(end, "received", &octets).is_some();
-        let len = copy_front(&octets, buffer);
-        Ok(Some((end.other().link(), len)))
+        let datagram = self.under_way(end).pop_front();
+        Ok(self.hand_over(end, datagram, buffer, wait))
     }
 
     /// The moment that a clock reads: the next one of the list, or the medium's where the list is used up.

@@ -32,10 +32,10 @@ impl<'a> MemoryLink<'a> {
         LinkFault
     }
 
-    fn hand_over(&self, to: LinkAddress, octets: &[u8]) -> Option<()> {
+    fn hand_over(&self, to: LinkAddress, octets: &[u8]) -> bool {
         match self.medium.try_borrow_mut() {
             Ok(mut medium) => medium.send(self.end, to, octets),
-            Err(_) => None,
+            Err(_) => false,
         }
     }
 
@@ -59,9 +59,10 @@ impl Link for MemoryLink<'_> {
     }
 
     fn send(&mut self, to: LinkAddress, octets: &[u8]) -> Result<(), LinkFault> {
-        match self.hand_over(to, octets) {
-            Some(()) => Ok(()),
-            None => Err(self.failed()),
+        if self.hand_over(to, octets) {
+            Ok(())
+        } else {
+            Err(self.failed())
         }
     }
 

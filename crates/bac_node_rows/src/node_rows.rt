@@ -3,10 +3,8 @@
 //! Where an allocation fails in a call, the node has to be the same as its twin, which has not got the event yet. Then the call is made again.
 use crate::events::{Came, happens, node_of};
 use crate::playing::{Stage, play};
-use crate::words::{first, number};
 use bac_node::Node;
-use std::alloc::Global;
-use std::io::Write;
+use bac_rows::row::{Row, number, word};
 
 /// Two nodes of a scene.
 #[derive(Drop)]
@@ -18,61 +16,62 @@ struct Twins<'a> {
 
 impl Twins<'_> {
     /// The result of an event at the node: of the second call where an allocation fails in the first.
-    fn node_meets(&mut self, alloc: Global, line: &str, out: &mut Vec<u8>) -> Option<Came> {
-        let came = happens(alloc, &mut self.node, self.scene, line, out)?;
-        if came != Came::NoMemory {
-            return Some(came);
+    fn node_meets(&mut self, line: &str, row: &mut Row) -> Came {
+        match happens(&mut self.node, self.scene, line, row) {
+            Came::NoMemory => {
+                if !self.node.same(&self.twin) {
+                    row.say("changed without memory\n");
+                }
+                happens(&mut self.node, self.scene, line, row)
+            }
+            came => came,
         }
-        if !self.node.same(&self.twin) {
-            out.write_all(b"changed without memory\n").ok()?;
-        }
-        happens(alloc, &mut self.node, self.scene, line, out)
     }
 
-    /// The result of an event at the twin.
-    fn twin_meets(&mut self, alloc: Global, line: &str) -> Option<Vec<u8>> {
-        let mut told = Vec::new(alloc);
-        match happens(alloc, &mut self.twin, self.scene, line, &mut told)? {
-            Came::NoMemory => None,
-            _ => Some(told),
-        }
+    /// Whether the result at the twin is that of a line; want of memory is a fault there.
+    fn twin_tells(&mut self, line: &str, told: &[u8], row: &mut Row) -> bool {
+        let mut other = Row::new(row.alloc);
+        let came = happens(&mut self.twin, self.scene, line, &mut other);
+        row.needs(!matches!(came, Came::NoMemory) && !other.has_failed);
+        other.told.as_slice() == told
+    }
+
+    /// Whether a tick of the twin prints nothing.
+    fn twin_rests(&mut self, line: &str, row: &mut Row) -> bool {
+        let mut tick = Row::new(row.alloc);
+        tick.say(word(line, 0));
+        tick.say(" tick");
+        self.twin_tells(tick.text(), &[], row)
     }
 
     /// Whether the result at the twin is the same. A dropped datagram is a tick to the twin, and an event that the node refused is not repeated.
-    fn twin_agrees(&mut self, alloc: Global, line: &str, came: Came, told: &[u8]) -> Option<bool> {
+    fn twin_agrees(&mut self, line: &str, came: Came, told: &[u8], row: &mut Row) -> bool {
         match came {
-            Came::Heard | Came::Timeless => {
-                Some(self.twin_meets(alloc, line)?.as_slice() == told)
+            Came::Heard | Came::Timeless => self.twin_tells(line, told, row),
+            Came::Dropped => self.twin_rests(line, row),
+            Came::Refused => true,
+            Came::NoMemory => {
+                row.fail();
+                true
             }
-            Came::Dropped => {
-                let tick = format!(in alloc; "{} tick", first(line).0).ok()?;
-                Some(self.twin_meets(alloc, &tick)?.is_empty())
-            }
-            Came::Refused => Some(true),
-            Came::NoMemory => None,
         }
-    }
-}
-
-/// The latest moment of a node after an event.
-fn latest_after(came: Came, line: &str, before: u64) -> Option<u64> {
-    match came {
-        Came::Heard | Came::Dropped => number(first(line).0),
-        _ => Some(before),
     }
 }
 
 impl Stage for Twins<'_> {
-    fn meets(&mut self, alloc: Global, line: &str, out: &mut Vec<u8>) -> Option<()> {
+    fn meets(&mut self, line: &str, row: &mut Row) {
         let before = self.node.latest();
-        let mut told = Vec::new(alloc);
-        let came = self.node_meets(alloc, line, &mut told)?;
-        out.write_all(&told).ok()?;
-        let is_alike = self.twin_agrees(alloc, line, came, &told)?;
-        if !is_alike || self.node.latest() != latest_after(came, line, before)? {
-            out.write_all(b"otherwise at the twin\n").ok()?;
+        let mut told = Row::new(row.alloc);
+        let came = self.node_meets(line, &mut told);
+        row.take(&told);
+        let latest = match came {
+            Came::Heard | Came::Dropped => number(line, 0),
+            _ => before,
+        };
+        let is_alike = self.twin_agrees(line, came, &told.told, row);
+        if !is_alike || self.node.latest() != latest {
+            row.say("otherwise at the twin\n");
         }
-        Some(())
     }
 
     fn is_sound(&self) -> bool {
@@ -81,11 +80,10 @@ impl Stage for Twins<'_> {
 }
 
 /// Plays the lines of a row on a node of a scene.
-pub(crate) fn play_node(alloc: Global, scene: &str, lines: &str, out: &mut Vec<u8>) -> Option<()> {
-    let twins = Twins {
-        scene,
-        node: node_of(alloc, scene)?,
-        twin: node_of(alloc, scene)?,
-    };
-    play(alloc, twins, scene, lines, out)
+pub(crate) fn play_node(scene: &str, lines: &str, row: &mut Row) {
+    let node = node_of(scene, row);
+    let twin = node_of(scene, row);
+    if let (Some(node), Some(twin)) = (node, twin) {
+        play(&mut Twins { scene, node, twin }, scene, lines, row);
+    }
 }

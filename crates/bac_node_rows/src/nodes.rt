@@ -4,218 +4,169 @@
 //! and its clock can read the moments of a list.
 use crate::medium::Medium;
 use crate::runs::{ask, ask_in_pair, rounds, serve};
-use crate::side::Side;
+use crate::side::{MemoryNode, Side};
 use crate::turns::{begin, buffer, print_octets, recv, send, turn, turn_by};
-use crate::words::{first, number};
 use bac_driver::Link;
-use bac_service::{AnyComplex, AnyReply, read_request};
-use std::alloc::Global;
+use bac_rows::row::{Row, decimal, first, number, place_of, word};
+use bac_service::{AnyComplex, AnyReply, Reply, Request, read_request};
+use bac_store::Store;
 use std::cell::RefCell;
-use std::io::Write;
 
-/// Reads all of file 1.
+/// Reads 256 octets of file 1.
 const READ_FILE: &[u8] = b"\xC4\x02\x80\x00\x01\x0E\x31\x00\x22\x01\x00\x0F";
 
-/// `file`: the octets of the server's file.
-fn file(side: &Side<'_>, out: &mut Vec<u8>) -> Option<()> {
-    let request = read_request(6, READ_FILE).ok()?;
-    let planned = side
-        .server
-        .node()
-        .store()
-        .prepare(side.alloc, &request)
-        .ok()?;
-    match planned.reply() {
-        AnyReply::Complex(AnyComplex::FileRead(read)) => {
-            print_octets(side.alloc, read.content.octets, out)
-        }
-        _ => None,
+/// Prints the octets of a file that a reply has.
+fn print_content(reply: Reply<'_>, row: &mut Row) {
+    match reply {
+        AnyReply::Complex(AnyComplex::FileRead(read)) => print_octets(read.content.octets, row),
+        _ => row.fail(),
+    }
+}
+
+fn print_file(store: &Store, request: &Request<'_>, row: &mut Row) {
+    match store.prepare(row.alloc, request) {
+        Ok(planned) => print_content(planned.reply(), row),
+        Err(_) => row.fail(),
+    }
+}
+
+/// Prints the octets of a file of a store that an AtomicReadFile with these service data reads.
+pub(crate) fn file(store: &Store, service: &[u8], row: &mut Row) {
+    match read_request(6, service) {
+        Ok(request) => print_file(store, &request, row),
+        Err(_) => row.fail(),
     }
 }
 
 /// `fail send NUMBER` and `fail receive NUMBER`: that call fails.
-fn fail(medium: &mut Medium, words: &str) -> Option<()> {
-    let (verb, call) = first(words);
-    let call = number(call)?;
-    match verb.as_bytes() {
-        b"send" => medium.failing_send = call,
-        b"receive" => medium.failing_receive = call,
-        _ => return None,
+fn fail(medium: &mut Medium, words: &str) {
+    if word(words, 0) == "send" {
+        medium.failing_send = number(words, 1);
+    } else {
+        medium.failing_receive = number(words, 1);
     }
-    Some(())
 }
 
 /// `moments M M ..`: the moments that the clock reads.
-fn moments(medium: &mut Medium, words: &str) -> Option<()> {
+fn moments(medium: &mut Medium, words: &str, row: &mut Row) {
     for word in words.split(' ') {
-        medium.moments.push(number(word)?).ok()?;
+        row.needs(medium.moments.push(decimal(word)).is_ok());
     }
-    Some(())
 }
 
 /// `calls`: the calls of links since the last such line.
-fn calls(medium: &mut Medium, out: &mut Vec<u8>) -> Option<()> {
-    out.write_all(&medium.calls).ok()?;
-    medium.calls.clear();
-    Some(())
+fn calls(medium: &mut Medium, row: &mut Row) {
+    row.take(&medium.calls);
+    medium.calls.told.clear();
 }
 
-/// Lines about the medium.
-fn of_medium(medium: &mut Medium, verb: &str, words: &str, out: &mut Vec<u8>) -> Option<()> {
-    match verb.as_bytes() {
-        b"fail" => fail(medium, words),
-        b"moments" => moments(medium, words),
-        b"calls" => calls(medium, out),
-        b"clock" => {
-            let (moment, told, receives) = (medium.moment, medium.told, medium.receives);
-            writeln!(out, "moment {moment} told {told} receives {receives}").ok()
-        }
-        _ => None,
+fn clock(medium: &Medium, row: &mut Row) {
+    row.tell_two("moment # told #", medium.moment, medium.told as u64);
+    row.tell(" receives #\n", medium.receives);
+}
+
+/// Prints the latest moment of a node, and how many calls of its link failed.
+fn print_node(name: &str, node: &MemoryNode<'_>, row: &mut Row) {
+    row.say(name);
+    row.tell_two(
+        " latest # failures #\n",
+        node.node().latest(),
+        node.link().failures(),
+    );
+}
+
+/// `nodes`: how the nodes are.
+fn nodes(side: &Side<'_>, row: &mut Row) {
+    print_node("client", &side.client, row);
+    print_node("server", &side.server, row);
+}
+
+/// A line about a medium.
+fn of_medium(medium: &mut Medium, verb: &str, words: &str, row: &mut Row) {
+    match place_of("fail moments calls clock", verb) {
+        0 => fail(medium, words),
+        1 => moments(medium, words, row),
+        2 => calls(medium, row),
+        3 => clock(medium, row),
+        _ => row.fail(),
     }
 }
 
-/// `nodes`: the latest moment of each node, and how many calls of its link failed.
-fn nodes(side: &Side<'_>, out: &mut Vec<u8>) -> Option<()> {
-    let latest = side.client.node().latest();
-    let failures = side.client.link().failures();
-    writeln!(out, "client latest {latest} failures {failures}").ok()?;
-    let latest = side.server.node().latest();
-    let failures = side.server.link().failures();
-    writeln!(out, "server latest {latest} failures {failures}").ok()
-}
-
-/// What a line of a side is about.
-#[derive(Clone, Copy)]
-enum Verb {
-    Send,
-    Recv,
-    Buffer,
-    Turn,
-    By,
-    Begin,
-    Serve,
-    Ask,
-    Pair,
-    Rounds,
-    File,
-    Nodes,
-}
-
-const VERBS: &[(&str, Verb)] = &[
-    ("send", Verb::Send),
-    ("recv", Verb::Recv),
-    ("buffer", Verb::Buffer),
-    ("turn", Verb::Turn),
-    ("by", Verb::By),
-    ("begin", Verb::Begin),
-    ("serve", Verb::Serve),
-    ("ask", Verb::Ask),
-    ("pair", Verb::Pair),
-    ("rounds", Verb::Rounds),
-    ("file", Verb::File),
-    ("nodes", Verb::Nodes),
-];
-
-fn verb_of(word: &str) -> Option<Verb> {
-    for (name, verb) in VERBS {
-        if *name == word {
-            return Some(*verb);
-        }
+/// A line of a side that is about its medium.
+fn beside(side: &Side<'_>, verb: &str, words: &str, row: &mut Row) {
+    match side.medium.try_borrow_mut() {
+        Ok(mut medium) => of_medium(&mut medium, verb, words, row),
+        Err(_) => row.fail(),
     }
-    None
 }
 
 /// Prints what a line asks about a side.
-fn tell(side: &Side<'_>, verb: Verb, words: &str, out: &mut Vec<u8>) -> Option<()> {
-    match verb {
-        Verb::Send => send(side, words, out),
-        Verb::Recv => recv(side, words, out),
-        Verb::Buffer => buffer(side, words, out),
-        Verb::File => file(side, out),
-        _ => nodes(side, out),
-    }
-}
-
-/// Takes turns of a side.
-fn act(side: &mut Side<'_>, verb: Verb, words: &str, out: &mut Vec<u8>) -> Option<()> {
-    match verb {
-        Verb::Turn => turn(side, words, out),
-        Verb::By => turn_by(side, words, out),
-        Verb::Begin => begin(side, words, out),
-        Verb::Serve => serve(side, words, out),
-        Verb::Ask => ask(side, words, out),
-        Verb::Pair => ask_in_pair(side, words, out),
-        Verb::Rounds => rounds(side, words, out),
-        _ => tell(side, verb, words, out),
+fn tell(side: &Side<'_>, verb: &str, words: &str, row: &mut Row) {
+    match place_of("send recv buffer file nodes", verb) {
+        0 => send(side, words, row),
+        1 => recv(side, words, row),
+        2 => buffer(side, number(words, 0) as usize, row),
+        3 => file(side.server.node().store(), READ_FILE, row),
+        4 => nodes(side, row),
+        _ => beside(side, verb, words, row),
     }
 }
 
 /// A line of a side.
-fn of_side(side: &mut Side<'_>, line: &str, out: &mut Vec<u8>) -> Option<()> {
-    let (word, words) = first(line);
-    if let Some(verb) = verb_of(word) {
-        return act(side, verb, words, out);
+fn of_side(side: &mut Side<'_>, line: &str, row: &mut Row) {
+    let (verb, words) = first(line);
+    match place_of("turn by begin serve ask pair rounds", verb) {
+        0 => turn(side, words, row),
+        1 => turn_by(side, words, row),
+        2 => begin(side, words, row),
+        3 => serve(side, words, row),
+        4 => ask(side, words, row),
+        5 => ask_in_pair(side, words, row),
+        6 => rounds(side, number(words, 0), row),
+        _ => tell(side, verb, words, row),
     }
-    let mut medium = side.medium.try_borrow_mut().ok()?;
-    of_medium(&mut medium, word, words, out)
 }
 
 /// `same`: whether the nodes of both sides are the same.
-fn compare(one: &Side<'_>, twin: &Side<'_>, out: &mut Vec<u8>) -> Option<()> {
-    let client = one.client.node().same(twin.client.node());
-    let server = one.server.node().same(twin.server.node());
-    writeln!(out, "client same {client}, server same {server}").ok()
+fn compare(one: &Side<'_>, twin: &Side<'_>, row: &mut Row) {
+    row.say("client same ");
+    row.say_truth(one.client.node().same(twin.client.node()));
+    row.tell_truth(", server same ", one.server.node().same(twin.server.node()));
 }
 
-fn happens(one: &mut Side<'_>, twin: &mut Side<'_>, line: &str, out: &mut Vec<u8>) -> Option<()> {
-    if line == "same" {
-        return compare(one, twin, out);
-    }
+fn happens(one: &mut Side<'_>, twin: &mut Side<'_>, line: &str, row: &mut Row) {
+    row.say_line("> ", line);
     match line.strip_prefix("twin ") {
-        Some(line) => of_side(twin, line, out),
-        None => of_side(one, line, out),
+        Some(line) => of_side(twin, line, row),
+        None if line == "same" => compare(one, twin, row),
+        None => of_side(one, line, row),
     }
 }
 
-fn all_happen(
-    one: &mut Side<'_>,
-    twin: &mut Side<'_>,
-    lines: &str,
-    out: &mut Vec<u8>,
-) -> Option<()> {
+fn all_happen(one: &mut Side<'_>, twin: &mut Side<'_>, lines: &str, row: &mut Row) {
     for line in lines.lines() {
-        writeln!(out, "> {line}").ok()?;
-        happens(one, twin, line, out)?;
+        happens(one, twin, line, row);
     }
-    Some(())
 }
 
 /// Plays the lines of a row beside that side.
-fn play_beside(
-    alloc: Global,
-    medium: &RefCell<Medium>,
-    one: &mut Side<'_>,
-    lines: &str,
-    out: &mut Vec<u8>,
-) -> Option<()> {
-    let mut twin = Side::new(alloc, medium)?;
-    all_happen(one, &mut twin, lines, out)
+fn play_beside(medium: &RefCell<Medium>, one: &mut Side<'_>, lines: &str, row: &mut Row) {
+    match Side::new(row.alloc, medium) {
+        Some(mut twin) => all_happen(one, &mut twin, lines, row),
+        None => row.fail(),
+    }
 }
 
-fn play_on(
-    alloc: Global,
-    medium: &RefCell<Medium>,
-    other: &RefCell<Medium>,
-    lines: &str,
-    out: &mut Vec<u8>,
-) -> Option<()> {
-    let mut one = Side::new(alloc, medium)?;
-    play_beside(alloc, other, &mut one, lines, out)
+fn play_on(medium: &RefCell<Medium>, other: &RefCell<Medium>, lines: &str, row: &mut Row) {
+    match Side::new(row.alloc, medium) {
+        Some(mut one) => play_beside(other, &mut one, lines, row),
+        None => row.fail(),
+    }
 }
 
 /// Plays the lines of a row. Few values to drop live in each function here, since the check of one grows with them at each step.
-pub(crate) fn play(alloc: Global, lines: &str, out: &mut Vec<u8>) -> Option<()> {
-    let medium = RefCell::new(Medium::new(alloc));
-    let other = RefCell::new(Medium::new(alloc));
-    play_on(alloc, &medium, &other, lines, out)
+pub(crate) fn play(lines: &str, row: &mut Row) {
+    let medium = RefCell::new(Medium::new(row.alloc));
+    let other = RefCell::new(Medium::new(row.alloc));
+    play_on(&medium, &other, lines, row);
 }

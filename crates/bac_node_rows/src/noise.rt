@@ -1,22 +1,24 @@
 //! Noise in worlds: octets from a link of no node.
 use crate::scene::link;
 use bac_network::{Event, World};
-use std::alloc::Global;
+use bac_rows::row::Row;
 
 /// Octets that come to a node from a link of no node.
-fn noise_at(alloc: Global, node: usize, octets: &[u8]) -> Option<Event> {
-    Some(Event::Noise {
+fn noise_at(node: usize, octets: &[u8], row: &mut Row) -> Event {
+    let mut copy = Vec::new(row.alloc);
+    row.needs(copy.extend_from_slice(octets).is_ok());
+    Event::Noise {
         node,
         from: link(9),
-        octets: octets.to_vec(alloc).ok()?,
-    })
+        octets: copy,
+    }
 }
 
 /// The octets of a copy come to a node from a link of no node.
-fn copied(alloc: Global, world: &World, node: usize, number: usize) -> Option<Event> {
+fn copied(world: &World, node: usize, number: usize, row: &mut Row) -> Event {
     match world.copies().get(number) {
-        Some(copy) => noise_at(alloc, node, &copy.octets),
-        None => None,
+        Some(copy) => noise_at(node, &copy.octets, row),
+        None => noise_at(node, &[], row),
     }
 }
 
@@ -25,13 +27,6 @@ fn shorten(noise: &mut Event) -> bool {
     match noise {
         Event::Noise { octets, .. } => octets.pop().is_some(),
         _ => false,
-    }
-}
-
-fn comes(world: &mut World, noise: &Event) -> Option<()> {
-    match world.step(noise) {
-        Ok(_) => Some(()),
-        Err(_) => None,
     }
 }
 
@@ -44,36 +39,33 @@ fn len_of(noise: &Event) -> usize {
 }
 
 /// Each proper prefix of these octets comes, the longest first.
-fn prefixes_come(world: &mut World, noise: &mut Event) -> Option<()> {
+fn prefixes_come(world: &mut World, noise: &mut Event, row: &mut Row) {
     for _ in 0..len_of(noise) {
         if shorten(noise) {
-            comes(world, noise)?;
+            row.needs(world.step(noise).is_ok());
         }
     }
-    Some(())
 }
 
 /// Each proper prefix of each datagram that was sent comes to a node.
-fn noise_comes(alloc: Global, world: &mut World, node: usize) -> Option<()> {
+fn noise_comes(world: &mut World, node: usize, row: &mut Row) {
     for number in 0..world.copies().len() {
-        let mut noise = copied(alloc, world, node, number)?;
-        prefixes_come(world, &mut noise)?;
+        let mut noise = copied(world, node, number, row);
+        prefixes_come(world, &mut noise, row);
     }
-    Some(())
 }
 
 /// Each proper prefix of each datagram that was sent comes to each node.
-pub(crate) fn all_noise_comes(alloc: Global, world: &mut World) -> Option<()> {
+pub(crate) fn all_noise_comes(world: &mut World, row: &mut Row) {
     for node in 0..world.nodes().len() {
-        noise_comes(alloc, world, node)?;
+        noise_comes(world, node, row);
     }
-    Some(())
 }
 
 /// No octets come to each node.
-pub(crate) fn no_octets_come(alloc: Global, world: &mut World) -> Option<()> {
+pub(crate) fn no_octets_come(world: &mut World, row: &mut Row) {
     for node in 0..world.nodes().len() {
-        comes(world, &noise_at(alloc, node, &[])?)?;
+        let noise = noise_at(node, &[], row);
+        row.needs(world.step(&noise).is_ok());
     }
-    Some(())
 }

@@ -1,84 +1,82 @@
 //! Rows of whole scripts: what they print on standard output, on standard error after `! `, and their exit status where it is not 0.
 //!
 //! A row is one script, or each of its lines is: there `|` stands for the end of a line, `~` for a carriage return and `_` for nothing.
+use bac_rows::row::{Row, place_of};
 use bac_simulate::{View, show_over, simulate_lines_over};
-use std::alloc::Global;
-use std::io::Write;
 
 /// How a script is run.
 #[derive(Clone, Copy)]
-pub(crate) enum Way {
+enum Way {
     Plain,
     Noted,
     Shown(View),
 }
 
-/// Runs a script; its exit status.
-fn status_of(alloc: Global, way: Way, script: &str, out: &mut Vec<u8>, err: &mut Vec<u8>) -> u8 {
-    let mut input = script.as_bytes();
+fn run(way: Way, mut script: &[u8], row: &mut Row) {
+    let mut err = Vec::new(row.alloc);
     let status = match way {
-        Way::Plain => simulate_lines_over(alloc, false, true, &mut input, out, err),
-        Way::Noted => simulate_lines_over(alloc, true, true, &mut input, out, err),
-        Way::Shown(view) => show_over(alloc, view, true, &mut input, out, err),
+        Way::Shown(view) => show_over(row.alloc, view, true, &mut script, &mut row.told, &mut err),
+        _ => {
+            let notes = matches!(way, Way::Noted);
+            simulate_lines_over(row.alloc, notes, true, &mut script, &mut row.told, &mut err)
+        }
     };
-    status.code()
+    row.tell_end(status.code(), &err);
 }
 
-fn run(alloc: Global, way: Way, script: &str, out: &mut Vec<u8>) -> Option<()> {
-    let mut err = Vec::new(alloc);
-    let status = status_of(alloc, way, script, out, &mut err);
-    if !err.is_empty() {
-        out.write_all(b"! ").ok()?;
-        out.write_all(&err).ok()?;
-    }
-    if status != 0 {
-        writeln!(out, "status {status}").ok()?;
-    }
-    Some(())
-}
-
-/// What a character stands for.
-fn meant(character: char) -> Option<char> {
-    match character {
-        '|' => Some('\n'),
-        '~' => Some('\r'),
-        '_' => None,
-        other => Some(other),
+/// What an octet stands for.
+fn meant(octet: u8) -> u8 {
+    match octet {
+        b'|' => b'\n',
+        b'~' => b'\r',
+        other => other,
     }
 }
 
-/// Appends the script that a line stands for.
-fn put_script(line: &str, script: &mut String) -> Option<()> {
-    for character in line.chars() {
-        if let Some(character) = meant(character) {
-            script.push(character).ok()?;
+/// Runs the script that a text stands for.
+fn run_text(way: Way, text: &str, end: &[u8], row: &mut Row) {
+    let mut script = Row::new(row.alloc);
+    for octet in text.as_bytes() {
+        if *octet != b'_' {
+            script.put(meant(*octet));
         }
     }
-    Some(())
+    script.put_all(end);
+    run(way, &script.told, row);
+    row.needs(!script.has_failed);
 }
 
-fn script_of(alloc: Global, line: &str) -> Option<String> {
-    let mut script = String::new(alloc);
-    put_script(line, &mut script)?;
-    Some(script)
-}
-
-/// Plays each line of a row.
-pub(crate) fn play_lines(alloc: Global, way: Way, lines: &str, out: &mut Vec<u8>) -> Option<()> {
+/// Runs each line.
+fn run_each(way: Way, lines: &str, row: &mut Row) {
     for line in lines.lines() {
-        writeln!(out, "> {line}").ok()?;
-        let script = script_of(alloc, line)?;
-        run(alloc, way, &script, out)?;
+        row.say_line("> ", line);
+        run_text(way, line, b"", row);
     }
-    Some(())
 }
 
-/// Plays a row.
-pub(crate) fn play(alloc: Global, way: Way, lines: &str, out: &mut Vec<u8>) -> Option<()> {
-    let mut script = script_of(alloc, lines)?;
-    script.push('\n').ok()?;
+/// Runs all lines as one script.
+fn run_all(way: Way, lines: &str, row: &mut Row) {
     for line in lines.lines() {
-        writeln!(out, "> {line}").ok()?;
+        row.say_line("> ", line);
     }
-    run(alloc, way, &script, out)
+    run_text(way, lines, b"\n", row);
+}
+
+/// Plays a row of a kind.
+pub(crate) fn play(kind: &str, lines: &str, row: &mut Row) {
+    match place_of(
+        "script scripts noted chart mermaid text texts json jsons",
+        kind,
+    ) {
+        0 => run_all(Way::Plain, lines, row),
+        1 => run_each(Way::Plain, lines, row),
+        2 => run_each(Way::Noted, lines, row),
+        3 => run_all(Way::Shown(View::Chart), lines, row),
+        4 => run_all(Way::Shown(View::Mermaid), lines, row),
+        5 => run_all(Way::Shown(View::Text), lines, row),
+        6 => run_each(Way::Shown(View::Text), lines, row),
+        7 => run_all(Way::Shown(View::Objects), lines, row),
+        8 => run_each(Way::Shown(View::Objects), lines, row),
+        _ => row.fail(),
+    }
 }

@@ -3,9 +3,10 @@ use crate::medium::{End, Medium};
 use crate::memory_link::{MemoryClock, MemoryLink};
 use crate::words::request_of;
 use bac_apdu::Limits;
-use bac_driver::{BoundNode, Question};
+use bac_driver::{BoundNode, Link, Question};
 use bac_node::{Config, MEMORY, Node};
 use bac_npdu::{LinkAddress, Peer};
+use bac_rows::row::Row;
 use bac_store::house;
 use bac_transaction::Rules;
 use std::alloc::Global;
@@ -31,11 +32,8 @@ pub(crate) fn config(link: LinkAddress) -> Config {
 
 /// A node of that link with the house store.
 pub(crate) fn house_node(alloc: Global, link: LinkAddress) -> Option<Node> {
-    let Ok(store) = house(alloc) else {
-        return None;
-    };
-    match Node::new(alloc, config(link), store) {
-        Ok(node) => Some(node),
+    match house(alloc) {
+        Ok(store) => Node::new(alloc, config(link), store).ok(),
         Err(_) => None,
     }
 }
@@ -43,23 +41,21 @@ pub(crate) fn house_node(alloc: Global, link: LinkAddress) -> Option<Node> {
 /// A node on a link in memory.
 pub(crate) type MemoryNode<'a> = BoundNode<MemoryLink<'a>>;
 
-fn node_on<'a>(alloc: Global, medium: &'a RefCell<Medium>, end: End) -> Option<MemoryNode<'a>> {
-    let node = house_node(alloc, end.link())?;
-    match BoundNode::new(
-        alloc,
-        node,
-        MemoryLink::new(medium, end),
-        Rules::strict().within(MEMORY),
-    ) {
-        Ok(node) => Some(node),
-        Err(_) => None,
+/// A node with the house store on a link, by the strict rules.
+pub(crate) fn node_on<L: Link + Drop>(
+    alloc: Global,
+    at: LinkAddress,
+    link: L,
+) -> Option<BoundNode<L>> {
+    match house_node(alloc, at) {
+        Some(node) => BoundNode::new(alloc, node, link, Rules::strict().within(MEMORY)).ok(),
+        None => None,
     }
 }
 
 /// A client and a server on one medium.
 #[derive(Drop)]
 pub(crate) struct Side<'a> {
-    pub(crate) alloc: Global,
     pub(crate) medium: &'a RefCell<Medium>,
     pub(crate) client: MemoryNode<'a>,
     pub(crate) server: MemoryNode<'a>,
@@ -68,22 +64,32 @@ pub(crate) struct Side<'a> {
 impl<'a> Side<'a> {
     /// A side whose nodes are new, on links of a medium.
     pub(crate) fn new(alloc: Global, medium: &'a RefCell<Medium>) -> Option<Side<'a>> {
-        let client = node_on(alloc, medium, End::Client)?;
-        let server = node_on(alloc, medium, End::Server)?;
-        Some(Side {
-            alloc,
-            medium,
-            client,
-            server,
-        })
+        let (client, server) = (End::Client, End::Server);
+        let client = node_on(alloc, client.link(), MemoryLink::new(medium, client));
+        let server = node_on(alloc, server.link(), MemoryLink::new(medium, server));
+        match (client, server) {
+            (Some(client), Some(server)) => Some(Side {
+                medium,
+                client,
+                server,
+            }),
+            _ => None,
+        }
     }
 
-    /// The node of that name, on its link.
-    pub(crate) fn named(&mut self, name: &str) -> Option<&mut MemoryNode<'a>> {
-        match name.as_bytes() {
-            b"client" => Some(&mut self.client),
-            b"server" => Some(&mut self.server),
-            _ => None,
+    /// The node of an end, on its link.
+    pub(crate) fn at(&mut self, end: End) -> &mut MemoryNode<'a> {
+        match end {
+            End::Client => &mut self.client,
+            End::Server => &mut self.server,
+        }
+    }
+
+    /// The moment of its medium.
+    pub(crate) fn moment(&self) -> u64 {
+        match self.medium.try_borrow() {
+            Ok(medium) => medium.moment,
+            Err(_) => 0,
         }
     }
 
@@ -93,15 +99,17 @@ impl<'a> Side<'a> {
     }
 }
 
-/// A question for the server, in words.
-pub(crate) fn question(alloc: Global, words: &str) -> Option<Question> {
-    let request = request_of(alloc, words)?;
-    Some(Question {
-        peer: Peer {
-            link: End::Server.link(),
-            route: None,
-        },
-        limits: LIMITS,
-        request,
-    })
+/// A question for the server, in the words of a line; None is a fault.
+pub(crate) fn question(words: &str, row: &mut Row) -> Option<Question> {
+    match request_of(words, row) {
+        Some(request) => Some(Question {
+            peer: Peer {
+                link: End::Server.link(),
+                route: None,
+            },
+            limits: LIMITS,
+            request,
+        }),
+        None => None,
+    }
 }

@@ -1,68 +1,51 @@
 //! The row of a node on a UDP socket of this machine.
-use crate::side::house_node;
+use crate::side::node_on;
 use crate::turns::receive;
-use crate::words::octets_of;
 use bac_driver::{BoundNode, Link, MonotonicClock, RunLimit, UdpLink, WaitLimit};
-use bac_node::MEMORY;
-use bac_transaction::Rules;
-use std::alloc::Global;
-use std::io::Write;
+use bac_rows::row::Row;
 use std::net::Net;
 use std::time::Clock;
 
-/// A socket at a free port.
-fn bound<R: Net>(rt: &R) -> Option<UdpLink> {
-    match UdpLink::bind(rt, 0) {
-        Ok(link) => Some(link),
-        Err(_) => None,
-    }
-}
-
-/// A node with the house store on a link.
-fn node_on(alloc: Global, link: UdpLink) -> Option<BoundNode<UdpLink>> {
-    let node = house_node(alloc, link.address())?;
-    match BoundNode::new(alloc, node, link, Rules::strict().within(MEMORY)) {
-        Ok(node) => Some(node),
-        Err(_) => None,
-    }
-}
-
 /// A node takes one turn on its own.
-fn serve<R: Clock>(rt: &R, node: &mut BoundNode<UdpLink>, out: &mut Vec<u8>) -> Option<()> {
-    let Ok(mut clock) = MonotonicClock::new(rt) else {
-        return None;
-    };
+fn serve<R: Clock>(rt: &R, node: &mut BoundNode<UdpLink>, row: &mut Row) {
     let limit = RunLimit {
         turns: 1,
         wait_limit: WaitLimit::until_due(),
     };
-    match node.serve(&mut clock, &limit) {
-        Ok(served) => writeln!(out, "served {served}").ok(),
+    let served = match MonotonicClock::new(rt) {
+        Ok(mut clock) => node.serve(&mut clock, &limit).ok(),
         Err(_) => None,
+    };
+    match served {
+        Some(served) => row.line(format_args!("served {served}")),
+        None => row.fail(),
     }
 }
 
-/// A client sends octets to a node, which takes a turn, and receives the answer.
+/// A client sends octets to a node on a link, which takes a turn, and receives the answer.
 fn exchange<R: Net + Clock>(
     rt: &R,
-    alloc: Global,
     client: &mut UdpLink,
-    octets: &[u8],
-    out: &mut Vec<u8>,
-) -> Option<()> {
-    let link = bound(rt)?;
-    client.send(link.address(), octets).ok()?;
-    serve(rt, &mut node_on(alloc, link)?, out)?;
-    receive(alloc, client, 1_000, out)
+    link: UdpLink,
+    line: &str,
+    row: &mut Row,
+) {
+    let octets = row.octets(line, 0);
+    let at = link.address();
+    row.needs(client.send(at, &octets).is_ok());
+    match node_on(row.alloc, at, link) {
+        Some(mut node) => {
+            serve(rt, &mut node, row);
+            receive(client, 1_000, row);
+        }
+        None => row.fail(),
+    }
 }
 
 /// A socket sends the octets of a line, a node takes one turn on its own, and the first socket receives the answer.
-pub(crate) fn play<R: Net + Clock>(
-    rt: &R,
-    alloc: Global,
-    digits: &str,
-    out: &mut Vec<u8>,
-) -> Option<()> {
-    let octets = octets_of(alloc, digits)?;
-    exchange(rt, alloc, &mut bound(rt)?, &octets, out)
+pub(crate) fn play<R: Net + Clock>(rt: &R, line: &str, row: &mut Row) {
+    match (UdpLink::bind(rt, 0), UdpLink::bind(rt, 0)) {
+        (Ok(mut client), Ok(link)) => exchange(rt, &mut client, link, line, row),
+        _ => row.fail(),
+    }
 }

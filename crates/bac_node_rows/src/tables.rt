@@ -5,17 +5,18 @@
 use crate::scene::nodes_of;
 use bac_network::{NewWorldFault, World};
 use bac_node::{Config, NewNodeFault, Node};
+use bac_rows::row::Row;
 use bac_store::Store;
-use std::alloc::Global;
-use std::io::Write;
 
-/// The ways to make a node.
+/// The ways to make a node, or a world of one.
 #[derive(Clone, Copy)]
 enum Way {
     New,
     Restarted,
     Large,
     LargeRestarted,
+    /// A world; whether its tables may be large.
+    World(bool),
 }
 
 const WAYS: &[(&str, Way)] = &[
@@ -23,74 +24,75 @@ const WAYS: &[(&str, Way)] = &[
     ("restarted", Way::Restarted),
     ("large", Way::Large),
     ("large restarted", Way::LargeRestarted),
+    ("world", Way::World(false)),
+    ("large world", Way::World(true)),
 ];
 
-/// The ways to make a world: whether its tables may be large.
-const WORLDS: &[(&str, bool)] = &[("world", false), ("large world", true)];
-
 /// What nodes are made of: one.
-fn makers_of(alloc: Global, line: &str) -> Option<Vec<(Config, Store)>> {
-    let scene = format!(in alloc; "node 0275 {line}\n").ok()?;
-    nodes_of(alloc, &scene, 1)
+fn makers_of(line: &str, row: &mut Row) -> Vec<(Config, Store)> {
+    let mut scene = Row::new(row.alloc);
+    scene.say_line("node 0275 ", line);
+    nodes_of(scene.text(), 1, row)
 }
 
-fn made(alloc: Global, way: Way, line: &str) -> Option<Result<Node, NewNodeFault>> {
-    let (config, store) = makers_of(alloc, line)?.pop()?;
-    Some(match way {
-        Way::New => Node::new(alloc, config, store),
-        Way::Restarted => Node::restarted(alloc, config, store, 5),
-        Way::Large => Node::with_large_tables(alloc, config, store),
-        Way::LargeRestarted => Node::restarted_with_large_tables(alloc, config, store, 5),
-    })
+fn print_node(name: &str, node: &Node, row: &mut Row) {
+    row.say(name);
+    row.tell_two(
+        ": # and # slots",
+        node.client_slots() as u64,
+        node.reply_slots() as u64,
+    );
+    row.tell(", at #\n", node.latest());
 }
 
-fn world_made(alloc: Global, is_large: bool, line: &str) -> Option<Result<World, NewWorldFault>> {
-    let makers = makers_of(alloc, line)?;
-    Some(if is_large {
-        World::with_large_tables(alloc, makers, 0)
-    } else {
-        World::new(alloc, makers, 0)
-    })
-}
-
-fn tell_node(name: &str, node: &Node, out: &mut Vec<u8>) -> Option<()> {
-    let latest = node.latest();
-    let (client, reply) = (node.client_slots(), node.reply_slots());
-    writeln!(out, "{name}: {client} and {reply} slots, at {latest}").ok()
-}
-
-fn tell(alloc: Global, name: &str, way: Way, line: &str, out: &mut Vec<u8>) -> Option<()> {
-    match made(alloc, way, line)? {
-        Ok(node) => tell_node(name, &node, out),
-        Err(NewNodeFault::NoMemory) => None,
-        Err(fault) => writeln!(out, "{name}: {fault}").ok(),
+fn made(way: Way, config: Config, store: Store, row: &Row) -> Result<Node, NewNodeFault> {
+    match way {
+        Way::Restarted => Node::restarted(row.alloc, config, store, 5),
+        Way::Large => Node::with_large_tables(row.alloc, config, store),
+        Way::LargeRestarted => Node::restarted_with_large_tables(row.alloc, config, store, 5),
+        _ => Node::new(row.alloc, config, store),
     }
 }
 
-fn tell_world(
-    alloc: Global,
-    name: &str,
-    is_large: bool,
-    line: &str,
-    out: &mut Vec<u8>,
-) -> Option<()> {
-    match world_made(alloc, is_large, line)? {
-        Ok(world) => tell_node(name, world.nodes().first()?, out),
-        Err(NewWorldFault::NoMemory) => None,
-        Err(fault) => writeln!(out, "{name}: {fault}").ok(),
+fn tell_node(name: &str, made: Result<Node, NewNodeFault>, row: &mut Row) {
+    match made {
+        Ok(node) => print_node(name, &node, row),
+        Err(NewNodeFault::NoMemory) => row.fail(),
+        Err(fault) => row.line(format_args!("{name}: {fault}")),
+    }
+}
+
+fn tell_world(name: &str, made: Result<World, NewWorldFault>, row: &mut Row) {
+    match made {
+        Ok(world) => {
+            for node in world.nodes() {
+                print_node(name, node, row);
+            }
+        }
+        Err(NewWorldFault::NoMemory) => row.fail(),
+        Err(fault) => row.line(format_args!("{name}: {fault}")),
+    }
+}
+
+/// Makes a node, or a world of one, and prints what it has.
+fn tell(name: &str, way: Way, mut makers: Vec<(Config, Store)>, row: &mut Row) {
+    match way {
+        Way::World(true) => tell_world(name, World::with_large_tables(row.alloc, makers, 0), row),
+        Way::World(false) => tell_world(name, World::new(row.alloc, makers, 0), row),
+        _ => match makers.pop() {
+            Some((config, store)) => tell_node(name, made(way, config, store, row), row),
+            None => row.fail(),
+        },
     }
 }
 
 /// Plays the lines of a row.
-pub(crate) fn play(alloc: Global, lines: &str, out: &mut Vec<u8>) -> Option<()> {
+pub(crate) fn play(lines: &str, row: &mut Row) {
     for line in lines.lines() {
-        writeln!(out, "> {line}").ok()?;
+        row.say_line("> ", line);
         for (name, way) in WAYS {
-            tell(alloc, *name, *way, line, out)?;
-        }
-        for (name, is_large) in WORLDS {
-            tell_world(alloc, *name, *is_large, line, out)?;
+            let makers = makers_of(line, row);
+            tell(*name, *way, makers, row);
         }
     }
-    Some(())
 }

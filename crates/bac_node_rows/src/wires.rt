@@ -7,19 +7,19 @@
 //!
 //! `new NODE`: another node begins at the link, as the first one did; `restart NODE`: it restarts and waits. `clock NODE EXACT RATE`: from that moment on the
 //! node's clock shows EXACT millionths of a millisecond, and RATE more after each millisecond. Without such a line it shows the moment.
+use crate::nodes::file;
 use crate::playing::{Stage, play};
+use crate::printing::{print_one_ended, print_refusal, print_ticket};
 use crate::scene::{link, nodes_of};
-use crate::turns::print_octets;
-use crate::words::{change_of, first, number, octets_of, put, request_of};
-use bac_commands::{print_asked, print_ended, print_refused};
+use crate::words::{change_of, request_of};
 use bac_node::{Node, Outcome};
 use bac_npdu::{LinkAddress, Peer, Route};
 use bac_requester::{AskFault, Asked};
-use bac_service::{AnyComplex, AnyReply};
-use bac_store::Store;
+use bac_rows::row::{Row, after, decimal, number, number8, place_of, word};
 use bac_transaction::Datagram;
-use std::alloc::Global;
-use std::io::Write;
+
+/// Reads 60,000 octets of file 1.
+const READ_FILE: &[u8] = b"\xC4\x02\x80\x00\x01\x0E\x31\x00\x22\xEA\x60\x0F";
 
 /// How many millionths of a millisecond a millisecond is.
 const MILLISECOND: u64 = 1_000_000;
@@ -66,7 +66,7 @@ struct Wire<'a> {
 }
 
 /// The place of the node of that link.
-fn place_of(link: LinkAddress) -> usize {
+fn place_of_link(link: LinkAddress) -> usize {
     usize::from(link[3])
 }
 
@@ -76,257 +76,239 @@ fn link_of(node: usize) -> LinkAddress {
 }
 
 /// Prints a datagram with its number: from whom, to whom, and its octets.
-fn print_sent(alloc: Global, number: usize, sent: &Sent, out: &mut Vec<u8>) -> Option<()> {
-    let (from, to) = (place_of(sent.from), place_of(sent.datagram.to()));
-    let octets = hex::encode_upper(alloc, sent.datagram.octets()).ok()?;
-    writeln!(out, "sent {number} {from}>{to} {octets}").ok()
+fn print_sent(number: usize, sent: &Sent, row: &mut Row) {
+    let (from, to) = (place_of_link(sent.from), place_of_link(sent.datagram.to()));
+    row.tell_two("sent # #>", number as u64, from as u64);
+    row.tell("# ", to as u64);
+    row.say_octets(sent.datagram.octets());
+    row.put(b'\n');
 }
 
 /// Prints why a datagram was dropped, which request was performed, and which asks ended.
-fn print_done(alloc: Global, outcome: &Outcome, out: &mut Vec<u8>) -> Option<()> {
+fn print_done(outcome: &Outcome, row: &mut Row) {
     if let Some(cause) = &outcome.dropped {
-        writeln!(out, "dropped {}", cause.number()).ok()?;
+        row.tell("dropped #\n", u64::from(cause.number()));
     }
     if let Some(act) = &outcome.effect {
-        let (client, invoke_id) = (place_of(act.key.peer.link), act.key.invoke_id);
-        writeln!(out, "performed {client}:{invoke_id}").ok()?;
+        let client = place_of_link(act.key.peer.link) as u64;
+        row.tell_two("performed #:#\n", client, u64::from(act.key.invoke_id));
     }
-    for ended in &outcome.ended {
-        print_ended(alloc, ended.ticket, &ended.ending, out).ok()?;
+    for ended in outcome.ended.iter() {
+        print_one_ended(ended, row);
     }
-    Some(())
 }
 
-/// The place of a node, as a line says it.
-fn node_at(words: &str) -> Option<usize> {
-    words.parse::<usize>().ok()
+/// The route `NET:HEX`; None is a fault.
+fn route_of(words: &str, row: &mut Row) -> Option<Route> {
+    let (network, digits) = words.split_once(':').unwrap_or((words, ""));
+    let octets = row.octets(digits, 0);
+    let route = Route::new((decimal(network) % 65_536) as u16, &octets);
+    row.needs(route.is_some());
+    route
 }
 
-/// The route `NET:HEX`.
-fn route_of(alloc: Global, words: &str) -> Option<Route> {
-    let (network, digits) = words.split_once(':')?;
-    let network = network.parse::<u16>().ok()?;
-    Route::new(network, &octets_of(alloc, digits)?)
-}
-
-/// A node that is asked, by a route where there is one.
-fn peer_of(alloc: Global, word: &str) -> Option<(usize, Peer)> {
-    let (server, route) = match word.split_once('/') {
-        Some((server, route)) => (node_at(server)?, Some(route_of(alloc, route)?)),
-        None => (node_at(word)?, None),
+/// The node that is asked, by a route where there is one.
+fn peer_of(word: &str, row: &mut Row) -> Peer {
+    let (server, route) = word.split_once('/').unwrap_or((word, ""));
+    let link = link_of(decimal(server) as usize);
+    let route = if route.is_empty() {
+        None
+    } else {
+        route_of(route, row)
     };
-    let link = link_of(server);
-    Some((server, Peer { link, route }))
+    Peer { link, route }
 }
 
-/// A new node as that of a place in a scene.
-fn made(alloc: Global, scene: &str, place: usize) -> Option<Node> {
-    let mut passed = 0usize;
-    for (config, store) in nodes_of(alloc, scene, 0)? {
-        if passed == place {
-            return Node::new(alloc, config, store).ok();
-        }
-        passed = passed.saturating_add(1);
+/// The node of a place in a scene, as a new one; None is a fault.
+fn made(scene: &str, place: usize, row: &mut Row) -> Option<Node> {
+    let mut nodes = nodes_of(scene, 0, row);
+    nodes.truncate(place.saturating_add(1));
+    let made = match nodes.pop() {
+        Some((config, store)) => Node::new(row.alloc, config, store).ok(),
+        None => None,
+    };
+    row.needs(made.is_some());
+    made
+}
+
+/// What comes of a datagram at its node; None where there is no datagram, or the node fails.
+fn delivered(nodes: &mut Vec<Node>, now: u64, sent: Option<&Sent>) -> Option<Outcome> {
+    match sent {
+        Some(sent) => match nodes.get_mut(place_of_link(sent.datagram.to())) {
+            Some(node) => node.on(now, sent.from, sent.datagram.octets()).ok(),
+            None => None,
+        },
+        None => None,
     }
-    None
 }
 
 impl Wire<'_> {
     /// Keeps what a node sends, and prints it.
-    fn take(
-        &mut self,
-        alloc: Global,
-        from: LinkAddress,
-        sends: Vec<Datagram>,
-        out: &mut Vec<u8>,
-    ) -> Option<()> {
+    fn take(&mut self, from: LinkAddress, sends: Vec<Datagram>, row: &mut Row) {
         for datagram in sends {
             let sent = Sent { from, datagram };
-            print_sent(alloc, self.sent.len(), &sent, out)?;
-            put(&mut self.sent, sent)?;
+            print_sent(self.sent.len(), &sent, row);
+            row.needs(self.sent.push(sent).is_ok());
         }
-        Some(())
     }
 
     /// Prints the result of an event at the node of that link, and keeps what it sends.
-    fn go_on(
-        &mut self,
-        alloc: Global,
-        from: LinkAddress,
-        outcome: Outcome,
-        out: &mut Vec<u8>,
-    ) -> Option<()> {
-        print_done(alloc, &outcome, out)?;
-        self.take(alloc, from, outcome.sends, out)
+    fn go_on(&mut self, from: LinkAddress, came: Option<Outcome>, row: &mut Row) {
+        match came {
+            Some(outcome) => {
+                print_done(&outcome, row);
+                self.take(from, outcome.sends, row);
+            }
+            None => row.fail(),
+        }
     }
 
     /// What the clock of a node shows at a moment.
-    fn now(&self, node: usize, moment: u64) -> Option<u64> {
-        Some(self.clocks.get(node)?.at(moment))
+    fn now(&self, node: usize, moment: u64) -> u64 {
+        match self.clocks.get(node) {
+            Some(clock) => clock.at(moment),
+            None => 0,
+        }
     }
 
-    /// What a node answers that asks at a moment.
+    /// Prints the result of an ask, and keeps what it sends.
+    fn asked(&mut self, from: LinkAddress, came: Result<Asked, AskFault>, row: &mut Row) {
+        match came {
+            Ok(asked) => {
+                print_ticket(asked.ticket, asked.invoke_id, row);
+                self.take(from, asked.sends, row);
+            }
+            Err(fault) => print_refusal(fault.number(), row),
+        }
+    }
+
+    /// What a node answers that asks at a moment; None is a fault.
     fn begin(
         &mut self,
-        alloc: Global,
-        moment: u64,
+        now: u64,
         client: usize,
         words: &str,
+        row: &mut Row,
     ) -> Option<Result<Asked, AskFault>> {
-        let now = self.now(client, moment)?;
-        let (word, words) = first(words);
-        let (server, peer) = peer_of(alloc, word)?;
-        let limits = self.nodes.get(server)?.settings().limits;
-        let request = request_of(alloc, words)?;
-        Some(
-            self.nodes
-                .get_mut(client)?
-                .ask(now, &peer, &limits, &request),
-        )
-    }
-
-    fn asks(&mut self, alloc: Global, moment: u64, words: &str, out: &mut Vec<u8>) -> Option<()> {
-        let (client, words) = first(words);
-        let client = node_at(client)?;
-        match self.begin(alloc, moment, client, words)? {
-            Ok(asked) => {
-                print_asked(asked.ticket, asked.invoke_id, out).ok()?;
-                self.take(alloc, link_of(client), asked.sends, out)
-            }
-            Err(fault) => print_refused(fault.number(), out).ok(),
+        let peer = peer_of(word(words, 0), row);
+        let limits = self.nodes.get(place_of_link(peer.link))?.settings().limits;
+        let client = self.nodes.get_mut(client)?;
+        match request_of(after(words, 1), row) {
+            Some(request) => Some(client.ask(now, &peer, &limits, &request)),
+            None => None,
         }
     }
 
-    /// The datagram of that number: from where it was sent, to where, and its octets.
-    fn copy_of(&self, alloc: Global, words: &str) -> Option<(LinkAddress, LinkAddress, Vec<u8>)> {
-        let sent = self.sent.get(number(words)? as usize)?;
-        let octets = sent.datagram.octets().to_vec(alloc).ok()?;
-        Some((sent.from, sent.datagram.to(), octets))
-    }
-
-    /// What comes of the datagram of that number at its node.
-    fn delivered(
-        &mut self,
-        alloc: Global,
-        moment: u64,
-        words: &str,
-    ) -> Option<(LinkAddress, Outcome)> {
-        let (from, to, octets) = self.copy_of(alloc, words)?;
-        let now = self.now(place_of(to), moment)?;
-        let node = self.nodes.get_mut(place_of(to))?;
-        let outcome = node.on(now, from, &octets).ok()?;
-        Some((to, outcome))
-    }
-
-    fn delivers(
-        &mut self,
-        alloc: Global,
-        moment: u64,
-        words: &str,
-        out: &mut Vec<u8>,
-    ) -> Option<()> {
-        let (to, outcome) = self.delivered(alloc, moment, words)?;
-        self.go_on(alloc, to, outcome, out)
-    }
-
-    /// What comes of octets at a node, from a link.
-    fn heard(&mut self, alloc: Global, moment: u64, node: usize, words: &str) -> Option<Outcome> {
-        let (from, digits) = first(words);
-        let from = link(from.parse::<u8>().ok()?);
-        let octets = octets_of(alloc, digits)?;
-        let now = self.now(node, moment)?;
-        self.nodes.get_mut(node)?.on(now, from, &octets).ok()
-    }
-
-    fn hears(&mut self, alloc: Global, moment: u64, words: &str, out: &mut Vec<u8>) -> Option<()> {
-        let (node, words) = first(words);
-        let node = node_at(node)?;
-        let outcome = self.heard(alloc, moment, node, words)?;
-        self.go_on(alloc, link_of(node), outcome, out)
-    }
-
-    fn ticks(&mut self, alloc: Global, moment: u64, words: &str, out: &mut Vec<u8>) -> Option<()> {
-        let node = node_at(words)?;
-        let now = self.now(node, moment)?;
-        match self.nodes.get_mut(node)?.tick(now) {
-            Ok(outcome) => self.go_on(alloc, link_of(node), outcome, out),
-            Err(_) => None,
+    fn asks(&mut self, moment: u64, words: &str, row: &mut Row) {
+        let client = number(words, 0) as usize;
+        let now = self.now(client, moment);
+        match self.begin(now, client, after(words, 1), row) {
+            Some(came) => self.asked(link_of(client), came, row),
+            None => row.fail(),
         }
     }
 
-    fn changes(&mut self, alloc: Global, words: &str) -> Option<()> {
-        let (node, words) = first(words);
-        let change = change_of(alloc, "set", words)?;
-        self.nodes.get_mut(node_at(node)?)?.change(&change).ok()
+    /// The link to which the datagram of that number was sent.
+    fn link_to(&self, number: usize) -> LinkAddress {
+        match self.sent.get(number) {
+            Some(sent) => sent.datagram.to(),
+            None => link_of(number),
+        }
     }
 
-    fn begins_anew(&mut self, alloc: Global, words: &str) -> Option<()> {
-        let place = node_at(words)?;
-        let anew = made(alloc, self.scene, place)?;
-        *self.nodes.get_mut(place)? = anew;
-        Some(())
+    /// The datagram of that number comes to its node.
+    fn delivers(&mut self, moment: u64, number: usize, row: &mut Row) {
+        let to = self.link_to(number);
+        let now = self.now(place_of_link(to), moment);
+        let came = delivered(&mut self.nodes, now, self.sent.get(number));
+        self.go_on(to, came, row);
     }
 
-    fn restarts(&mut self, moment: u64, words: &str) -> Option<()> {
-        let place = node_at(words)?;
-        let now = self.now(place, moment)?;
-        self.nodes.get_mut(place)?.restart(now, None).ok()
-    }
-
-    fn sets_clock(&mut self, moment: u64, words: &str) -> Option<()> {
-        let (node, words) = first(words);
-        let (exact, rate) = first(words);
-        let (exact, rate) = (number(exact)?, number(rate)?);
-        *self.clocks.get_mut(node_at(node)?)? = Shown {
-            moment,
-            exact,
-            rate,
+    /// Octets come to a node, from a link.
+    fn hears(&mut self, moment: u64, words: &str, row: &mut Row) {
+        let place = number(words, 0) as usize;
+        let from = link(number8(words, 1));
+        let octets = row.octets(words, 2);
+        let now = self.now(place, moment);
+        let came = match self.nodes.get_mut(place) {
+            Some(node) => node.on(now, from, &octets).ok(),
+            None => None,
         };
-        Some(())
+        self.go_on(link_of(place), came, row);
     }
 
-    /// An event of a node itself, of which nothing is printed.
-    fn changes_silently(
-        &mut self,
-        alloc: Global,
-        moment: u64,
-        verb: &str,
-        words: &str,
-    ) -> Option<()> {
-        match verb.as_bytes() {
-            b"set" => self.changes(alloc, words),
-            b"new" => self.begins_anew(alloc, words),
-            b"restart" => self.restarts(moment, words),
-            b"clock" => self.sets_clock(moment, words),
-            _ => None,
+    fn ticks(&mut self, moment: u64, place: usize, row: &mut Row) {
+        let now = self.now(place, moment);
+        let came = match self.nodes.get_mut(place) {
+            Some(node) => node.tick(now).ok(),
+            None => None,
+        };
+        self.go_on(link_of(place), came, row);
+    }
+
+    /// A node changes its own store.
+    fn changes(&mut self, words: &str, row: &mut Row) {
+        let change = change_of("set", after(words, 1), row);
+        match (self.nodes.get_mut(number(words, 0) as usize), change) {
+            (Some(node), Some(change)) => row.needs(node.change(&change).is_ok()),
+            _ => row.fail(),
+        }
+    }
+
+    /// Another node begins at the link.
+    fn begins_anew(&mut self, place: usize, row: &mut Row) {
+        match (self.nodes.get_mut(place), made(self.scene, place, row)) {
+            (Some(node), Some(anew)) => *node = anew,
+            _ => row.fail(),
+        }
+    }
+
+    fn restarts(&mut self, moment: u64, place: usize, row: &mut Row) {
+        let now = self.now(place, moment);
+        match self.nodes.get_mut(place) {
+            Some(node) => row.needs(node.restart(now, None).is_ok()),
+            None => row.fail(),
+        }
+    }
+
+    fn sets_clock(&mut self, moment: u64, words: &str, row: &mut Row) {
+        let shown = Shown {
+            moment,
+            exact: number(words, 1),
+            rate: number(words, 2),
+        };
+        match self.clocks.get_mut(number(words, 0) as usize) {
+            Some(clock) => *clock = shown,
+            None => row.fail(),
+        }
+    }
+
+    /// Prints the octets of file 1 of a node.
+    fn prints_file(&self, place: usize, row: &mut Row) {
+        match self.nodes.get(place) {
+            Some(node) => file(node.store(), READ_FILE, row),
+            None => row.fail(),
         }
     }
 }
 
-/// Prints the octets of file 1 of a store.
-fn print_file(alloc: Global, store: &Store, out: &mut Vec<u8>) -> Option<()> {
-    let request = request_of(alloc, "get 10:1 0 60000")?;
-    let planned = store.prepare(alloc, &request.as_request()).ok()?;
-    match planned.reply() {
-        AnyReply::Complex(AnyComplex::FileRead(read)) => {
-            print_octets(alloc, read.content.octets, out)
-        }
-        _ => None,
-    }
-}
+const VERBS: &str = "ask deliver hear tick file set new restart clock";
 
 impl Stage for Wire<'_> {
-    fn meets(&mut self, alloc: Global, line: &str, out: &mut Vec<u8>) -> Option<()> {
-        let (moment, line) = first(line);
-        let moment = number(moment)?;
-        let (verb, words) = first(line);
-        match verb.as_bytes() {
-            b"ask" => self.asks(alloc, moment, words, out),
-            b"deliver" => self.delivers(alloc, moment, words, out),
-            b"hear" => self.hears(alloc, moment, words, out),
-            b"tick" => self.ticks(alloc, moment, words, out),
-            b"file" => print_file(alloc, self.nodes.get(node_at(words)?)?.store(), out),
-            _ => self.changes_silently(alloc, moment, verb, words),
+    fn meets(&mut self, line: &str, row: &mut Row) {
+        let (moment, words) = (number(line, 0), after(line, 2));
+        let place = number(words, 0) as usize;
+        match place_of(VERBS, word(line, 1)) {
+            0 => self.asks(moment, words, row),
+            1 => self.delivers(moment, place, row),
+            2 => self.hears(moment, words, row),
+            3 => self.ticks(moment, place, row),
+            4 => self.prints_file(place, row),
+            5 => self.changes(words, row),
+            6 => self.begins_anew(place, row),
+            7 => self.restarts(moment, place, row),
+            8 => self.sets_clock(moment, words, row),
+            _ => row.fail(),
         }
     }
 
@@ -336,25 +318,24 @@ impl Stage for Wire<'_> {
 }
 
 /// Makes each node of a scene anew, with a clock that shows each moment.
-fn make_all(alloc: Global, wire: &mut Wire<'_>) -> Option<()> {
-    for (config, store) in nodes_of(alloc, wire.scene, 0)? {
-        match Node::new(alloc, config, store) {
-            Ok(node) => put(&mut wire.nodes, node)?,
-            Err(_) => return None,
+fn make_all(wire: &mut Wire<'_>, row: &mut Row) {
+    for (config, store) in nodes_of(wire.scene, 0, row) {
+        match Node::new(row.alloc, config, store) {
+            Ok(node) => row.needs(wire.nodes.push(node).is_ok()),
+            Err(_) => row.fail(),
         }
-        put(&mut wire.clocks, Shown::right())?;
+        row.needs(wire.clocks.push(Shown::right()).is_ok());
     }
-    Some(())
 }
 
 /// Plays the lines of a row on the nodes of a scene, all new.
-pub(crate) fn play_wire(alloc: Global, scene: &str, lines: &str, out: &mut Vec<u8>) -> Option<()> {
+pub(crate) fn play_wire(scene: &str, lines: &str, row: &mut Row) {
     let mut wire = Wire {
         scene,
-        nodes: Vec::new(alloc),
-        clocks: Vec::new(alloc),
-        sent: Vec::new(alloc),
+        nodes: Vec::new(row.alloc),
+        clocks: Vec::new(row.alloc),
+        sent: Vec::new(row.alloc),
     };
-    make_all(alloc, &mut wire)?;
-    play(alloc, wire, scene, lines, out)
+    make_all(&mut wire, row);
+    play(&mut wire, scene, lines, row);
 }

@@ -12,140 +12,140 @@
 use crate::making::made;
 use crate::noise::{all_noise_comes, no_octets_come};
 use crate::playing::{Stage, play};
-use crate::printing::{print_asked, print_performed};
+use crate::printing::{print_ending, print_performed, print_request};
 use crate::scene::{house_after, link, nodes_of};
-use crate::words::{first, octets_of, put, request_of};
-use bac_commands::print_ended;
+use crate::words::request_of;
 use bac_network::{Event, Fact, StraightRun, World, WorldFault, straight};
-use bac_simulate::{Statement, read_statement, simulate_in};
+use bac_rows::row::{Row, after, first, number, number8, number32, place_of};
+use bac_service::OwnedRequest;
+use bac_simulate::{Ask, Statement, read_statement, simulate_in};
 use bac_store::{Store, house};
-use std::alloc::Global;
-use std::io::Write;
 
-fn print_fact(alloc: Global, fact: &Fact, out: &mut Vec<u8>) -> Option<()> {
+fn print_fact(fact: &Fact, row: &mut Row) {
     match fact {
         Fact::Asked {
             number,
             client: _,
             server: _,
             request,
-        } => print_asked(alloc, *number as u64, request, out),
+        } => print_request(*number as u64, request, row),
         Fact::Performed {
             number,
             request,
             reply,
-        } => print_performed(alloc, *number as u64, request, reply, out),
-        Fact::Ended { number, how } => print_ended(alloc, *number as u64, how, out).ok(),
-        Fact::Changed { .. } | Fact::Restarted { .. } => None,
-        Fact::Served { .. } | Fact::AskedAway { .. } | Fact::EndedAway { .. } => None,
+        } => print_performed(*number as u64, request, reply, row),
+        Fact::Ended { number, how } => print_ending(*number as u64, how, row),
+        _ => row.fail(),
     }
 }
 
 /// Prints a world's log.
-fn print_log(alloc: Global, world: &World, out: &mut Vec<u8>) -> Option<()> {
+fn print_log(world: &World, row: &mut Row) {
     for fact in world.log() {
-        print_fact(alloc, fact, out)?;
+        print_fact(fact, row);
     }
-    Some(())
+}
+
+/// Whether the store of a node is that one.
+fn has_store(world: &World, node: usize, fresh: &Store) -> bool {
+    match world.store(node) {
+        Some(store) => store.same(fresh),
+        None => false,
+    }
 }
 
 /// Prints of each node whether its store was that one, and whether it is.
-fn compare_stores(world: &World, fresh: &Store, out: &mut Vec<u8>) -> Option<()> {
+fn compare_stores(world: &World, fresh: &Store, row: &mut Row) {
     for (node, store) in world.opening().iter().enumerate() {
-        let was_fresh = store.same(fresh);
-        let is_fresh = world.store(node)?.same(fresh);
-        writeln!(out, "{node} house {was_fresh} now {is_fresh}").ok()?;
+        row.tell("# ", node as u64);
+        row.say("house ");
+        row.say_truth(store.same(fresh));
+        row.tell_truth(" now ", has_store(world, node, fresh));
     }
-    Some(())
 }
 
 /// Prints of each node whether its store was the house store, and whether it is.
-fn print_stores(alloc: Global, world: &World, out: &mut Vec<u8>) -> Option<()> {
-    match house(alloc) {
-        Ok(fresh) => compare_stores(world, &fresh, out),
-        Err(_) => None,
+fn print_stores(world: &World, row: &mut Row) {
+    match house(row.alloc) {
+        Ok(fresh) => compare_stores(world, &fresh, row),
+        Err(_) => row.fail(),
     }
 }
 
-/// Prints the result of a step that scripts don't have; where an allocation fails, as scripts print it.
-fn print_step(world: &mut World, event: &Event, text: &str, out: &mut Vec<u8>) -> Option<()> {
-    match world.step(event) {
-        Ok(None) => writeln!(out, "{text}").ok(),
-        Err(WorldFault::NoMemory) => out.write_all(NO_MEMORY).ok(),
-        _ => None,
-    }
-}
+/// What is printed of an event in which an allocation fails.
+const NO_MEMORY: &str = "line 1: fault 4\n";
 
-fn restart_anew(alloc: Global, world: &mut World, words: &str, out: &mut Vec<u8>) -> Option<()> {
-    let (node, words) = first(words);
-    let node = node.parse::<usize>().ok()?;
-    let store = Some(house_after(alloc, words)?);
-    print_step(
-        world,
-        &Event::Restart { node, store },
-        "restarted anew",
-        out,
-    )
+/// A node restarts with the house store as it is after a request; where an allocation fails, that is printed as scripts do.
+fn restart_anew(world: &mut World, words: &str, row: &mut Row) {
+    let node = number(words, 0) as usize;
+    let store = house_after(after(words, 1), row);
+    row.needs(store.is_some());
+    match world.step(&Event::Restart { node, store }) {
+        Ok(None) => row.say("restarted anew\n"),
+        Err(WorldFault::NoMemory) => row.say(NO_MEMORY),
+        _ => row.fail(),
+    }
 }
 
 /// Makes an event happen, and prints nothing.
-fn steps(world: &mut World, event: &Event) -> Option<()> {
-    match world.step(event) {
-        Ok(_) => Some(()),
-        Err(_) => None,
-    }
+fn steps(world: &mut World, event: &Event, row: &mut Row) {
+    row.needs(world.step(event).is_ok());
 }
 
 /// Prints how many copies and facts there are.
-fn print_counts(world: &World, out: &mut Vec<u8>) -> Option<()> {
-    writeln!(
-        out,
-        "copies {} facts {}",
-        world.copies().len(),
-        world.log().len()
-    )
-    .ok()
+fn print_counts(world: &World, row: &mut Row) {
+    row.tell_two(
+        "copies # facts #\n",
+        world.copies().len() as u64,
+        world.log().len() as u64,
+    );
 }
 
-/// Octets arrive at a node from a link, a millisecond later.
-fn hears(alloc: Global, world: &mut World, node: usize, words: &str) -> Option<()> {
-    let (from, digits) = first(words);
-    let from = link(from.parse::<u8>().ok()?);
-    steps(world, &Event::Advance { by: 1 })?;
-    let octets = octets_of(alloc, digits)?;
-    steps(world, &Event::Noise { node, from, octets })
+/// Whether the latest moment of a node is the world's.
+fn has_heard(world: &World, node: usize) -> bool {
+    match world.nodes().get(node) {
+        Some(it) => it.latest() == world.now(),
+        None => false,
+    }
 }
 
-/// A node that looks at octets sets its latest moment; they have no other effect.
-fn octets_come(alloc: Global, world: &mut World, words: &str, out: &mut Vec<u8>) -> Option<()> {
-    let (node, words) = first(words);
-    let node = node.parse::<usize>().ok()?;
-    hears(alloc, world, node, words)?;
-    let is_heard = world.nodes().get(node)?.latest() == world.now();
-    write!(out, "heard {is_heard} ").ok()?;
-    print_counts(world, out)
+/// Octets arrive at a node from a link, a millisecond later. A node that looks at octets sets its latest moment; they have no other effect.
+fn octets_come(world: &mut World, words: &str, row: &mut Row) {
+    let node = number(words, 0) as usize;
+    let from = link(number8(words, 1));
+    let octets = row.octets(words, 2);
+    steps(world, &Event::Advance { by: 1 }, row);
+    steps(world, &Event::Noise { node, from, octets }, row);
+    row.say("heard ");
+    row.say_truth(has_heard(world, node));
+    row.put(b' ');
+    print_counts(world, row);
 }
 
 /// Delivers so many copies, each once, in the order of sending.
-fn flow(world: &mut World, words: &str, out: &mut Vec<u8>) -> Option<()> {
-    for number in 0..words.parse::<usize>().ok()? {
-        steps(world, &Event::Deliver { number })?;
+fn flow(world: &mut World, count: usize, row: &mut Row) {
+    for number in 0..count {
+        steps(world, &Event::Deliver { number }, row);
     }
-    print_counts(world, out)
+    print_counts(world, row);
 }
 
-/// The event of a script's line; an ask goes by what the asked node takes.
-fn event_of(alloc: Global, world: &World, line: &str) -> Option<Event> {
-    let Ok(step) = read_statement(alloc, line.as_bytes()) else {
-        return None;
-    };
-    match step {
-        Statement::Ask(ask) => Some(Event::Ask {
-            client: ask.client as usize,
-            server: ask.server as usize,
-            limits: world.nodes().get(ask.server as usize)?.settings().limits,
-            request: ask.request,
-        }),
+/// The event of an ask, by what the asked node takes.
+fn ask_event(world: &World, ask: Ask) -> Option<Event> {
+    let server = ask.server as usize;
+    let limits = world.nodes().get(server)?.settings().limits;
+    Some(Event::Ask {
+        client: ask.client as usize,
+        server,
+        limits,
+        request: ask.request,
+    })
+}
+
+/// The event of a statement.
+fn event_of(world: &World, statement: Statement) -> Option<Event> {
+    match statement {
+        Statement::Ask(ask) => ask_event(world, ask),
         Statement::Deliver(number) => Some(Event::Deliver {
             number: number as usize,
         }),
@@ -157,86 +157,97 @@ fn event_of(alloc: Global, world: &World, line: &str) -> Option<Event> {
     }
 }
 
-/// Runs the events of these lines by one call.
-fn run(alloc: Global, world: &mut World, lines: &str, out: &mut Vec<u8>) -> Option<()> {
-    let mut events = Vec::new(alloc);
-    for line in lines.lines() {
-        put(&mut events, event_of(alloc, world, line)?)?;
-    }
-    match world.run(&events) {
-        Ok(()) => writeln!(out, "{} events ran", events.len()).ok(),
-        Err(stopped) => {
-            let (fault, place) = (stopped.fault.number(), stopped.place);
-            writeln!(out, "fault {fault} at event {place}").ok()
-        }
+/// Adds the event of a script's line.
+fn put_event(world: &World, line: &str, events: &mut Vec<Event>, row: &mut Row) {
+    let event = match read_statement(row.alloc, line.as_bytes()) {
+        Ok(statement) => event_of(world, statement),
+        Err(_) => None,
+    };
+    match event {
+        Some(event) => row.needs(events.push(event).is_ok()),
+        None => row.fail(),
     }
 }
 
-fn print_straight(
-    alloc: Global,
-    world: &World,
-    run: &StraightRun,
-    out: &mut Vec<u8>,
-) -> Option<()> {
-    writeln!(out, "{} deliveries", run.deliveries).ok()?;
+/// Runs the events of these lines by one call.
+fn run(world: &mut World, lines: &str, row: &mut Row) {
+    let mut events = Vec::new(row.alloc);
+    for line in lines.lines() {
+        put_event(world, line, &mut events, row);
+    }
+    match world.run(&events) {
+        Ok(()) => row.tell("# events ran\n", events.len() as u64),
+        Err(stopped) => row.tell_two(
+            "fault # at event #\n",
+            u64::from(stopped.fault.number()),
+            stopped.place as u64,
+        ),
+    }
+}
+
+fn print_straight(world: &World, run: &StraightRun, row: &mut Row) {
+    row.tell("# deliveries\n", run.deliveries as u64);
     match (run.ask, run.ending(world)) {
-        (Some(ask), Some(how)) => print_ended(alloc, ask as u64, how, out).ok(),
-        (Some(ask), None) => writeln!(out, "{ask} is open").ok(),
-        (None, _) => out.write_all(b"refused\n").ok(),
+        (Some(ask), Some(how)) => print_ending(ask as u64, how, row),
+        (Some(ask), None) => row.tell("# is open\n", ask as u64),
+        (None, _) => row.say("refused\n"),
     }
 }
 
 /// A node asks another one; each copy is delivered once, in order of sending, until the ask has ended.
-fn goes_straight(alloc: Global, world: &mut World, words: &str, out: &mut Vec<u8>) -> Option<()> {
-    let (client, words) = first(words);
-    let (server, words) = first(words);
-    let (client, server) = (client.parse::<usize>().ok()?, server.parse::<usize>().ok()?);
-    let request = request_of(alloc, words)?;
+fn runs_straight(
+    world: &mut World,
+    client: usize,
+    server: usize,
+    request: OwnedRequest,
+    row: &mut Row,
+) {
     match straight(world, client, server, request) {
-        Ok(run) => print_straight(alloc, world, &run, out),
-        Err(fault) => writeln!(out, "fault {}", fault.number()).ok(),
+        Ok(run) => print_straight(world, &run, row),
+        Err(fault) => row.tell("fault #\n", u64::from(fault.number())),
+    }
+}
+
+fn goes_straight(world: &mut World, words: &str, row: &mut Row) {
+    let (client, server) = (number(words, 0) as usize, number(words, 1) as usize);
+    if let Some(request) = request_of(after(words, 2), row) {
+        runs_straight(world, client, server, request, row);
     }
 }
 
 /// The clock of a node is faster or slower from then on.
-fn set_rate(world: &mut World, words: &str, out: &mut Vec<u8>) -> Option<()> {
-    let (node, rate) = first(words);
-    let (node, rate) = (node.parse::<usize>().ok()?, rate.parse::<u32>().ok()?);
-    match world.set_pace(node, rate) {
-        Ok(()) => writeln!(out, "paced").ok(),
-        Err(fault) => writeln!(out, "{fault}").ok(),
+fn set_rate(world: &mut World, words: &str, row: &mut Row) {
+    match world.set_pace(number(words, 0) as usize, number32(words, 1)) {
+        Ok(()) => row.say("paced\n"),
+        Err(fault) => row.line(fault),
     }
 }
 
-/// What is printed of an event in which an allocation fails.
-const NO_MEMORY: &[u8] = b"line 1: fault 4\n";
-
-/// Prints the result of a script's line; None where the line is not one.
-fn simulates(alloc: Global, world: &mut World, line: &str, out: &mut Vec<u8>) -> Option<()> {
-    let mut err = Vec::new(alloc);
-    let status = simulate_in(alloc, world, line.as_bytes(), out, &mut err).code();
-    let is_fault = out.starts_with(b"line 1: fault ");
-    if err.is_empty() && status == u8::from(is_fault) {
-        Some(())
-    } else {
-        None
-    }
+/// Prints the result of a script's line, into an empty text; a line that is not one is a fault.
+fn simulates(world: &mut World, line: &str, row: &mut Row) {
+    let mut err = Vec::new(row.alloc);
+    let status = simulate_in(row.alloc, world, line.as_bytes(), &mut row.told, &mut err).code();
+    let is_fault = row.told.starts_with(b"line 1: fault ");
+    row.needs(err.is_empty() && status == u8::from(is_fault));
 }
+
+/// What a line says that scripts don't have.
+const VERBS: &str = "anew octets flow run straight counts stores log rate";
 
 /// Prints the result of a line, into an empty text.
-fn happens(alloc: Global, world: &mut World, line: &str, out: &mut Vec<u8>) -> Option<()> {
+fn happens(world: &mut World, line: &str, row: &mut Row) {
     let (verb, words) = first(line);
-    match verb.as_bytes() {
-        b"anew" => restart_anew(alloc, world, words, out),
-        b"octets" => octets_come(alloc, world, words, out),
-        b"flow" => flow(world, words, out),
-        b"run" => run(alloc, world, words, out),
-        b"straight" => goes_straight(alloc, world, words, out),
-        b"counts" => print_counts(world, out),
-        b"stores" => print_stores(alloc, world, out),
-        b"log" => print_log(alloc, world, out),
-        b"rate" => set_rate(world, words, out),
-        _ => simulates(alloc, world, line, out),
+    match place_of(VERBS, verb) {
+        0 => restart_anew(world, words, row),
+        1 => octets_come(world, words, row),
+        2 => flow(world, number(words, 0) as usize, row),
+        3 => run(world, words, row),
+        4 => goes_straight(world, words, row),
+        5 => print_counts(world, row),
+        6 => print_stores(world, row),
+        7 => print_log(world, row),
+        8 => set_rate(world, words, row),
+        _ => simulates(world, line, row),
     }
 }
 
@@ -249,56 +260,51 @@ struct Twins {
 
 impl Twins {
     /// Prints the result of a line in the world, into an empty text: of the second time where an allocation fails in the first.
-    fn world_meets(&mut self, alloc: Global, line: &str, told: &mut Vec<u8>) -> Option<()> {
-        happens(alloc, &mut self.world, line, told)?;
-        if told.as_slice() != NO_MEMORY {
-            return Some(());
-        }
-        told.clear();
-        if !self.world.same(&self.twin) {
-            told.write_all(b"changed without memory\n").ok()?;
-        }
-        happens(alloc, &mut self.world, line, told)
-    }
-
-    /// Whether the result at the twin is the same; None where an allocation fails there.
-    fn twin_agrees(&mut self, alloc: Global, line: &str, told: &[u8]) -> Option<bool> {
-        let mut other = Vec::new(alloc);
-        happens(alloc, &mut self.twin, line, &mut other)?;
-        if other.as_slice() == NO_MEMORY {
-            None
-        } else {
-            Some(other.as_slice() == told)
+    fn world_meets(&mut self, line: &str, told: &mut Row) {
+        happens(&mut self.world, line, told);
+        if told.told.as_slice() == NO_MEMORY.as_bytes() {
+            told.told.clear();
+            if !self.world.same(&self.twin) {
+                told.say("changed without memory\n");
+            }
+            happens(&mut self.world, line, told);
         }
     }
 
-    /// Noise comes to the world; both have heard of the moment then.
-    fn noise_comes(&mut self, alloc: Global) -> Option<()> {
-        all_noise_comes(alloc, &mut self.world)?;
-        no_octets_come(alloc, &mut self.world)?;
-        no_octets_come(alloc, &mut self.twin)
+    /// Compares the result at the twin; that an allocation fails there is a fault.
+    fn twin_meets(&mut self, told: &[u8], line: &str, row: &mut Row) {
+        let mut other = Row::new(row.alloc);
+        happens(&mut self.twin, line, &mut other);
+        row.needs(!other.has_failed && other.told.as_slice() != NO_MEMORY.as_bytes());
+        if other.told.as_slice() != told {
+            row.say("otherwise at the twin\n");
+        }
     }
 
     /// Prints the result of a line at both.
-    fn both_meet(&mut self, alloc: Global, line: &str, out: &mut Vec<u8>) -> Option<()> {
-        let mut told = Vec::new(alloc);
-        self.world_meets(alloc, line, &mut told)?;
-        out.write_all(&told).ok()?;
-        if !self.twin_agrees(alloc, line, &told)? {
-            out.write_all(b"otherwise at the twin\n").ok()?;
-        }
-        Some(())
+    fn both_meet(&mut self, line: &str, row: &mut Row) {
+        let mut told = Row::new(row.alloc);
+        self.world_meets(line, &mut told);
+        row.take(&told);
+        self.twin_meets(&told.told, line, row);
+    }
+
+    /// Noise comes to the world; both have heard of the moment then.
+    fn noise_comes(&mut self, row: &mut Row) {
+        all_noise_comes(&mut self.world, row);
+        no_octets_come(&mut self.world, row);
+        no_octets_come(&mut self.twin, row);
     }
 }
 
 impl Stage for Twins {
-    fn meets(&mut self, alloc: Global, line: &str, out: &mut Vec<u8>) -> Option<()> {
+    fn meets(&mut self, line: &str, row: &mut Row) {
         match line.strip_prefix("noisy ") {
             Some(line) => {
-                self.noise_comes(alloc)?;
-                self.both_meet(alloc, line, out)
+                self.noise_comes(row);
+                self.both_meet(line, row);
             }
-            None => self.both_meet(alloc, line, out),
+            None => self.both_meet(line, row),
         }
     }
 
@@ -307,16 +313,18 @@ impl Stage for Twins {
     }
 }
 
-/// A world of a scene.
-fn world_of(alloc: Global, scene: &str) -> Option<World> {
-    made(alloc, scene, nodes_of(alloc, scene, 0)?)?.ok()
+/// A world of a scene; None is a fault.
+fn world_of(scene: &str, row: &mut Row) -> Option<World> {
+    let world = made(scene, nodes_of(scene, 0, row), row).ok();
+    row.needs(world.is_some());
+    world
 }
 
 /// Plays the lines of a row in a world of a scene.
-pub(crate) fn play_world(alloc: Global, scene: &str, lines: &str, out: &mut Vec<u8>) -> Option<()> {
-    let twins = Twins {
-        world: world_of(alloc, scene)?,
-        twin: world_of(alloc, scene)?,
-    };
-    play(alloc, twins, scene, lines, out)
+pub(crate) fn play_world(scene: &str, lines: &str, row: &mut Row) {
+    let world = world_of(scene, row);
+    let twin = world_of(scene, row);
+    if let (Some(world), Some(twin)) = (world, twin) {
+        play(&mut Twins { world, twin }, scene, lines, row);
+    }
 }

@@ -1,4 +1,4 @@
-//! What rows of tests share: octets in hexadecimal, lines of scripts, stores, and failures.
+//! What rows of tests share: words of lines and what is printed of them, octets in hexadecimal, lines of scripts, stores, and failures.
 //!
 //! A table of rows is a `const` slice. A row that cannot be read fails its test, as does one that does not hold.
 #![tactic(auto)]
@@ -7,6 +7,7 @@ ghost use Rattle.std.specs.Prelude.{◌≡◌, ◌↔◌, IfOk, IsOk, IsErr, IsT
 ghost use Rattle.hex.specs.Hex.{decode_of};
 ghost use Rattle.bac_rows.specs.declared.RowFault.TheVariants.{NotHexadecimal};
 
+pub mod row;
 pub mod script;
 pub mod stores;
 

@@ -2,52 +2,46 @@
 use crate::worlds::capture::Capture;
 use crate::worlds::counts::Counts;
 use crate::worlds::schedule::{Asked, Run, Sight, link_of};
-use crate::worlds::wrong::Wrong;
 use bac_apdu::{Apdu, Segment, read};
-use bac_explain::{Closed, Sent};
+use bac_explain::{Closed, Explainer, Sent};
 use bac_network::{Copy, Fact, Note};
-use bac_service::{AnyReply, Complex, OwnedReply, write_reply};
+use bac_rows::row::{Row, decimal};
+use bac_service::{AnyReply, Complex, OwnedReply, Reply, write_reply};
 use std::alloc::Global;
 
 /// Whether service data are those of a reply, or a segment the first of them.
-fn is_complex(
-    alloc: Global,
-    segment: Option<Segment>,
-    service: &[u8],
-    reply: Complex<'_>,
-) -> Result<bool, Wrong> {
+fn is_complex(alloc: Global, segment: Option<Segment>, service: &[u8], reply: Complex<'_>) -> bool {
     let mut whole = Vec::new(alloc);
-    write_reply(reply, &mut whole)?;
-    Ok(match segment {
+    let _ = write_reply(reply, &mut whole);
+    match segment {
         None => whole.as_slice() == service,
         Some(segment) => segment.number == 0 && whole.starts_with(service),
-    })
+    }
 }
 
 /// Whether an APDU gives a reply, or the first segment of it.
-fn gives(alloc: Global, octets: &[u8], reply: &OwnedReply) -> Result<bool, Wrong> {
-    let Ok(apdu) = read(octets) else {
-        return Ok(false);
-    };
-    match (apdu, reply.as_reply()) {
-        (Apdu::SimpleAck { .. }, AnyReply::Simple) => Ok(true),
+fn gives(alloc: Global, octets: &[u8], reply: Reply<'_>) -> bool {
+    match (read(octets), reply) {
+        (Ok(Apdu::SimpleAck { .. }), AnyReply::Simple) => true,
         (
-            Apdu::ComplexAck {
-                segment,
-                service,
-                ..
-            },
+            Ok(
+                Apdu::ComplexAck {
+                    segment,
+                    service,
+                    ..
+                },
+            ),
             AnyReply::Complex(complex),
         ) => is_complex(alloc, segment, service, complex),
         (
-            Apdu::Error { class, code, .. },
+            Ok(Apdu::Error { class, code, .. }),
             AnyReply::Error {
                 class: told,
                 code: why,
             },
-        ) => Ok(class == told && code == why),
-        (Apdu::Reject { reason, .. }, AnyReply::Reject(why)) => Ok(reason == why),
-        _ => Ok(false),
+        ) => class == told && code == why,
+        (Ok(Apdu::Reject { reason, .. }), AnyReply::Reject(why)) => reason == why,
+        _ => false,
     }
 }
 
@@ -75,18 +69,11 @@ fn reply_of(log: &[Fact], ask: usize) -> Option<&OwnedReply> {
 }
 
 /// Whether an answer is the one that the log says of an ask.
-fn is_answer(
-    alloc: Global,
-    log: &[Fact],
-    ask: usize,
-    answer: &Option<Sent>,
-) -> Result<bool, Wrong> {
-    let Some(reply) = reply_of(log, ask) else {
-        return Ok(is_unserved(answer));
-    };
-    match answer {
-        Some(sent) => gives(alloc, &sent.octets, reply),
-        None => Ok(false),
+fn is_answer(alloc: Global, log: &[Fact], ask: usize, answer: &Option<Sent>) -> bool {
+    match (reply_of(log, ask), answer) {
+        (None, answer) => is_unserved(answer),
+        (Some(reply), Some(sent)) => gives(alloc, &sent.octets, reply.as_reply()),
+        (Some(_), None) => false,
     }
 }
 
@@ -100,63 +87,93 @@ fn is_of(closed: &Closed, note: &Note, asked: Asked) -> bool {
 }
 
 /// The transaction of an ask.
-fn transaction_of<'a>(
-    closed: &'a [Closed],
-    note: &Note,
-    asked: Asked,
-) -> Result<&'a Closed, Wrong> {
+fn transaction_of<'a>(closed: &'a [Closed], note: &Note, asked: Asked) -> Option<&'a Closed> {
     for it in closed {
         if is_of(it, note, asked) {
-            return Ok(it);
+            return Some(it);
         }
     }
-    Err(Wrong::Transaction)
+    None
 }
 
-/// There is one transaction for each ask, which was seen as often as it passed, and answered as the log says.
-fn agrees(alloc: Global, run: &Run, passed: &[Sight], closed: &[Closed]) -> Result<(), Wrong> {
-    if closed.len() != run.asked.len() {
-        return Err(Wrong::Number);
+/// An ask has a transaction, which was seen as often as it passed, and answered as the log says.
+fn agrees_on(run: &Run, ask: usize, passed: &[Sight], closed: &[Closed], row: &mut Row) {
+    let world = &run.world;
+    match (world.asks().get(ask), run.asked.get(ask)) {
+        (Some(note), Some(asked)) => match transaction_of(closed, note, *asked) {
+            Some(closed) => {
+                let it = &closed.transaction;
+                row.needs(Counts::of(world, passed, note, *asked).are_of(it));
+                row.needs(is_answer(row.alloc, world.log(), ask, &it.answer));
+            }
+            None => row.fail(),
+        },
+        _ => row.fail(),
     }
-    let asks = run.world.asks().iter().zip(run.asked.iter());
-    for (ask, (note, asked)) in asks.enumerate() {
-        let it = &transaction_of(closed, note, *asked)?.transaction;
-        if !Counts::of(&run.world, passed, note, *asked).are_of(it) {
-            return Err(Wrong::Counts);
-        }
-        if !is_answer(alloc, run.world.log(), ask, &it.answer)? {
-            return Err(Wrong::Answer);
-        }
-    }
-    Ok(())
 }
 
 /// Each copy where it was sent.
-fn sent(alloc: Global, copies: &[Copy]) -> Result<Vec<Sight>, Wrong> {
+fn sent(alloc: Global, copies: &[Copy]) -> Vec<Sight> {
     let mut sent = Vec::new(alloc);
     for (copy, it) in copies.iter().enumerate() {
-        sent.push(Sight {
+        let _ = sent.push(Sight {
             moment: it.moment,
             copy,
-        })?;
+        });
     }
-    Ok(sent)
+    sent
 }
 
-/// A world is explained by what was sent, of which nothing is wrong, and by all that passed; how many asks were answered by their servers.
-pub(crate) fn explained(alloc: Global, requests: &[&str], seed: u64) -> Result<usize, Wrong> {
-    let run = Run::of(alloc, requests, seed)?;
-    let sent = sent(alloc, run.world.copies())?;
-    let capture = Capture::of(alloc, &run.world, &sent)?;
-    if capture.wrong > 0 {
-        return Err(Wrong::Finding);
+/// How many transactions were answered.
+fn answered(closed: &[Closed]) -> u64 {
+    let mut count = 0u64;
+    for it in closed {
+        count = count.saturating_add(u64::from(it.transaction.answer.is_some()));
     }
-    agrees(alloc, &run, &sent, &capture.closed)?;
-    let capture = Capture::of(alloc, &run.world, &run.passed)?;
-    agrees(alloc, &run, &run.passed, &capture.closed)?;
-    let answered = capture
-        .closed
-        .iter()
-        .filter(|it| it.transaction.answer.is_some());
-    Ok(answered.count())
+    count
+}
+
+/// Explains what passed in a world, and compares: there is one transaction for each ask, and no other. How many asks were answered by their servers.
+fn compared(
+    run: &Run,
+    passed: &[Sight],
+    is_sent: bool,
+    explainer: Explainer,
+    row: &mut Row,
+) -> u64 {
+    let mut capture = Capture::new(explainer, row);
+    capture.see_all(&run.world, passed, row);
+    // nothing is wrong with all that was sent
+    row.needs(!is_sent || capture.wrong == 0);
+    row.needs(capture.closed.len() == run.asked.len());
+    for ask in 0..run.asked.len() {
+        agrees_on(run, ask, passed, &capture.closed, row);
+    }
+    answered(&capture.closed)
+}
+
+fn explained_by(run: &Run, passed: &[Sight], is_sent: bool, row: &mut Row) -> u64 {
+    match Explainer::new(row.alloc) {
+        Ok(explainer) => compared(run, passed, is_sent, explainer, row),
+        Err(_) => {
+            row.fail();
+            0
+        }
+    }
+}
+
+/// A world is explained by what was sent, and by all that passed.
+fn explained(run: &Run, row: &mut Row) -> u64 {
+    let sent = sent(row.alloc, run.world.copies());
+    explained_by(run, &sent, true, row);
+    explained_by(run, &run.passed, false, row)
+}
+
+/// Explains the world that is made up from the number of a line.
+pub(crate) fn explain(requests: &[&str], line: &str, row: &mut Row) {
+    let seed = decimal(line);
+    if let Some(run) = Run::of(requests, seed, row) {
+        let answered = explained(&run, row);
+        row.tell_two("#: answered #\n", seed, answered);
+    }
 }

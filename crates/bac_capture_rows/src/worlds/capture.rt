@@ -1,9 +1,8 @@
 //! What `explain` finds in the datagrams that passed.
 use crate::worlds::schedule::{Sight, link_of};
-use crate::worlds::wrong::Wrong;
-use bac_explain::{Closed, Explainer, Finding, OPEN_LIMIT, read_sighting};
+use bac_explain::{Closed, Explainer, Finding, Heard, OPEN_LIMIT, Sighting, read_sighting};
 use bac_network::{Copy, World};
-use std::alloc::Global;
+use bac_rows::row::Row;
 
 /// The transactions of a capture, and how many of its datagrams were wrong, negative SegmentACKs left out.
 #[derive(Drop)]
@@ -14,52 +13,56 @@ pub(crate) struct Capture {
 }
 
 impl Capture {
-    fn close(&mut self, closed: Option<Closed>) -> Result<(), Wrong> {
-        if let Some(closed) = closed {
-            self.closed.push(closed)?;
+    /// A capture of nothing.
+    pub(crate) fn new(explainer: Explainer, row: &Row) -> Capture {
+        Capture {
+            explainer,
+            closed: Vec::new(row.alloc),
+            wrong: 0,
         }
-        Ok(())
     }
 
-    fn see(&mut self, alloc: Global, now: u64, copy: &Copy) -> Result<(), Wrong> {
-        let seen = read_sighting(link_of(copy.from), link_of(copy.to), &copy.octets);
-        let Some(seen) = seen else {
-            return Err(Wrong::Datagram);
-        };
-        let over = self.explainer.pop_over(now);
-        self.close(over)?;
-        let heard = self.explainer.hear(alloc, now, seen, true)?;
-        self.close(heard.closed)?;
+    fn close(&mut self, closed: Option<Closed>) {
+        if let Some(closed) = closed {
+            let _ = self.closed.push(closed);
+        }
+    }
+
+    /// Notes what came of a datagram.
+    fn note(&mut self, heard: Heard) {
         match heard.finding {
             None | Some(Finding::NegativeAck) => {}
             Some(_) => self.wrong = self.wrong.saturating_add(1),
         }
-        Ok(())
+        self.close(heard.closed);
     }
 
-    fn end(&mut self) -> Result<(), Wrong> {
-        for _ in 0..OPEN_LIMIT {
-            match self.explainer.pop() {
-                Some(closed) => self.closed.push(closed)?,
-                None => break,
-            }
+    fn hear(&mut self, now: u64, seen: Sighting<'_>, row: &mut Row) {
+        match self.explainer.hear(row.alloc, now, seen, true) {
+            Ok(heard) => self.note(heard),
+            Err(_) => row.fail(),
         }
-        Ok(())
+    }
+
+    fn see(&mut self, now: u64, copy: &Copy, row: &mut Row) {
+        let over = self.explainer.pop_over(now);
+        self.close(over);
+        match read_sighting(link_of(copy.from), link_of(copy.to), &copy.octets) {
+            Some(seen) => self.hear(now, seen, row),
+            None => row.fail(),
+        }
     }
 
     /// Explains what passed in a world.
-    pub(crate) fn of(alloc: Global, world: &World, passed: &[Sight]) -> Result<Capture, Wrong> {
-        let mut capture = Capture {
-            explainer: Explainer::new(alloc)?,
-            closed: Vec::new(alloc),
-            wrong: 0,
-        };
+    pub(crate) fn see_all(&mut self, world: &World, passed: &[Sight], row: &mut Row) {
         for sight in passed {
             if let Some(copy) = world.copies().get(sight.copy) {
-                capture.see(alloc, sight.moment, copy)?;
+                self.see(sight.moment, copy, row);
             }
         }
-        capture.end()?;
-        Ok(capture)
+        for _ in 0..OPEN_LIMIT {
+            let closed = self.explainer.pop();
+            self.close(closed);
+        }
     }
 }

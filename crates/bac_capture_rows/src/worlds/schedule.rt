@@ -1,15 +1,14 @@
 //! Worlds whose events are made up from a number, and what passes on their wire. No node restarts: a server that did would answer a copy of a request that it
 //! had answered with an Abort.
 use crate::worlds::chance::Chance;
-use crate::worlds::wrong::Wrong;
-use bac_apdu::{Apdu, Limits, read};
+use bac_apdu::Limits;
 use bac_network::{Event, World, WorldFault};
 use bac_node::Config;
 use bac_npdu::LinkAddress;
+use bac_rows::row::Row;
 use bac_service::OwnedRequest;
 use bac_service_text::read_request_words;
 use bac_store::{Store, house};
-use std::alloc::Global;
 
 /// How many nodes there are.
 const NODES: usize = 3;
@@ -48,46 +47,59 @@ pub(crate) struct Run {
 }
 
 /// What nodes take: APDUs of 50 octets, and any number of segments.
-fn limits() -> Result<Limits, Wrong> {
-    match read(&[0x02, 0x70, 0, 12]) {
-        Ok(Apdu::ConfirmedRequest { limits, .. }) => Ok(limits),
-        _ => Err(Wrong::Event),
+const LIMITS: Limits = Limits {
+    max_apdu: 0,
+    takes_segments: true,
+    max_segments: 7,
+};
+
+fn config_of(node: usize) -> Config {
+    Config {
+        link: link_of(node),
+        limits: LIMITS,
+        window: 4,
+        client_slots: 64,
+        reply_slots: 64,
     }
 }
 
-fn nodes(alloc: Global) -> Result<Vec<(Config, Store)>, Wrong> {
-    let mut nodes = Vec::new(alloc);
+fn nodes(row: &mut Row) -> Vec<(Config, Store)> {
+    let mut nodes = Vec::new(row.alloc);
     for node in 0..NODES {
-        let config = Config {
-            link: link_of(node),
-            limits: limits()?,
-            window: 4,
-            client_slots: 64,
-            reply_slots: 64,
-        };
-        nodes.push((config, house(alloc)?))?;
+        match house(row.alloc) {
+            Ok(store) => {
+                let is_added = nodes.push((config_of(node), store)).is_ok();
+                row.needs(is_added);
+            }
+            Err(_) => row.fail(),
+        }
     }
-    Ok(nodes)
+    nodes
 }
 
-fn request_of(alloc: Global, text: &str) -> Result<OwnedRequest, Wrong> {
-    let mut words = Vec::new(alloc);
+fn request_of(text: &str, row: &mut Row) -> Option<OwnedRequest> {
+    let mut words = Vec::new(row.alloc);
     for word in text.split(' ') {
-        words.push(word.as_bytes())?;
+        row.needs(words.push(word.as_bytes()).is_ok());
     }
-    Ok(read_request_words(alloc, &words)?)
+    let request = read_request_words(row.alloc, &words).ok();
+    row.needs(request.is_some());
+    request
 }
 
 /// A node asks the one after it.
-fn question(alloc: Global, requests: &[&str], chance: &mut Chance) -> Result<Event, Wrong> {
+fn question(requests: &[&str], chance: &mut Chance, row: &mut Row) -> Option<Event> {
     let client = chance.below(NODES);
     let text = requests.get(chance.below(requests.len())).unwrap_or(&"");
-    Ok(Event::Ask {
-        client,
-        server: client.saturating_add(1).checked_rem(NODES).unwrap_or(0),
-        limits: limits()?,
-        request: request_of(alloc, text)?,
-    })
+    match request_of(text, row) {
+        Some(request) => Some(Event::Ask {
+            client,
+            server: client.saturating_add(1).checked_rem(NODES).unwrap_or(0),
+            limits: LIMITS,
+            request,
+        }),
+        None => None,
+    }
 }
 
 /// One of the last copies is delivered.
@@ -110,80 +122,97 @@ fn pause(chance: &mut Chance) -> u64 {
 
 impl Run {
     /// Notes a copy that is delivered, where it is not too old.
-    fn comes(&mut self, number: usize) -> Result<(), Wrong> {
+    fn comes(&mut self, number: usize, row: &mut Row) {
         let moment = self.world.now();
-        let Some(copy) = self.world.copies().get(number) else {
-            return Ok(());
-        };
-        if moment.saturating_sub(copy.moment) <= LIFE {
-            self.passed.push(Sight {
-                moment,
-                copy: number,
-            })?;
+        if let Some(copy) = self.world.copies().get(number) {
+            if moment.saturating_sub(copy.moment) <= LIFE {
+                let sight = Sight {
+                    moment,
+                    copy: number,
+                };
+                row.needs(self.passed.push(sight).is_ok());
+            }
         }
-        Ok(())
     }
 
     /// An ask was made where there is one more than before; the copies from that one on were sent.
-    fn note(&mut self, asks: usize, copies: usize) -> Result<(), Wrong> {
+    fn note(&mut self, asks: usize, copies: usize, row: &mut Row) {
         let moment = self.world.now();
         if self.world.asks().len() > asks {
-            self.asked.push(Asked { moment, copies })?;
+            let is_noted = self.asked.push(Asked { moment, copies }).is_ok();
+            row.needs(is_noted);
         }
         for copy in copies..self.world.copies().len() {
-            self.passed.push(Sight { moment, copy })?;
+            let is_noted = self.passed.push(Sight { moment, copy }).is_ok();
+            row.needs(is_noted);
         }
-        Ok(())
     }
 
-    fn step(&mut self, event: &Event) -> Result<(), Wrong> {
+    fn step(&mut self, event: &Event, row: &mut Row) {
         let asks = self.world.asks().len();
         let copies = self.world.copies().len();
-        match self.world.step(event) {
-            Ok(_) | Err(WorldFault::NoSuchDatagram) => {}
-            Err(fault) => return Err(Wrong::from(fault)),
-        }
+        let is_step = matches!(
+            self.world.step(event),
+            Ok(_) | Err(WorldFault::NoSuchDatagram)
+        );
+        row.needs(is_step);
         if let Event::Deliver { number } = event {
-            self.comes(*number)?;
+            self.comes(*number, row);
         }
-        self.note(asks, copies)
+        self.note(asks, copies, row);
     }
 
     /// Some time passes, and each node does what is due.
-    fn rests(&mut self, chance: &mut Chance) -> Result<(), Wrong> {
-        self.step(&Event::Advance { by: pause(chance) })?;
+    fn rests(&mut self, chance: &mut Chance, row: &mut Row) {
+        self.step(&Event::Advance { by: pause(chance) }, row);
         for node in 0..NODES {
-            self.step(&Event::Tick { node })?;
+            self.step(&Event::Tick { node }, row);
         }
-        Ok(())
+    }
+
+    /// A node asks.
+    fn asks(&mut self, requests: &[&str], chance: &mut Chance, row: &mut Row) {
+        if let Some(event) = question(requests, chance, row) {
+            self.step(&event, row);
+        }
     }
 
     /// What happens next.
-    fn goes_on(
-        &mut self,
-        alloc: Global,
-        requests: &[&str],
-        chance: &mut Chance,
-    ) -> Result<(), Wrong> {
-        let event = match chance.below(20) {
-            0 | 1 => question(alloc, requests, chance)?,
-            2..=4 => return self.rests(chance),
-            _ => delivery(&self.world, chance),
-        };
-        self.step(&event)
+    fn goes_on(&mut self, requests: &[&str], chance: &mut Chance, row: &mut Row) {
+        match chance.below(20) {
+            0 | 1 => self.asks(requests, chance, row),
+            2..=4 => self.rests(chance, row),
+            _ => {
+                let event = delivery(&self.world, chance);
+                self.step(&event, row);
+            }
+        }
     }
 
-    /// The world that is made up from a number, in which nodes ask some of these requests.
-    pub(crate) fn of(alloc: Global, requests: &[&str], seed: u64) -> Result<Run, Wrong> {
-        let mut run = Run {
-            world: World::new(alloc, nodes(alloc)?, 128)?,
-            asked: Vec::new(alloc),
-            passed: Vec::new(alloc),
-        };
+    /// The events that are made up from a number.
+    fn runs(&mut self, requests: &[&str], seed: u64, row: &mut Row) {
         let mut chance = Chance::of(seed);
         for _ in 0..EVENTS {
-            run.goes_on(alloc, requests, &mut chance)?;
+            self.goes_on(requests, &mut chance, row);
         }
-        Ok(run)
+    }
+
+    /// The world that is made up from a number, in which nodes ask some of these requests; None where no world can be made.
+    pub(crate) fn of(requests: &[&str], seed: u64, row: &mut Row) -> Option<Run> {
+        match World::new(row.alloc, nodes(row), 128) {
+            Ok(world) => {
+                let mut run = Run {
+                    world,
+                    asked: Vec::new(row.alloc),
+                    passed: Vec::new(row.alloc),
+                };
+                run.runs(requests, seed, row);
+                Some(run)
+            }
+            Err(_) => {
+                row.fail();
+                None
+            }
+        }
     }
 }
