@@ -381,6 +381,7 @@ impl<'m, M: ClientSockets> Client<'m, M> {
             }
         };
         if self.past.leave(port_of(own), now).is_err() {
+            drop(bound_node);
             return Err(no_memory(err));
         }
         self.since = self.since.max(now);
@@ -395,7 +396,10 @@ impl<'m, M: ClientSockets> Client<'m, M> {
         ensures failed { IfErr result IsFailure }
     {
         match self.renew(host, err) {
-            Ok(_) => Ok(()),
+            Ok(before) => {
+                drop(before);
+                Ok(())
+            }
             Err(status) => Err(status),
         }
     }

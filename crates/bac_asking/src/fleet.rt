@@ -127,13 +127,14 @@ impl<L: Link> Fleet<L> {
         ensures failed { IfErr result IsFailure }
     {
         let Some(next) = self.number.checked_add(1) else {
+            drop(before);
             return Err(link_fault(err));
         };
-        if !is_idle {
-            let leaving = Leaving::new(self.number, before);
-            if self.leaving.push(leaving).is_err() {
-                return Err(no_memory(err));
-            }
+        if is_idle {
+            drop(before);
+        } else if let Err(refused) = self.leaving.push(Leaving::new(self.number, before)) {
+            drop(refused);
+            return Err(no_memory(err));
         }
         self.number = next;
         Ok(())

@@ -142,7 +142,13 @@ pub fn pair<M: ClientSockets, O: Write, E: Write>(
     };
     let mut second = match house_here(alloc, machine, err) {
         Ok(second) => second,
-        Err(status) => return status,
+        Err(status) => {
+            drop(first);
+            return status;
+        }
     };
-    pair_nodes(alloc, machine, &mut first, &mut second, out, err)
+    let status = pair_nodes(alloc, machine, &mut first, &mut second, out, err);
+    drop(second);
+    drop(first);
+    status
 }
