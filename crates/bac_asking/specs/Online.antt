@@ -6,7 +6,8 @@ use Rattle.bac_transaction.specs.Given.{STRICTLY}
 use Rattle.bac_transaction.specs.declared.rules.Rules.{Rules}
 use Rattle.bac_driver.specs.Udp.{LOCAL_HOST}
 use Rattle.bac_text.specs.declared.status.Status.{Status}
-use Rattle.bac_driver.specs.Pairs.{Pair}
+use Rattle.bac_driver.specs.Moments.{Told}
+use Rattle.bac_driver.specs.Pairs.{Pair, paired}
 use Rattle.bac_driver.specs.Runs.{Timed}
 use Rattle.bac_driver.specs.BoundNodes.{BoundNode}
 use Rattle.bac_commands.specs.Houses.{client_node, house_node}
@@ -60,14 +61,23 @@ pub record ByClient (IsOn : Links) (IsClock : Clocks) (asking : Asking) (Round :
 
 -- ---- two nodes
 
+-- two nodes, beside a clock that was made: both asks of the first
+pub record PairsBeside (IsClock : Clocks) (first second : BoundNode) (answered : Bool) (old new : Option (List ℕ)) : Type 0 where
+  pub told : Told
+  pub after : Pair
+  pub clock : IsClock told
+  pub texts : TwoTexts answered (paired first second told) after old new
+
+abbrev pub ArePaired : Clocks → Status → (first second : BoundNode) → (old new : Option (List ℕ)) → Type 0
+ArePaired IsClock s first second old new = ByStatus s (PairsBeside IsClock first second true old new) (PairsBeside IsClock first second false old new) ⊥
+
 -- two such nodes at free ports of this machine: both asks of the first
 pub record Pairs (IsOn : Links) (IsClock : Clocks) (answered : Bool) (old new : Option (List ℕ)) : Type 0 where
-  pub before : Pair
-  pub after : Pair
-  pub first : IsHouseAt IsOn LOCAL_HOST 0 before.first
-  pub second : IsHouseAt IsOn LOCAL_HOST 0 before.second
-  pub clock : IsClock before.told
-  pub texts : TwoTexts answered before after old new
+  pub first : BoundNode
+  pub second : BoundNode
+  pub is_first : IsHouseAt IsOn LOCAL_HOST 0 first
+  pub is_second : IsHouseAt IsOn LOCAL_HOST 0 second
+  pub pairs : PairsBeside IsClock first second answered old new
 
 abbrev pub IsPair : Links → Clocks → Status → (old new : Option (List ℕ)) → Type 0
 IsPair IsOn IsClock s old new = ByStatus s (Pairs IsOn IsClock true old new) (Pairs IsOn IsClock false old new) ⊥

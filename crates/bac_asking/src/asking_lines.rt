@@ -93,7 +93,7 @@ fn get_ready<M: ClientSockets, E: Write>(
     if !client.is_over(start) {
         return Ok(start);
     }
-    client.renew(asking.host, err)?;
+    client.replace(asking.host, err)?;
     Ok(start)
 }
 
@@ -116,7 +116,8 @@ pub fn ask_on<M: ClientSockets, E: Write>(
     if !ends_spent(&end) {
         return Ok(end);
     }
-    client.renew(asking.host, err)?;
+    drop(end);
+    client.replace(asking.host, err)?;
     ask_from(asking, &mut client.station, question, err)
 }
 

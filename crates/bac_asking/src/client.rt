@@ -381,10 +381,27 @@ impl<'m, M: ClientSockets> Client<'m, M> {
             }
         };
         if self.past.leave(port_of(own), now).is_err() {
+            drop(bound_node);
             return Err(no_memory(err));
         }
         self.since = self.since.max(now);
         Ok(mem::replace(&mut self.station.bound_node, bound_node))
+    }
+
+    /// The same; the node before is given up.
+    pub(crate) fn replace<E: Write>(&mut self, host: [u8; 4], err: &mut E) -> Result<(), Status>
+        ensures renewed { IfOk result (λ _. IsRenewed (OnPort M.is_bound M.Link.failures M.Link.calls) host
+            (timed self.old.station.bound_node (M.Timer.told self.old.station.clock))
+            (timed self.new.station.bound_node (M.Timer.told self.new.station.clock))) }
+        ensures failed { IfErr result IsFailure }
+    {
+        match self.renew(host, err) {
+            Ok(before) => {
+                drop(before);
+                Ok(())
+            }
+            Err(status) => Err(status),
+        }
     }
 
     /// A node that asked before is given up: the client does not ask from its port for as long as a request from there may be remembered. Where memory is

@@ -127,13 +127,14 @@ impl<L: Link> Fleet<L> {
         ensures failed { IfErr result IsFailure }
     {
         let Some(next) = self.number.checked_add(1) else {
+            drop(before);
             return Err(link_fault(err));
         };
-        if !is_idle {
-            let leaving = Leaving::new(self.number, before);
-            if self.leaving.push(leaving).is_err() {
-                return Err(no_memory(err));
-            }
+        if is_idle {
+            drop(before);
+        } else if let Err(refused) = self.leaving.push(Leaving::new(self.number, before)) {
+            drop(refused);
+            return Err(no_memory(err));
         }
         self.number = next;
         Ok(())
@@ -156,6 +157,14 @@ impl<L: Link> Fleet<L> {
         leaving.link()
     }
 
+    /// The node itself.
+    pub(crate) fn bound_node_at(&self, at: usize) -> &BoundNode<L>
+        requires { at < length self.now.leaving }
+    {
+        let leaving = &self.leaving[at];
+        leaving.bound_node()
+    }
+
     /// It takes one turn, as [`BoundNode::turn_before`].
     pub(crate) fn turn_at<C: Clock>(
         &mut self,
@@ -171,15 +180,15 @@ impl<L: Link> Fleet<L> {
     }
 
     /// It is given up.
-    pub(crate) fn remove(&mut self, at: usize) -> Leaving<L>
+    pub(crate) fn remove(&mut self, at: usize)
         requires { at < length self.old.leaving }
         ensures { self.new ≡ record self.old { leaving = remove self.old.leaving at } }
     {
-        self.leaving.remove(at)
+        self.leaving.remove(at);
     }
 
     /// Those that leave.
-    pub(crate) fn into_leaving(self) -> Vec<Leaving<L>> {
-        self.leaving
+    pub(crate) fn leaving(&self) -> &[Leaving<L>] {
+        &self.leaving
     }
 }

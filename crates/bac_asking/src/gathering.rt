@@ -75,6 +75,6 @@ pub fn gather<M: ClientSockets, E: Write>(
         rota: Rota::new(),
     };
     let ends = end_all_lines(&plan, client, &mut traffic, err)?;
-    part_with_all(client, traffic.fleet.into_leaving(), err)?;
+    part_with_all(client, traffic.fleet.leaving(), err)?;
     Ok(ends)
 }

@@ -3,7 +3,7 @@ ghost use Rattle.std.specs.Prelude.{◌≡◌, map, IfErr, IfOk};
 ghost use Rattle.bac_npdu.specs.Views.{peer_view};
 ghost use Rattle.bac_commands.specs.Questions.{ReadsQuestion};
 ghost use Rattle.bac_asking.specs.AskedOne.{IsAsked, ReadsAsked, is_printed_by};
-ghost use Rattle.bac_asking.specs.Online.{IsHouseAt, IsPair};
+ghost use Rattle.bac_asking.specs.Online.{ArePaired, IsHouseAt, IsPair};
 ghost use Rattle.bac_environment.specs.Sockets.{OnClock, OnPort};
 ghost use Rattle.bac_driver.specs.Udp.{LOCAL_HOST};
 ghost use Rattle.bac_driver.specs.Views.{question_view};
@@ -109,6 +109,23 @@ fn house_here<M: ClientSockets, E: Write>(
     Ok(bound_node)
 }
 
+/// One of two nodes asks the other, beside a new clock; prints both results. Where there is no clock, `err` and the status say so.
+fn pair_nodes<M: ClientSockets, O: Write, E: Write>(
+    alloc: Global,
+    machine: &M,
+    first: &mut BoundNode<M::Link>,
+    second: &mut BoundNode<M::Link>,
+    out: &mut O,
+    err: &mut E,
+) -> Status
+    ensures { ArePaired (OnClock M.is_made M.Timer.told) result first.old second.old (O.contents out.old) (O.contents out.new) }
+{
+    match machine.timer() {
+        Some(mut timer) => bac_commands::pair(alloc, first, second, &mut timer, out, err),
+        None => clock_unread(err),
+    }
+}
+
 /// Binds two new nodes to free ports, and one asks the other; prints both results.
 pub fn pair<M: ClientSockets, O: Write, E: Write>(
     alloc: Global,
@@ -125,10 +142,13 @@ pub fn pair<M: ClientSockets, O: Write, E: Write>(
     };
     let mut second = match house_here(alloc, machine, err) {
         Ok(second) => second,
-        Err(status) => return status,
+        Err(status) => {
+            drop(first);
+            return status;
+        }
     };
-    let Some(mut timer) = machine.timer() else {
-        return clock_unread(err);
-    };
-    bac_commands::pair(alloc, &mut first, &mut second, &mut timer, out, err)
+    let status = pair_nodes(alloc, machine, &mut first, &mut second, out, err);
+    drop(second);
+    drop(first);
+    status
 }

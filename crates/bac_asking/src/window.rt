@@ -314,8 +314,8 @@ fn go_on_at<M: ClientSockets, E: Write>(
 {
     let node = traffic.fleet.number_at(at);
     let Some(first) = traffic.flights.first_patience(node) else {
-        let leaving = traffic.fleet.remove(at);
-        client.part_with(leaving.bound_node(), err)?;
+        client.part_with(traffic.fleet.bound_node_at(at), err)?;
+        traffic.fleet.remove(at);
         return Ok(false);
     };
     let is_idle = traffic.flights.is_idle(traffic.fleet.number());
@@ -510,7 +510,7 @@ fn tell_line<M: ClientSockets, O: Write, E: Write>(
 /// The nodes that leave are given up.
 pub(crate) fn part_with_all<M: ClientSockets, E: Write>(
     client: &mut Client<'_, M>,
-    leaving: Vec<Leaving<M::Link>>,
+    leaving: &[Leaving<M::Link>],
     err: &mut E,
 ) -> Result<(), Status>
     ensures same { client.new.station ≡ client.old.station }
@@ -560,6 +560,6 @@ pub(crate) fn ask_ahead<M: ClientSockets, O: Write, E: Write>(
         let succeeded = tell_line(&plan, client, &mut traffic, place, out, err)?;
         all = both(all, succeeded);
     }
-    part_with_all(client, traffic.fleet.into_leaving(), err)?;
+    part_with_all(client, traffic.fleet.leaving(), err)?;
     Ok(all)
 }

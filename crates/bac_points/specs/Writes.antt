@@ -175,14 +175,18 @@ pub record WritesOrder (IsOn : Links) (asking : Asking) (peer : PeerView) (o : O
   pub finds : FindsKind IsOn asking o kind before middle
   pub writes : WritesAs IsOn asking peer o kind done middle after old new
 
--- a client at any port did what the words order: the kind of the new value is found, one write is asked, and the property read back where that was performed;
+-- a client at any port did
+pub record WritesByClient (IsOn : Links) (IsClock : Clocks) (asking : Asking) (peer : PeerView) (o : Order) (done : Bool) (old new : Option (List ℕ)) : Type 0 where
+  pub before : Timed
+  pub after : Timed
+  pub client : IsClient IsOn asking.host before.bound_node
+  pub clock : IsClock before.told
+  pub writes : WritesOrder IsOn asking peer o done before after old new
+
+-- a client did what the words order: the kind of the new value is found, one write is asked, and the property read back where that was performed;
 -- whether it was performed
 pub record Writes (IsOn : Links) (IsClock : Clocks) (asking : Asking) (peer : PeerView) (writing : Writing) (done : Bool) (old new : Option (List ℕ)) :
     Type 0 where
   pub order : Order
   pub is : IsOrder peer writing order
-  pub before : Timed
-  pub after : Timed
-  pub client : IsClient IsOn asking.host before.bound_node
-  pub clock : IsClock before.told
-  pub writes : WritesOrder IsOn asking peer order done before after old new
+  pub writes : WritesByClient IsOn IsClock asking peer order done old new

@@ -8,7 +8,8 @@ ghost use Rattle.bac_driver.specs.Runs.{timed};
 ghost use Rattle.bac_text.specs.Statuses.{IsFailure};
 ghost use Rattle.bac_environment.specs.Sockets.{OnPort};
 ghost use Rattle.bac_points.specs.Lists.{Adds, AddsBatch, AreLacking, AsksBatch, AsksCount, FollowsCount, FollowsRead, IsCount, ReadsElements, ReadsInParts, ReadsList};
-ghost use Rattle.bac_points.specs.Lists.{elements, list_of};
+ghost use Rattle.bac_points.specs.Lists.{elements, list_of, question_of};
+ghost use Rattle.bac_asking.specs.Clients.{AsksOn};
 
 use crate::performing::Desk;
 use crate::questions::{WINDOW, lines_for, question_of};
@@ -213,6 +214,23 @@ fn count_answered<M: ClientSockets, E: Write>(
     }
 }
 
+/// A client asks for an object-list, or an element of it. Answers how that ended.
+fn list_asked<M: ClientSockets, E: Write>(
+    desk: &Desk<'_, M>,
+    client: &mut Client<'_, M>,
+    reference: PropertyReference,
+    err: &mut E,
+) -> Result<AskEnd, Status>
+    ensures asked { IfOk result (λ end. AsksOn (OnPort M.is_bound M.Link.failures M.Link.calls) desk.now.asking.now
+        (question_of (peer_view desk.now.peer) (property_reference_view reference)) end
+        (timed client.old.station.bound_node (M.Timer.told client.old.station.clock))
+        (timed client.new.station.bound_node (M.Timer.told client.new.station.clock))) }
+    ensures failed { IfErr result IsFailure }
+{
+    let question = question_of(desk.peer, reference);
+    ask_on(desk.asking, client, &question, err)
+}
+
 /// How many elements an object-list has. None where that was not told: `err` says why.
 fn count_asked<M: ClientSockets, E: Write>(
     desk: &Desk<'_, M>,
@@ -226,8 +244,7 @@ fn count_asked<M: ClientSockets, E: Write>(
     ensures failed { IfErr result IsFailure }
 {
     let reference = list_of(device, Some(0));
-    let question = question_of(desk.peer, reference);
-    let end = ask_on(desk.asking, client, &question, err)?;
+    let end = list_asked(desk, client, reference, err)?;
     count_answered(desk, reference, &end, err)
 }
 

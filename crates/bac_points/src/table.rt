@@ -83,23 +83,6 @@ fn present_values<'e>(object: ObjectIdentifier, ends: &'e [AskEnd]) -> Option<Da
     values_of(AnyRequest::ReadProperty(references[1]), outcome_of(end))
 }
 
-/// Prints JSON objects of some objects.
-fn print_objects<O: Write>(
-    alloc: Global,
-    rows: &[Row],
-    ends: &[AskEnd],
-    out: &mut O,
-) -> io::Result<()> {
-    for (row, ends) in rows.iter().zip(ends.chunks(COLUMNS)) {
-        let values = present_values(row.object, ends);
-        let Ok(line) = point_object(alloc, row.object, &row.cells, values) else {
-            return Err(out_of_memory());
-        };
-        out.write_all(&line)?;
-    }
-    Ok(())
-}
-
 impl Table {
     /// A table of which nothing is printed yet: of records, of aligned columns where a terminal shows it, or of lines with tabs.
     pub(crate) fn new(alloc: Global, records: Option<RecordForm>, is_screen: bool) -> Table {
@@ -148,17 +131,29 @@ impl Table {
         out.write_all(&self.widths.names_line(self.alloc)?)
     }
 
-    /// Prints rows in aligned columns.
-    fn print_aligned<O: Write>(&mut self, rows: &[Row], out: &mut O) -> io::Result<()> {
+    /// The line of a row; `ends` is how the asks for its columns ended. None where memory is refused.
+    fn line_of(&self, row: &Row, ends: &[AskEnd]) -> Option<Vec<u8>> {
+        let object = row.object;
+        match self.form {
+            TableForm::Lines => point_line(self.alloc, object, &row.cells).ok(),
+            TableForm::Columns => self.widths.line(self.alloc, object, &row.cells).ok(),
+            TableForm::Csv(texts) => point_row(self.alloc, texts, object, &row.cells).ok(),
+            TableForm::Json => {
+                let values = present_values(object, ends);
+                point_object(self.alloc, object, &row.cells, values).ok()
+            }
+        }
+    }
+
+    /// Widens the columns for rows where they are aligned; their names stand above the first rows.
+    fn make_room<O: Write>(&mut self, rows: &[Row], out: &mut O) -> io::Result<()> {
+        let TableForm::Columns = self.form else {
+            return Ok(());
+        };
         for row in rows {
             self.widths.widen(&row.cells);
         }
-        self.print_names(out)?;
-        for row in rows {
-            let line = self.widths.line(self.alloc, row.object, &row.cells)?;
-            out.write_all(&line)?;
-        }
-        Ok(())
+        self.print_names(out)
     }
 
     /// Prints rows; `ends` is how the asks for their columns ended.
@@ -168,23 +163,14 @@ impl Table {
         ends: &[AskEnd],
         out: &mut O,
     ) -> io::Result<()> {
-        let alloc = self.alloc;
-        match self.form {
-            TableForm::Lines => {
-                for row in rows {
-                    out.write_all(&point_line(alloc, row.object, &row.cells)?)?;
-                }
-                Ok(())
-            }
-            TableForm::Columns => self.print_aligned(rows, out),
-            TableForm::Json => print_objects(alloc, rows, ends, out),
-            TableForm::Csv(texts) => {
-                for row in rows {
-                    out.write_all(&point_row(alloc, texts, row.object, &row.cells)?)?;
-                }
-                Ok(())
-            }
+        self.make_room(rows, out)?;
+        for (row, ends) in rows.iter().zip(ends.chunks(COLUMNS)) {
+            let Some(line) = self.line_of(row, ends) else {
+                return Err(out_of_memory());
+            };
+            out.write_all(&line)?;
         }
+        Ok(())
     }
 
     /// Prints the lines of some objects, by how the asks for their columns ended.

@@ -2,10 +2,10 @@
 
 use crate::timeout::timeout_in;
 use bac_ask_report::CellText;
-use bac_asking::{Asking, ClientSockets, RecordForm};
+use bac_asking::{Asking, ClientSockets, RecordForm, peer_of};
 use bac_commands::{OutputFormat, Style};
-use bac_lists::{BACNET_PORT, EVERY_HOST, LOCAL_HOST, link_at, read_link, read_route};
-use bac_npdu::{LinkAddress, Peer, Route};
+use bac_lists::{BACNET_PORT, EVERY_HOST};
+use bac_npdu::Peer;
 use bac_service::Priority;
 use bac_value::ObjectIdentifier;
 use clap::ArgMatches;
@@ -88,29 +88,6 @@ impl<'m, 'a> PointTask<'m, 'a> {
     }
 }
 
-/// The address that is asked: that behind `--to`, or the port of BACnet/IP on this machine. None if it is none.
-fn link_in(given: &ArgMatches<'_>) -> Option<LinkAddress> {
-    match given.get_str("to") {
-        Some(text) => read_link(text),
-        None => Some(link_at(LOCAL_HOST, BACNET_PORT)),
-    }
-}
-
-/// The way on from there, where one is given. None where it is none.
-fn route_in(given: &ArgMatches<'_>) -> Option<Option<Route>> {
-    match given.get_str("route") {
-        Some(text) => Some(Some(read_route(text)?)),
-        None => Some(None),
-    }
-}
-
-/// The node that is asked. None if an address is invalid.
-fn peer_in(given: &ArgMatches<'_>) -> Option<Peer> {
-    let link = link_in(given)?;
-    let route = route_in(given)?;
-    Some(Peer { link, route })
-}
-
 /// The priority of a write, where one is given. None where it is none.
 fn priority_in(given: &ArgMatches<'_>) -> Option<Option<Priority>> {
     match given.get_one::<u64>("priority") {
@@ -131,12 +108,13 @@ fn records_in(given: &ArgMatches<'_>) -> Option<RecordForm> {
 }
 
 /// How a node is asked. None if the time to wait is invalid.
-fn asking_in(given: &ArgMatches<'_>, records: Option<RecordForm>) -> Option<Asking> {
+fn asking_in(given: &ArgMatches<'_>) -> Option<Asking> {
+    let timeout = timeout_in(given)?;
     Some(Asking {
         host: EVERY_HOST,
-        timeout: timeout_in(given)?,
+        timeout,
         output_format: FORMAT,
-        records,
+        records: records_in(given),
         shows_progress: false,
         has_names: false,
         rounds: None,
@@ -153,35 +131,38 @@ fn device_in(given: &ArgMatches<'_>) -> Option<ObjectIdentifier> {
     ObjectIdentifier::new(DEVICE, instance)
 }
 
+/// What that command does, by its arguments. None if there is no such command, or its words are missing or bad.
+fn work_of<'m, 'a>(command: &str, given: &'m ArgMatches<'a>) -> Option<PointWork<'m, 'a>> {
+    if command == "read" {
+        return Some(PointWork::Read(given.get_strs("OBJECT")?));
+    }
+    if command == "write" {
+        let words = given.get_strs("OBJECT")?;
+        let priority = priority_in(given)?;
+        let kind = given.get_str("kind");
+        return Some(PointWork::Write(Writing {
+            words,
+            priority,
+            kind,
+        }));
+    }
+    if command != "points" {
+        return None;
+    }
+    let device = device_in(given)?;
+    Some(PointWork::List(Listing {
+        device,
+        is_screen: false,
+    }))
+}
+
 /// What the arguments of that command ask for. None if there is no such command, its words are missing, or an address or the time to wait is invalid.
 pub fn point_task_of<'m, 'a>(
     command: &str,
     given: &'m ArgMatches<'a>,
 ) -> Option<PointTask<'m, 'a>> {
-    let peer = peer_in(given)?;
-    match command {
-        "read" => Some(PointTask {
-            asking: asking_in(given, records_in(given))?,
-            peer,
-            work: PointWork::Read(given.get_strs("OBJECT")?),
-        }),
-        "write" => Some(PointTask {
-            asking: asking_in(given, None)?,
-            peer,
-            work: PointWork::Write(Writing {
-                words: given.get_strs("OBJECT")?,
-                priority: priority_in(given)?,
-                kind: given.get_str("kind"),
-            }),
-        }),
-        "points" => Some(PointTask {
-            asking: asking_in(given, records_in(given))?,
-            peer,
-            work: PointWork::List(Listing {
-                device: device_in(given)?,
-                is_screen: false,
-            }),
-        }),
-        _ => None,
-    }
+    let peer = peer_of(given, Some(BACNET_PORT))?;
+    let work = work_of(command, given)?;
+    let asking = asking_in(given)?;
+    Some(PointTask { asking, peer, work })
 }

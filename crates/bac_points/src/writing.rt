@@ -12,7 +12,7 @@ ghost use Rattle.bac_point_report.specs.Outcomes.{values_of};
 ghost use Rattle.bac_point_report.specs.Targets.{target_view};
 ghost use Rattle.bac_asking.specs.Recording.{outcome_of};
 ghost use Rattle.bac_environment.specs.Sockets.{OnClock, OnPort};
-ghost use Rattle.bac_points.specs.Writes.{AsksKind, FindsKind, IsKindOf, IsOrder, IsWriting, PrintsBack, PrintsFound, PrintsOther, ReadsBack, Writes, WritesAs, WritesOnce, WritesOrder};
+ghost use Rattle.bac_points.specs.Writes.{AsksKind, FindsKind, IsKindOf, IsOrder, IsWriting, PrintsBack, PrintsFound, PrintsOther, ReadsBack, Writes, WritesAs, WritesByClient, WritesOnce, WritesOrder};
 ghost use Rattle.bac_points.specs.Writes.{differs_line, name_of_number, order_view, ordered_in, writes_values};
 
 use crate::performing::Desk;
@@ -136,6 +136,27 @@ fn number_wanted(kind: Kind) -> &'static str {
     }
 }
 
+/// Complains of a text that is no name of a value of the property, and tells which there are.
+fn print_unknown<E: Write>(
+    alloc: Global,
+    order: &Order<'_>,
+    fault: WrittenFault,
+    nearest: Option<&str>,
+    err: &mut E,
+) -> Status
+    ensures { IsStop result }
+{
+    let Ok(advice) = name_advice(alloc, order.reference, nearest) else {
+        return no_memory(err);
+    };
+    let text = order.text;
+    // if a write fails too, only the status is left
+    let _ = write!(err, "bad words: \"{text}\" is {fault}; ");
+    let _ = err.write_all(&advice);
+    let _ = err.write_all(b"\n");
+    Status::CommandLine
+}
+
 /// Complains of a text that is no value of the kind that is wanted.
 fn print_bad_value<E: Write>(
     alloc: Global,
@@ -147,26 +168,20 @@ fn print_bad_value<E: Write>(
     ensures { IsStop result }
 {
     let text = order.text;
-    // if a write fails too, only the status is left
     match fault {
-        WrittenFault::NoMemory => return no_memory(err),
-        WrittenFault::UnknownName { nearest } => {
-            let Ok(advice) = name_advice(alloc, order.reference, nearest) else {
-                return no_memory(err);
-            };
-            let _ = write!(err, "bad words: \"{text}\" is {fault}; ");
-            let _ = err.write_all(&advice);
-            let _ = err.write_all(b"\n");
-        }
+        WrittenFault::NoMemory => no_memory(err),
+        WrittenFault::UnknownName { nearest } => print_unknown(alloc, order, fault, nearest, err),
         WrittenFault::NoNumber => {
             let wanted = number_wanted(kind);
+            // if that fails too, only the status is left
             let _ = writeln!(err, "bad words: \"{text}\" is not {wanted}");
+            Status::CommandLine
         }
         _ => {
             let _ = writeln!(err, "bad words: \"{text}\" is {fault}");
+            Status::CommandLine
         }
     }
-    Status::CommandLine
 }
 
 /// What the words of a write order. Where they are no such words, `err` and the status say so.
@@ -447,13 +462,13 @@ fn write_once<M: ClientSockets, O: Write, E: Write>(
     ensures failed { IfErr result IsFailure }
 {
     let end = ask_on(desk.asking, client, question, err)?;
-    if is_done(outcome_of(&end)) {
-        read_back(desk, client, order, question, out, err)?;
-        Ok(true)
-    } else {
+    if !is_done(outcome_of(&end)) {
         tell_failure(desk, order.reference, &end, err)?;
-        Ok(false)
+        return Ok(false);
     }
+    drop(end);
+    read_back(desk, client, order, question, out, err)?;
+    Ok(true)
 }
 
 /// Writes the value as one of that kind, if there is one. Answers whether it was written.
@@ -498,6 +513,23 @@ fn write_order<M: ClientSockets, O: Write, E: Write>(
     write_as(desk, client, order, kind, out, err)
 }
 
+/// A new client does so.
+fn write_by_client<M: ClientSockets, O: Write, E: Write>(
+    desk: &Desk<'_, M>,
+    order: &Order<'_>,
+    out: &mut O,
+    err: &mut E,
+) -> Result<bool, Status>
+    ensures written { IfOk result (λ done. WritesByClient (OnPort M.is_bound M.Link.failures M.Link.calls) (OnClock M.is_made M.Timer.told) desk.now.asking.now
+        (peer_view desk.now.peer) (order_view order.now) done (O.contents out.old) (O.contents out.new)) }
+    ensures told { IfErr result IsStop }
+{
+    let mut client = desk.client(err)?;
+    let written = write_order(desk, &mut client, order, out, err);
+    drop(client);
+    written
+}
+
 /// Writes a property, and reads it back. Answers whether it was written.
 pub(crate) fn write<M: ClientSockets, O: Write, E: Write>(
     desk: &Desk<'_, M>,
@@ -510,6 +542,5 @@ pub(crate) fn write<M: ClientSockets, O: Write, E: Write>(
     ensures told { IfErr result IsStop }
 {
     let order = order_of(desk, writing, err)?;
-    let mut client = desk.client(err)?;
-    write_order(desk, &mut client, &order, out, err)
+    write_by_client(desk, &order, out, err)
 }

@@ -14,5 +14,5 @@ pub returns-clause-asked : goal.returns-clause-asked
 returns-clause-asked g c =
     let spent : c.ends_spent.result ≡ true = search rules in
     asked_anew (OnPort g.M.Sockets.is_bound g.M.Link.Link.failures g.M.Link.Link.calls) c.args.asking.now _ c.in_ok-end.end c.in_ok-start.start
-    c.ask_from.result _ _ _ _ _ (sym c.ends_spent.ensures ∙ spent) c.in_ok-start.ensures.ready c.in_ok-end.ensures.asked c.in_ok-renew.ensures.renewed
+    c.ask_from.result _ _ _ _ _ (sym c.ends_spent.ensures ∙ spent) c.in_ok-start.ensures.ready c.in_ok-end.ensures.asked c.in_ok-replace.ensures.renewed
     c.ask_from.ensures.asked

@@ -8,7 +8,7 @@ use Rattle.bac_asking.proofs.window.go_on_at.Goals as goal
 pub returns-in_default-clause-went : goal.returns-in_default-clause-went
 returns-in_default-clause-went g c =
     left_so (OnPort g.M.Sockets.is_bound g.M.Link.Link.failures g.M.Link.Link.calls) c.args.at c.number_at-node.result c.first_patience.result _ _ _ _ _
-    c.number_at-node.ensures c.first_patience.ensures c.in_default.not-Some c.remove-leaving.ensures
+    c.number_at-node.ensures c.first_patience.ensures c.in_default.not-Some c.remove.ensures
     (ap (λ s. timed s.bound_node (g.M.Timer.Clock.told s.clock)) c.in_ok-part_with.ensures.same)
 
 pub returns-clause-went : goal.returns-clause-went

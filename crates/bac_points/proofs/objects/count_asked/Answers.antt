@@ -14,6 +14,6 @@ returns-clause-asked g c =
     let asks : AsksOn (OnPort g.M.Sockets.is_bound g.M.Link.Link.failures g.M.Link.Link.calls) c.args.desk.now.asking.now
     (question_of (peer_view c.args.desk.now.peer) (list_of (object_identifier_view c.args.device) (Some 0))) c.in_ok-end.end
     (timed c.args.client.now.station.bound_node (g.M.Timer.Clock.told c.args.client.now.station.clock))
-    (timed c.ask_on.new.client.station.bound_node (g.M.Timer.Clock.told c.ask_on.new.client.station.clock)) = search rules in
+    (timed c.list_asked.new.client.station.bound_node (g.M.Timer.Clock.told c.list_asked.new.client.station.clock)) = search rules in
     IfOk-weaker c.count_answered.result _ _ (λ count is. record { end = c.in_ok-end.end; asks = asks; is = search rules })
     c.count_answered.ensures.count
