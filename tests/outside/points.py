@@ -81,7 +81,7 @@ def check_points(checks, things):
     checks.expect('rows', rows, lines)
     # a device answers for its own instance, and for 4194303
     checks.prints(['points'], done.stdout, '', 0)
-    unlisted = 'object-list: error object unknown-object (1:31)\n--device N reads the list of device N\n'
+    unlisted = 'object-list: error object unknown-object (1:31)\nthis device has no such object-list; bac read OBJECT reads objects by name\n'
     checks.prints(['points', '--device', '7'], '', f'device:7 {unlisted}', 1)
 
 
@@ -104,6 +104,8 @@ def check_writes(checks):
     checks.prints(['write', 'analog-value:1', 'present-value', '21.5', '--priority', '8'], 'written\n')
     checks.prints(['write', 'analog-value:1', 'description', 'set-point, zone'], 'written\n')
     checks.prints(['read', 'analog-value:1', 'description'], 'set-point, zone\n')
+    checks.prints(['write', 'analog-value:1', 'description', '100 % of zone'], 'written\n')
+    checks.prints(['read', 'analog-value:1', 'description'], '100 % of zone\n')
     beyond = 'analog-value:1 present-value: error property value-out-of-range (2:37)\n'
     checks.prints(['write', 'analog-value:1', '35.5'], '', beyond, 1)
     checks.prints(['write', 'analog-value:1', 'warm'], '', 'bad words: "warm" is not a number, such as 21.5\n', 2)

@@ -17,7 +17,7 @@ pub use columns::Widths;
 pub use line::{failure_lines, value_line};
 pub use listing::{ListStep, after_list, number_of, objects_of};
 pub use outcome::{failure_words, has_values, is_done, is_silent, values_of};
-pub use point_record::{CSV_HEADER, point_object, point_row};
+pub use point_record::{CSV_HEADER, point_object, point_row, record_cell};
 pub use points::{Cell, HEADER, cell_of, is_absent, point_line, point_references, whole_property};
 pub use showing::shown;
 pub use targets::{Target, targets_in};

@@ -1,11 +1,13 @@
 //! The points of a device as records: JSON objects and CSV rows.
 
 use crate::columns::NAMES;
-use crate::points::Cell;
-use bac_ask_report::CellText;
+use crate::outcome::values_of;
+use crate::points::{Cell, cell_of};
+use bac_ask_report::{CellText, Outcome};
 use bac_json::{Members, data_json, object_json};
 use bac_json_report::json_line;
-use bac_value::{Data, NoMemory, ObjectIdentifier};
+use bac_service::{AnyRequest, PropertyReference};
+use bac_value::{Data, NoMemory, ObjectIdentifier, Value, value_of};
 use bac_value_text::object_text;
 use csv::{ByteRecord, Writer};
 use serde_json::Value as Json;
@@ -14,6 +16,50 @@ use std::str;
 
 /// The row with the names of the columns.
 pub const CSV_HEADER: &[u8] = b"object,name,value,units,description,status\n";
+
+// ---- cells
+
+/// The text that a value is, as it came. None if it is no text of UTF-8.
+fn text_in(alloc: Global, value: &Value) -> Result<Option<Vec<u8>>, AllocError> {
+    let Value::CharacterString(string) = value else {
+        return Ok(None);
+    };
+    if string.set != 0 || str::from_utf8(&string.text).is_err() {
+        return Ok(None);
+    }
+    Ok(Some(Vec::from_slice(alloc, &string.text)?))
+}
+
+/// The text that is the only value, as it came. None if there is none.
+fn sole_text(alloc: Global, values: Data<'_>) -> Result<Option<Vec<u8>>, NoMemory> {
+    let Some((element, others)) = values.elements().split_first() else {
+        return Ok(None);
+    };
+    if !others.octets.is_empty() {
+        return Ok(None);
+    }
+    match value_of(alloc, element)? {
+        Some(value) => Ok(text_in(alloc, &value)?),
+        None => Ok(None),
+    }
+}
+
+/// The cell of a property whose ask ended so, for a record: that of [`cell_of`], but in a text nothing is escaped. An Err is out of memory.
+pub fn record_cell(
+    alloc: Global,
+    reference: PropertyReference,
+    outcome: Outcome<'_>,
+) -> Result<Cell, NoMemory> {
+    if let Some(values) = values_of(AnyRequest::ReadProperty(reference), outcome) {
+        if let Some(text) = sole_text(alloc, values)? {
+            return Ok(Cell {
+                text,
+                is_faulty: false,
+            });
+        }
+    }
+    cell_of(alloc, reference, outcome)
+}
 
 // ---- JSON
 

@@ -4,7 +4,7 @@ use Rattle.std.specs.Prelude.{codes}
 use Rattle.bac_value.specs.Value.{Datum, null, real, double, characters}
 use Rattle.bac_value_text.specs.Numbers.{parts_at}
 use Rattle.bac_value_text.specs.Texts.{is_real_number, is_double_number, is_text, kind_name, IsBody, IsNamed, IsTextOf}
-use Rattle.bac_point_text.specs.Alone.{behind_parts, behind_word, IsPlainText}
+use Rattle.bac_point_text.specs.Alone.{behind_parts, behind_word, IsBehindWord}
 use Rattle.bac_point_text.proofs.Parts.{lacks_colon, parted}
 
 words : (d : Datum) → lacks_colon (kind_name d) ≡ true
@@ -22,15 +22,15 @@ words (characters set a) = go (is_text set a) where
   go false = refl
 words _ = refl
 
-plain_is : (d : Datum) (body : List ℕ) → d ≢ null → IsBody d body → IsPlainText d body
-plain_is null body some is = absurd (some refl)
-plain_is d body some is = is
+behind_is : (d : Datum) (body : List ℕ) → d ≢ null → IsBody d body → IsBehindWord d body
+behind_is null body some is = absurd (some refl)
+behind_is d body some is = is
 
-behind_name : (d : Datum) (text : List ℕ) → d ≢ null → IsNamed 58 d text → IsPlainText d (behind_word text)
+behind_name : (d : Datum) (text : List ℕ) → d ≢ null → IsNamed 58 d text → IsBehindWord d (behind_word text)
 behind_name d text some (body, (is, made)) =
     let parts : parts_at 58 text ≡ Some (kind_name d, body) = ap (parts_at 58) made ∙ parted (kind_name d) body (words d) in
-    subst (λ (p : Option (List ℕ × List ℕ)). IsPlainText d (behind_parts text p)) (sym parts) (plain_is d body some is)
+    subst (λ (p : Option (List ℕ × List ℕ)). IsBehindWord d (behind_parts text p)) (sym parts) (behind_is d body some is)
 
-pub body_behind : (d : Datum) (text : List ℕ) → IsTextOf 58 d text → IsPlainText d (behind_word text)
+pub body_behind : (d : Datum) (text : List ℕ) → IsTextOf 58 d text → IsBehindWord d (behind_word text)
 body_behind null text is = ap behind_word is
 body_behind d text is = behind_name d text (λ e. cc e) is

@@ -11,11 +11,11 @@ use Rattle.bac_value.specs.Value.{Datum, IsValue, null, boolean, unsigned, signe
 use Rattle.bac_value_text.specs.Laws.{HasOctets, AreRead}
 use Rattle.bac_value_text.specs.Numbers.{◌>>=◌, number_up_to}
 use Rattle.bac_value_text.specs.Reading.{named_value}
-use Rattle.bac_value_text.specs.Texts.{is_real_number, is_double_number, is_text, escaped, characters_text, named_or_number, bits_text, IsBody}
+use Rattle.bac_value_text.specs.Texts.{is_real_number, is_double_number, is_text, named_or_number, bits_text, IsBody}
 use Rattle.bac_value_text.specs.declared.separator.Separator.TheVariants.{Colon}
 use Rattle.bac_point_text.specs.declared.kind.Kind.{Kind}
 use Rattle.bac_point_text.specs.declared.kind.Kind.TheVariants as kind
-use Rattle.bac_point_text.specs.Alone.{IsPlainOr, IsPlainText, IsAlone, bits_alone}
+use Rattle.bac_point_text.specs.Alone.{IsPlainOr, IsPlainText, IsAlone, bits_alone, line_text}
 use Rattle.bac_point_text.specs.Enumerations.{Names, name_of}
 use Rattle.bac_point_text.specs.Faults.{fault_of}
 use Rattle.bac_point_text.specs.Laws.{AreInverse, AreWritten, IsEnumeration, IsNameable, IsPlain}
@@ -69,10 +69,6 @@ octets_written read a text valid each is =
     ap octets_of is ∙ ap behind_hex (parted (codes "hex") (encode_upper a) refl)
     ∙ read Colon (octets a) (codes "octets:" ++ encode_upper a) valid each (encode_upper a, (refl, refl))
 
-text_is : (b : Bool) (set : ℕ) (a text : List ℕ) → b ≡ true → escaped a ≡ a → text ≡ characters_text b set a → text ≡ a
-text_is true set a text e same is = is ∙ same
-text_is false set a text e same is = cc
-
 text_written : (set : ℕ) (a text : List ℕ) → length a + 1 < 2 ^ 32 → is_text set a ≡ true → text ≡ a → text_of text ≡ Some (characters set a)
 text_written set a text short plain is =
     let parts = both (set == 0) (is_utf8 a) plain in
@@ -83,8 +79,13 @@ text_written set a text short plain is =
 characters_written : (names : Option Names) (set : ℕ) (a text : List ℕ) → IsValue (characters set a) → IsPlain names (characters set a)
     → IsAlone names (characters set a) text → text_of text ≡ Some (characters set a)
 characters_written names set a text valid plain is =
-    let body : IsBody (characters set a) text = unplain (is_text set a) (characters set a) text plain.0 is in
-    text_written set a text valid plain.0 (text_is (is_text set a) set a text plain.0 plain.1 body)
+    let line : text ≡ line_text a = unplain (is_text set a) (characters set a) text plain.0 is in
+    text_written set a text valid plain.0 (line ∙ plain.1)
+
+-- ---- dates and times
+
+first_settled : (o others : Option Datum) (d : Datum) → o ≡ Some d → option_or o others ≡ Some d
+first_settled o others d e = ap (λ (x : Option Datum). option_or x others) e
 
 -- ---- numbers that have names
 
@@ -137,8 +138,10 @@ plain_written inverse read names (bits unused a) text valid each plain is =
 plain_written inverse read names (enumerated n) text valid each plain is =
     settle kind.Enumerated names text (enumerated n) (ap (option_map enumerated) (enumerated_written inverse read names n text valid plain is))
 plain_written inverse read names (date a) text valid each plain is =
-    settle kind.Date names text (date a) (read Colon (date a) (codes "date:" ++ text) valid each (text, (is, refl)))
+    settle kind.Date names text (date a)
+    (first_settled (worded kind.Date text) _ (date a) (read Colon (date a) (codes "date:" ++ text) valid each (text, (is, refl))))
 plain_written inverse read names (time a) text valid each plain is =
-    settle kind.Time names text (time a) (read Colon (time a) (codes "time:" ++ text) valid each (text, (is, refl)))
+    settle kind.Time names text (time a)
+    (first_settled (worded kind.Time text) _ (time a) (read Colon (time a) (codes "time:" ++ text) valid each (text, (is, refl))))
 plain_written inverse read names (object i) text valid each plain is =
     settle kind.ObjectIdentifier names text (object i) (read Colon (object i) (codes "object:" ++ text) valid each (text, (is, refl)))

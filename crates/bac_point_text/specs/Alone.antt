@@ -1,6 +1,8 @@
 -- The text of a value alone, with no word for its kind.
-use Rattle.std.specs.Prelude.{◌≡◌, ℕ, ◌+◌, ◌-◌, ◌^◌, Bool, true, false, ◌==◌, if◌then◌else◌, List, [], ◌∷◌, ◌++◌, codes, Option, Some, None, min}
+use Rattle.std.specs.Prelude.{◌≡◌, ℕ, ◌+◌, ◌-◌, ◌^◌, nat_lt, Bool, true, false, ◌==◌, ◌||◌, if◌then◌else◌, List, [], ◌∷◌, ◌++◌, codes, Option, Some, None, min}
+use Rattle.std.specs.List.{flat_map}
 use Rattle.hex.specs.Hex.{encode_upper}
+use Rattle.percent_encoding.specs.Percent.{percent_encode_byte}
 use Rattle.bac_value.specs.Value.{Datum, null, real, double, octets, characters, bits, enumerated}
 use Rattle.bac_value_text.specs.Numbers.{◌>>=◌, parts_at}
 use Rattle.bac_value_text.specs.Texts.{named_or_number, is_real_number, is_double_number, is_text, bits_text, IsBody, IsTextOf}
@@ -60,9 +62,21 @@ abbrev pub behind_word : List ℕ → List ℕ
 behind_word text = behind_parts text (parts_at 58 text)
 
 -- the text without the word for the kind
+abbrev pub IsBehindWord : Datum → List ℕ → Type 0
+IsBehindWord null text = text ≡ codes "null"
+IsBehindWord d text = IsBody d text
+
+-- control characters are escaped, so that a text stays on one line
+abbrev pub line_octet : ℕ → List ℕ
+line_octet octet = if nat_lt octet 32 || octet == 127 then percent_encode_byte octet else octet ∷ []
+
+abbrev pub line_text : List ℕ → List ℕ
+line_text text = flat_map line_octet text
+
+-- that text, but of characters themselves only control characters are escaped
 abbrev pub IsPlainText : Datum → List ℕ → Type 0
-IsPlainText null text = text ≡ codes "null"
-IsPlainText d text = IsBody d text
+IsPlainText (characters set a) text = text ≡ line_text a
+IsPlainText d text = IsBehindWord d text
 
 -- that text, or where there is none the text with the word
 abbrev pub IsPlainOr : (plain : Bool) → Datum → List ℕ → Type 0

@@ -4,8 +4,8 @@ use Rattle.std.specs.List.{list_any}
 use Rattle.std.specs.Str.{bytes_eq}
 use Rattle.bac_value.specs.Value.{Datum, IsValue, real, double, characters, bits, enumerated}
 use Rattle.bac_value_text.specs.Laws.{HasOctets}
-use Rattle.bac_value_text.specs.Texts.{is_real_number, is_double_number, is_text, escaped}
-use Rattle.bac_point_text.specs.Alone.{IsAlone}
+use Rattle.bac_value_text.specs.Texts.{is_real_number, is_double_number, is_text}
+use Rattle.bac_point_text.specs.Alone.{IsAlone, line_text}
 use Rattle.bac_point_text.specs.Enumerations.{Names, object_types, properties, listed, name_of, number_of, is_table, rows_of}
 use Rattle.bac_point_text.specs.Kinds.{kind_of}
 use Rattle.bac_point_text.specs.Written.{is_finite, written}
@@ -49,7 +49,7 @@ IsNameable (Some e) number = IsEnumeration e × IsSome (name_of e number)
 abbrev pub IsPlain : Option Names → Datum → Type 0
 IsPlain names (real a) = (is_real_number a ≡ true) × (is_finite (real a) ≡ true)
 IsPlain names (double a) = (is_double_number a ≡ true) × (is_finite (double a) ≡ true)
-IsPlain names (characters set a) = (is_text set a ≡ true) × (escaped a ≡ a)
+IsPlain names (characters set a) = (is_text set a ≡ true) × (line_text a ≡ a)
 IsPlain names (bits unused a) = names ≡ None
 IsPlain names (enumerated n) = IsNameable names n
 IsPlain names d = Unit {0}

@@ -49,6 +49,15 @@ if_finite d = if is_finite d then Some d else None
 abbrev pub finite : Kind → List ℕ → Option Datum
 finite k text = worded k text >>= if_finite
 
+-- a date, of which the day of the week may be left out
+abbrev pub date_of : List ℕ → Option Datum
+date_of text = option_or (worded kind.Date text) (worded kind.Date (text ++ codes "-*"))
+
+-- a time, of which hundredths may be left out, and seconds too
+abbrev pub time_of : List ℕ → Option Datum
+time_of text =
+    option_or (worded kind.Time text) (option_or (worded kind.Time (text ++ codes ".0")) (worded kind.Time (text ++ codes ":0.0")))
+
 -- a text as it is
 abbrev pub text_of : List ℕ → Option Datum
 text_of text = if is_utf8 text then characters_fit 0 text else None
@@ -74,6 +83,8 @@ of_kind kind.Double names text = finite kind.Double text
 of_kind kind.CharacterString names text = text_of text
 of_kind kind.OctetString names text = octets_of text
 of_kind kind.Enumerated names text = option_map enumerated (enumerated_of names text)
+of_kind kind.Date names text = date_of text
+of_kind kind.Time names text = time_of text
 of_kind k names text = worded k text
 
 -- ---- the value, or why there is none

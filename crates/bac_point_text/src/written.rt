@@ -1,12 +1,12 @@
 //! Reading values as people write them, given their kind.
-ghost use Rattle.std.specs.Prelude.{◌≡◌, is_some};
+ghost use Rattle.std.specs.Prelude.{◌≡◌, ◌++◌, is_some};
 ghost use Rattle.std.specs.Option.{option_map};
 ghost use Rattle.bac_value.specs.Views.{value_view};
 ghost use Rattle.bac_value_text.specs.Reading.{Reads, characters_fit};
 ghost use Rattle.bac_value.specs.Value as datum;
 ghost use Rattle.bac_point_text.specs.Faults.{fault_of};
 ghost use Rattle.bac_point_text.specs.Views.{maybe_names};
-ghost use Rattle.bac_point_text.specs.Written.{kind_word, worded, is_finite, if_finite, finite, text_of, octets_of, number_among, enumerated_of, of_kind, null_or, written, IsWritten};
+ghost use Rattle.bac_point_text.specs.Written.{kind_word, worded, is_finite, if_finite, finite, date_of, time_of, text_of, octets_of, number_among, enumerated_of, of_kind, null_or, written, IsWritten};
 ghost use Rattle.bac_point_text.specs.declared.written_fault.WrittenFault.TheVariants as fault;
 
 use crate::enumeration::Enumeration;
@@ -78,6 +78,41 @@ fn finite(alloc: Global, kind: Kind, text: &[u8]) -> Result<Value, ValueFault>
     ensures { Reads value_view result (finite kind text.now) }
 {
     if_finite(worded(alloc, kind, text)?)
+}
+
+/// Reads a value behind whose text that end stands too.
+fn ended(alloc: Global, kind: Kind, text: &[u8], end: &[u8]) -> Result<Value, ValueFault>
+    ensures { Reads value_view result (worded kind (text.now ++ end.now)) }
+{
+    let mut whole = Vec::from_slice(alloc, text)?;
+    whole.extend_from_slice(end)?;
+    worded(alloc, kind, &whole)
+}
+
+/// Reads a date. Without a day of the week any is meant.
+fn date_of(alloc: Global, text: &[u8]) -> Result<Value, ValueFault>
+    ensures { Reads value_view result (date_of text.now) }
+{
+    match worded(alloc, Kind::Date, text) {
+        Ok(value) => Ok(value),
+        Err(ValueFault::NoMemory) => Err(ValueFault::NoMemory),
+        Err(ValueFault::NoValue) => ended(alloc, Kind::Date, text, b"-*"),
+    }
+}
+
+/// Reads a time whose hundredths, or seconds too, may be left out: they are 0 then.
+fn time_of(alloc: Global, text: &[u8]) -> Result<Value, ValueFault>
+    ensures { Reads value_view result (time_of text.now) }
+{
+    match worded(alloc, Kind::Time, text) {
+        Ok(value) => Ok(value),
+        Err(ValueFault::NoMemory) => Err(ValueFault::NoMemory),
+        Err(ValueFault::NoValue) => match ended(alloc, Kind::Time, text, b".0") {
+            Ok(value) => Ok(value),
+            Err(ValueFault::NoMemory) => Err(ValueFault::NoMemory),
+            Err(ValueFault::NoValue) => ended(alloc, Kind::Time, text, b":0.0"),
+        },
+    }
 }
 
 fn characters(text: Vec<u8>) -> Result<Value, ValueFault>
@@ -152,6 +187,8 @@ fn of_kind(
         Kind::CharacterString => text_of(alloc, text),
         Kind::OctetString => octets_of(alloc, text),
         Kind::Enumerated => enumerated(names, text),
+        Kind::Date => date_of(alloc, text),
+        Kind::Time => time_of(alloc, text),
         _ => worded(alloc, kind, text),
     }
 }
@@ -199,7 +236,8 @@ fn null_or_fault(
 /// A number is written in decimal digits, of which a Real or a Double may have some behind a point, and an exponent: `21.5`, `-3`, `1e3`. It is the
 /// nearest one of the kind. An Enumerated value is a name of the enumeration `names`, as `active`, or a number; a Boolean is `true` or `false`.
 /// A text is taken as it is, `null` too. Octets are written as `hex:4D5A`, bits as digits, dates, times and object identifiers as
-/// [`value_alone`](crate::value_alone) prints them.
+/// [`value_alone`](crate::value_alone) prints them. A date may end behind its day, `2026-12-24`: any day of the week is meant. A time may end behind
+/// its minutes or seconds, `8:15`: the rest is 0.
 ///
 /// Refused are, by [`WrittenFault`]: what is no number, number below 0 where the kind has none, number out of range, infinite or NaN, unknown
 /// name, text that is not UTF-8, and all that is not a value of the kind. `NoMemory` says that an allocation failed.

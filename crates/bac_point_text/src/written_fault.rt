@@ -26,7 +26,7 @@ pub enum WrittenFault {
     #[error("neither true nor false")]
     NoBoolean,
     /// The text is no octets: `hex:` and an even number of hexadecimal digits.
-    #[error("not octets")]
+    #[error("not octets, such as hex:0102")]
     NoOctets,
     /// The text is not UTF-8.
     #[error("not UTF-8")]
@@ -37,11 +37,11 @@ pub enum WrittenFault {
     /// The text does not consist of the digits 0 and 1.
     #[error("not bits")]
     NoBits,
-    /// The text is no date, as `2024-2-29-4`: year, month, day and day of the week, where `*` stands for any.
-    #[error("not a date")]
+    /// The text is no date, as `2024-2-29-4`: year, month, day and day of the week, where `*` stands for any. The last one may be left out.
+    #[error("not a date, such as 2026-12-24")]
     NoDate,
-    /// The text is no time, as `12:30:0.0`: hours, minutes, seconds and hundredths, where `*` stands for any.
-    #[error("not a time")]
+    /// The text is no time, as `12:30:0.0`: hours, minutes, seconds and hundredths, where `*` stands for any. The last ones may be left out.
+    #[error("not a time, such as 8:15:30")]
     NoTime,
     /// The text is no object identifier, as `analog-input:5`.
     #[error("not an object identifier")]

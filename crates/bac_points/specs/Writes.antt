@@ -1,12 +1,12 @@
 -- What `write` asks and prints: a property gets a value, and is read back.
-use Rattle.std.specs.Prelude.{◌≡◌, ℕ, Bool, true, false, List, [], ◌∷◌, ◌++◌, codes, map, Option, Some, None, Ok}
+use Rattle.std.specs.Prelude.{◌≡◌, ℕ, Bool, true, false, List, [], ◌∷◌, ◌++◌, codes, map, Option, Some, None, Ok, is_some}
 use Rattle.std.specs.Borrow.{Bor}
 use Rattle.std.specs.Option.{option_map}
 use Rattle.std.specs.Str.{bytes_eq}
 use Rattle.std.specs.Io.KnownBytes.{Appends}
 use Rattle.bac_value.specs.Value.{Datum}
 use Rattle.bac_value.specs.Writing.{value_spelling}
-use Rattle.bac_value_text.specs.Names.{name_in}
+use Rattle.bac_value_text.specs.Names.{name_in, number_in}
 use Rattle.bac_value_text.specs.Numbers.{◌>>=◌, number_up_to}
 use Rattle.bac_value_text.specs.Properties.{PROPERTIES}
 use Rattle.bac_npdu.specs.Peers.{PeerView}
@@ -67,10 +67,18 @@ ordered_in (object ∷ property ∷ text ∷ word ∷ words) = None
 abbrev pub name_of_number : (word : List ℕ) → Option (List ℕ)
 name_of_number word = number_up_to 4294967295 word >>= name_in PROPERTIES
 
+-- the only word behind the object is the name of a property: its value is missing
+abbrev pub lacks_value : (words : List (List ℕ)) → Bool
+lacks_value [] = false
+lacks_value (object ∷ []) = false
+lacks_value (object ∷ word ∷ []) = is_some (number_in PROPERTIES word)
+lacks_value (object ∷ word ∷ other ∷ words) = false
+
 -- what the words of a command line order; a property that has a name is given by it, so that no number is written to it that was meant otherwise
 pub record IsOrder (peer : PeerView) (writing : Writing) (o : Order) : Type 0 where
   pub target : Target
   pub words : ordered_in (map (λ w. w.now) writing.words.now) ≡ Some (target, o.text)
+  pub valued : lacks_value (map (λ w. w.now) writing.words.now) ≡ false
   pub named : name_of_number target.property ≡ None
   pub priority : o.priority ≡ priority_view writing.priority
   pub kind : o.kind ≡ text_given writing.kind

@@ -13,10 +13,14 @@ ghost use Rattle.bac_asking.specs.Clients.{AsksOn};
 
 use crate::performing::Desk;
 use crate::questions::{WINDOW, lines_for, question_of};
-use crate::silence::tell_refused;
+use crate::silence::{is_unknown, tell_refused};
+use crate::task::ANY_DEVICE;
+use bac_ask_report::Outcome;
 use bac_asking::{Client, ClientSockets, ask_on, gather, outcome_of};
 use bac_driver::AskEnd;
-use bac_point_report::{ListStep, after_list, failure_lines, is_refused, number_of, objects_of};
+use bac_point_report::{
+    ListStep, after_list, failure_lines, is_absent, is_refused, number_of, objects_of,
+};
 use bac_service::PropertyReference;
 use bac_text::{Status, no_memory};
 use bac_value::{NoMemory, ObjectIdentifier};
@@ -33,8 +37,13 @@ const BATCH: u32 = 32;
 /// An array has at most so many elements.
 const MOST: u64 = 4_294_967_295;
 
-/// What stands behind why an object-list was not read.
-const ADVICE: &[u8] = b"--device N reads the list of device N\n";
+/// What stands behind why the object-list of a device of any instance was not read.
+const ANY_ADVICE: &[u8] =
+    b"this device has no object-list that can be read; --device N asks for that of device N, and bac read OBJECT reads objects by name\n";
+
+/// What stands behind why that of a device by its instance was not read.
+const OWN_ADVICE: &[u8] =
+    b"this device has no such object-list; bac read OBJECT reads objects by name\n";
 
 /// The object-list of a device, or an element of it.
 fn list_of(device: ObjectIdentifier, index: Option<u32>) -> PropertyReference
@@ -64,6 +73,17 @@ fn elements_of(
     Ok(elements)
 }
 
+/// What to do next where an object-list, or an element of it, was not read.
+fn advice_for(device: ObjectIdentifier, outcome: Outcome<'_>) -> &'static [u8] {
+    if device.instance == ANY_DEVICE {
+        ANY_ADVICE
+    } else if is_unknown(outcome) || is_absent(outcome) {
+        OWN_ADVICE
+    } else {
+        b""
+    }
+}
+
 /// Tells why an object-list, or an element of it, was not read.
 fn tell_unlisted<M: ClientSockets, E: Write>(
     desk: &Desk<'_, M>,
@@ -84,7 +104,7 @@ fn tell_unlisted<M: ClientSockets, E: Write>(
     if is_refused(outcome_of(end)) {
         tell_refused(slice::from_ref(end), err);
     } else {
-        let _ = err.write_all(ADVICE);
+        let _ = err.write_all(advice_for(reference.object, outcome_of(end)));
     }
     Ok(())
 }

@@ -17,6 +17,9 @@ const REFUSED: &str =
 /// What is told of a node that has no such object.
 const UNKNOWN: &str = "bac points lists the objects of a device";
 
+/// What is told of a node that takes no null.
+const NO_NULL: &str = "this property takes no null: it has no priority array";
+
 /// Tells that a node did not answer, how long it was waited for, what to look at, and why the system sends nothing to it, if the system tells that.
 pub(crate) fn tell_silence<M: ClientSockets, E: Write>(
     alloc: Global,
@@ -39,11 +42,27 @@ pub(crate) fn tell_refused<E: Write>(ends: &[AskEnd], err: &mut E) {
 }
 
 /// Whether a node answered that it has no such object (clause 18.2).
-fn is_unknown(outcome: Outcome<'_>) -> bool {
+pub(crate) fn is_unknown(outcome: Outcome<'_>) -> bool {
     matches!(
         outcome,
         Outcome::Answered(AnyReply::Error { class: 1, code: 31 })
     )
+}
+
+/// Whether a node answered that a value has a type that the property does not take (clause 18.3).
+fn is_invalid_type(outcome: Outcome<'_>) -> bool {
+    matches!(
+        outcome,
+        Outcome::Answered(AnyReply::Error { class: 2, code: 9 })
+    )
+}
+
+/// Tells why a property takes no null, where the write of one ended so.
+pub(crate) fn tell_no_null<E: Write>(end: &AskEnd, err: &mut E) {
+    if is_invalid_type(outcome_of(end)) {
+        // if that fails too, only the status is left
+        let _ = err.writeln(NO_NULL);
+    }
 }
 
 /// Tells what to do next where a node refused a request for now, or has no such object.

@@ -5,9 +5,9 @@ use bac_asking::{RecordForm, outcome_of};
 use bac_driver::AskEnd;
 use bac_point_report::{
     CSV_HEADER, Cell, HEADER, Widths, cell_of, point_line, point_object, point_references,
-    point_row, values_of,
+    point_row, record_cell, values_of,
 };
-use bac_service::AnyRequest;
+use bac_service::{AnyRequest, PropertyReference};
 use bac_value::{Data, NoMemory, ObjectIdentifier};
 use std::alloc::Global;
 use std::io;
@@ -52,11 +52,29 @@ fn out_of_memory() -> io::Error {
     io::Error::from(ErrorKind::OutOfMemory)
 }
 
+/// A cell, by how the ask for its property ended; in a record its text stands as it came.
+fn form_cell(
+    alloc: Global,
+    form: TableForm,
+    reference: PropertyReference,
+    end: &AskEnd,
+) -> Result<Cell, NoMemory> {
+    match form {
+        TableForm::Lines | TableForm::Columns => cell_of(alloc, reference, outcome_of(end)),
+        TableForm::Json | TableForm::Csv(_) => record_cell(alloc, reference, outcome_of(end)),
+    }
+}
+
 /// The cells of an object, by how the asks for its columns ended.
-fn row_of(alloc: Global, object: ObjectIdentifier, ends: &[AskEnd]) -> Result<Row, NoMemory> {
+fn row_of(
+    alloc: Global,
+    form: TableForm,
+    object: ObjectIdentifier,
+    ends: &[AskEnd],
+) -> Result<Row, NoMemory> {
     let mut cells = Vec::new(alloc);
     for (reference, end) in point_references(object).iter().zip(ends) {
-        cells.push(cell_of(alloc, *reference, outcome_of(end))?)?;
+        cells.push(form_cell(alloc, form, *reference, end)?)?;
     }
     Ok(Row { object, cells })
 }
@@ -64,12 +82,13 @@ fn row_of(alloc: Global, object: ObjectIdentifier, ends: &[AskEnd]) -> Result<Ro
 /// The rows of some objects.
 fn rows_of(
     alloc: Global,
+    form: TableForm,
     objects: &[ObjectIdentifier],
     ends: &[AskEnd],
 ) -> Result<Vec<Row>, NoMemory> {
     let mut rows = Vec::new(alloc);
     for (object, ends) in objects.iter().zip(ends.chunks(COLUMNS)) {
-        rows.push(row_of(alloc, *object, ends)?)?;
+        rows.push(row_of(alloc, form, *object, ends)?)?;
     }
     Ok(rows)
 }
@@ -180,7 +199,7 @@ impl Table {
         ends: &[AskEnd],
         out: &mut O,
     ) -> io::Result<()> {
-        let Ok(rows) = rows_of(self.alloc, objects, ends) else {
+        let Ok(rows) = rows_of(self.alloc, self.form, objects, ends) else {
             return Err(out_of_memory());
         };
         self.print_rows(&rows, ends, out)?;

@@ -11,7 +11,7 @@ use bac_value::ObjectIdentifier;
 use clap::ArgMatches;
 
 /// The instance that stands for a device of any instance (clause 15.5.2).
-const ANY_DEVICE: u32 = 4_194_303;
+pub(crate) const ANY_DEVICE: u32 = 4_194_303;
 
 /// The object type device (clause 21).
 const DEVICE: u16 = 8;

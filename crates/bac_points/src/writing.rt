@@ -13,11 +13,11 @@ ghost use Rattle.bac_point_report.specs.Targets.{target_view};
 ghost use Rattle.bac_asking.specs.Recording.{outcome_of};
 ghost use Rattle.bac_environment.specs.Sockets.{OnClock, OnPort};
 ghost use Rattle.bac_points.specs.Writes.{AsksKind, FindsKind, IsKindOf, IsOrder, IsWriting, PrintsBack, PrintsFound, PrintsOther, ReadsBack, Writes, WritesAs, WritesByClient, WritesOnce, WritesOrder};
-ghost use Rattle.bac_points.specs.Writes.{differs_line, name_of_number, order_view, ordered_in, writes_values};
+ghost use Rattle.bac_points.specs.Writes.{differs_line, lacks_value, name_of_number, order_view, ordered_in, writes_values};
 
 use crate::performing::Desk;
 use crate::questions::{question_by, question_for};
-use crate::silence::tell_next;
+use crate::silence::{tell_next, tell_no_null};
 use crate::task::Writing;
 use bac_asking::{Client, ClientSockets, ask_on, outcome_of};
 use bac_driver::{AskEnd, Question};
@@ -29,7 +29,7 @@ use bac_point_text::{Kind, WrittenFault, enumeration_of, names_advice};
 use bac_service::{AnyRequest, Priority, PropertyReference, WriteProperty};
 use bac_text::{Status, no_memory, output_failed};
 use bac_value::Data;
-use bac_value_text::{number_up_to, property_name};
+use bac_value_text::{number_up_to, property_name, property_number};
 use std::alloc::{AllocError, Global};
 use std::io::{ErrorKind, Write};
 use std::{io, slice};
@@ -58,6 +58,12 @@ const DIFFERS: &[u8] = b"written, but now ";
 /// What the words have to be.
 const FORM: &str = "expected OBJECT [PROPERTY] VALUE";
 
+/// The same, where there are more words than those.
+const SHORTER_FORM: &str = "expected OBJECT [PROPERTY] VALUE; a text with blanks needs quotes";
+
+/// A Null, encoded (clause 20.2.2).
+const NULL: [u8; 1] = [0];
+
 /// The property that is written, and the text of its new value. None if the words are not those.
 fn ordered_in<'a>(words: &[&'a str]) -> Option<(Target<'a>, &'a str)>
     ensures { option_map (λ o. (target_view o.0, o.1.now)) result ≡ ordered_in (map (λ w. w.now) words.now) }
@@ -83,6 +89,23 @@ fn ordered_in<'a>(words: &[&'a str]) -> Option<(Target<'a>, &'a str)>
     }
 }
 
+/// Whether the only word behind the object is the name of a property: its value is missing.
+fn lacks_value(words: &[&str]) -> bool
+    ensures { result ≡ lacks_value (map (λ w. w.now) words.now) }
+{
+    match words {
+        [_, word] => property_number(*word).is_some(),
+        [] => false,
+        [_] => false,
+        [_, _, _, ..] => false,
+    }
+}
+
+/// What words have to be that are not OBJECT [PROPERTY] VALUE.
+fn form_for(words: &[&str]) -> &'static str {
+    if words.len() > 3 { SHORTER_FORM } else { FORM }
+}
+
 /// The name that the standard gives a property, where a word is its number. None of a name, and of a number without one.
 fn name_of_number(word: &str) -> Option<&'static str>
     ensures { option_map (λ n. n.now) result ≡ name_of_number word.now }
@@ -99,6 +122,18 @@ fn print_numbered<E: Write>(word: &str, name: &str, err: &mut E) -> Status
     let _ = writeln!(
         err,
         "bad words: property {word} is {name}: write its name; a priority is --priority N"
+    );
+    Status::CommandLine
+}
+
+/// Complains of a property whose value is missing.
+fn print_lacking<E: Write>(property: &str, err: &mut E) -> Status
+    ensures { IsStop result }
+{
+    // if that fails too, only the status is left
+    let _ = writeln!(
+        err,
+        "bad words: \"{property}\" is a property: a VALUE is missing"
     );
     Status::CommandLine
 }
@@ -194,8 +229,11 @@ fn order_of<'a, M: ClientSockets, E: Write>(
     ensures told { IfErr result IsStop }
 {
     let Some((target, text)) = ordered_in(writing.words) else {
-        return Err(print_bad(FORM, err));
+        return Err(print_bad(form_for(writing.words), err));
     };
+    if lacks_value(writing.words) {
+        return Err(print_lacking(text, err));
+    }
     if let Some(name) = name_of_number(target.property) {
         return Err(print_numbered(target.property, name, err));
     }
@@ -423,6 +461,18 @@ fn writing_question<M: ClientSockets, E: Write>(
     }
 }
 
+/// Complains that standard output cannot be written, and tells that the property was, unless the reader of a pipe has ended.
+fn unprinted<E: Write>(error: &io::Error, err: &mut E) -> Status
+    ensures { IsFailure result }
+{
+    let status = output_failed(err, error);
+    if !matches!(error.kind(), ErrorKind::BrokenPipe) {
+        // if that fails too, only the status is left
+        let _ = err.writeln("the value was written");
+    }
+    status
+}
+
 /// Reads a property back that was written, and prints what it has now if that is something else.
 fn read_back<M: ClientSockets, O: Write, E: Write>(
     desk: &Desk<'_, M>,
@@ -441,7 +491,14 @@ fn read_back<M: ClientSockets, O: Write, E: Write>(
     let end = ask_on(desk.asking, client, &order.reading, err)?;
     match print_back(desk.alloc, order.reference, question, &end, out, err) {
         Ok(()) => Ok(()),
-        Err(error) => Err(output_failed(err, &error)),
+        Err(error) => Err(unprinted(&error, err)),
+    }
+}
+
+/// Tells why a property took no null, where that was written.
+fn tell_null<E: Write>(question: &Question, end: &AskEnd, err: &mut E) {
+    if writes_values(question, &NULL) {
+        tell_no_null(end, err);
     }
 }
 
@@ -464,6 +521,7 @@ fn write_once<M: ClientSockets, O: Write, E: Write>(
     let end = ask_on(desk.asking, client, question, err)?;
     if !is_done(outcome_of(&end)) {
         tell_failure(desk, order.reference, &end, err)?;
+        tell_null(question, &end, err);
         return Ok(false);
     }
     drop(end);

@@ -20,7 +20,7 @@ csv|flag|never|json|Prints each result as a CSV row, below a row with the names 
 
 /// Examples for `write`.
 const WRITE_EXAMPLES: &str = "\
-VALUE is written as `bac read` prints it: 21.5, active, degrees-celsius, a text, hex:0AFF, or null to relinquish. Its kind is that of the value that the property has now
+VALUE is written as `bac read` prints it: 21.5, active, degrees-celsius, hex:0AFF, a text as it is, or null to relinquish. Its kind is that of the value that the property has now
 
 Example: bac write analog-value:1 21.5
 Example: bac write --to 192.168.1.20 --priority 8 binary-output:1 active
