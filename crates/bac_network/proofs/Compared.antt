@@ -1,5 +1,5 @@
 -- What two worlds in code are to contracts, from their parts.
-use Rattle.std.proofs.Common.{◌≡◌, ℕ, suc, List, [], ◌∷◌, map, None, Some, slice_get, refl, sym, ap, ◌∙◌}
+use Rattle.std.proofs.Common.{◌≡◌, ℕ, suc, Bool, List, [], ◌∷◌, map, None, Some, slice_get, refl, sym, ap, ◌∙◌}
 use Rattle.std.proofs.lemmas.List.{map-id, reverse-reverse}
 use Rattle.std.specs.Prelude.{reverse}
 use Rattle.bac_protocol.specs.Service.{Octets}
@@ -29,15 +29,18 @@ same_links ones others links ways same a b =
     same_places links ways (λ i. sym (a i) ∙ ap (λ (nodes : List Node). link_at nodes i) same ∙ b i)
 
 -- The same parts make the same world.
-pub worlds_alike : (v w : ℕ) (opening stores : List Store) (one other : Network) → v ≡ w → map (λ (s : Store). s) opening ≡ map (λ (s : Store). s) stores
+pub worlds_alike : (v w : ℕ) (opening stores : List Store) (a b : List Bool) (one other : Network) → v ≡ w
+    → map (λ (s : Store). s) opening ≡ map (λ (s : Store). s) stores → map (λ (s : Bool). s) a ≡ map (λ (s : Bool). s) b
     → map (λ (a : Node). a) one.nodes.items ≡ map (λ (a : Node). a) other.nodes.items → map fact_view one.log.items ≡ map fact_view other.log.items
-    → AreSame one.journal other.journal → view_of v opening one ≡ view_of w stores other
-worlds_alike v w opening stores one other limit opened nodes log journal =
+    → AreSame one.journal other.journal → view_of v opening a one ≡ view_of w stores b other
+worlds_alike v w opening stores a b one other limit opened rules nodes log journal =
+    let reuses : a ≡ b = sym (map-id a) ∙ rules ∙ map-id b in
     let before : opening ≡ stores = sym (map-id opening) ∙ opened ∙ map-id stores in
     let now : one.nodes.items ≡ other.nodes.items = sym (map-id one.nodes.items) ∙ nodes ∙ map-id other.nodes.items in
     λ i. record {
       overtake = limit i;
       opening = before i;
+      reuses = reuses i;
       nodes = now i;
       time = record { moment = journal.moment i; own = journal.own i };
       lives = journal.lives i;
@@ -51,17 +54,21 @@ worlds_alike v w opening stores one other limit opened nodes log journal =
 pub same_openings : (one other : WorldView) → one ≡ other → map (λ (s : Store). s) one.opening ≡ map (λ (s : Store). s) other.opening
 same_openings one other same = ap (λ (w : WorldView). map (λ (s : Store). s) w.opening) same
 
+pub same_rules : (one other : WorldView) → one ≡ other → map (λ (s : Bool). s) one.reuses ≡ map (λ (s : Bool). s) other.reuses
+same_rules one other same = ap (λ (w : WorldView). map (λ (s : Bool). s) w.reuses) same
+
 pub same_nodes : (one other : WorldView) → one ≡ other → map (λ (a : Node). a) one.nodes ≡ map (λ (a : Node). a) other.nodes
 same_nodes one other same = ap (λ (w : WorldView). map (λ (a : Node). a) w.nodes) same
 
-pub same_facts : (v w : ℕ) (opening stores : List Store) (one other : Network) → view_of v opening one ≡ view_of w stores other
+pub same_facts : (v w : ℕ) (opening stores : List Store) (a b : List Bool) (one other : Network) → view_of v opening a one ≡ view_of w stores b other
     → map fact_view one.log.items ≡ map fact_view other.log.items
-same_facts v w opening stores one other same =
+same_facts v w opening stores a b one other same =
     sym (reverse-reverse (map fact_view one.log.items)) ∙ ap (λ (w : WorldView). reverse w.log) same ∙ reverse-reverse (map fact_view other.log.items)
 
-pub same_journals : (v w : ℕ) (opening stores : List Store) (one other : Network) → AreLinks one.nodes.items one.journal.links
-    → AreLinks other.nodes.items other.journal.links → view_of v opening one ≡ view_of w stores other → AreSame one.journal other.journal
-same_journals v w opening stores one other a b same =
+pub same_journals : (v w : ℕ) (opening stores : List Store) (rules ways : List Bool) (one other : Network) → AreLinks one.nodes.items one.journal.links
+    → AreLinks other.nodes.items other.journal.links → view_of v opening rules one ≡ view_of w stores ways other
+    → AreSame one.journal other.journal
+same_journals v w opening stores rules ways one other a b same =
     record {
       links = same_links one.nodes.items other.nodes.items one.journal.links other.journal.links (ap (λ (w : WorldView). w.nodes) same) a b;
       moment = ap (λ (w : WorldView). w.time.moment) same;

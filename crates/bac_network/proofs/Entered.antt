@@ -1,18 +1,19 @@
 -- What comes of a node's call enters the world.
-use Rattle.std.proofs.Common.{◌≡◌, ℕ, List, [], ◌∷◌, ◌++◌, length, map, reverse, Option, Some, None, slice_get, refl, sym, ap, subst}
+use Rattle.std.proofs.Common.{◌≡◌, ℕ, Bool, true, false, List, [], ◌∷◌, ◌++◌, length, map, reverse, Option, Some, None, refl, sym, ap, subst}
 use Rattle.std.proofs.Common.{inl, inr, ◌∙◌, arith}
 use Rattle.std.proofs.lemmas.List.{length-map, length-reverse, map-append, reverse-append}
 use Rattle.bac_transaction.specs.Meanings.{EndedView}
 use Rattle.bac_world.specs.Node.{Node, Outcome}
 use Rattle.bac_world.specs.Once as once
 use Rattle.bac_world.specs.Services.{Performed}
-use Rattle.bac_world.specs.World.{Note, Acts, AreEnded, IsWithNode, ask_of, ending_fact, is_away, newest}
-use Rattle.bac_journal.specs.Entering.{AreOfPeer, CanEnter}
+use Rattle.bac_world.specs.ReusingWorlds.{ActsSo, AreLoggedSo}
+use Rattle.bac_world.specs.World.{IsOfNone, Note, Acts, AreEnded, IsWithNode, ask_of, ending_fact, is_away, newest}
+use Rattle.bac_journal.specs.Entering.{AreOfPeerSo, CanEnterSo, IsOfClient}
 use Rattle.bac_journal.specs.Journals.{JournalView}
 use Rattle.bac_journal.specs.Notes.{note_view, notes_view}
 use Rattle.bac_journal.specs.declared.noting.Note as code
 use Rattle.bac_network.specs.Clocks.{instant, time_at}
-use Rattle.bac_network.specs.Entries.{AreNoted, CanBeEntered, HavePeer, IsEntered}
+use Rattle.bac_network.specs.Entries.{AreNoted, CanBeEntered, EntersLog, HasClient, HaveClient, IsEntered, IsKeptFor}
 use Rattle.bac_network.specs.Networks.{world_of, world_with, IsReady}
 use Rattle.bac_network.specs.Views.{fact_view, log_view}
 use Rattle.bac_network.specs.declared.fact.Fact.{Fact}
@@ -50,37 +51,62 @@ nothing_left (x ∷ xs) h = absurd (omega arith)
 
 -- The world.
 
-peers_known : (W overtake : ℕ) (n : Network) → IsReady W overtake n → (i : ℕ) (b : Node) (p : Option Performed) → AreOfPeer (world_of n) i b p
-    → HavePeer n.journal i b p
-peers_known W overtake n r i b None h = tt
-peers_known W overtake n r i b (Some p) (inr h) = record {
-  client = λ k there. absurd (h.stranger k (r.linked k ∙ there));
-  stranger = λ none. (h.entry, h.kept);
-}
-peers_known W overtake n r i b (Some p) (inl h) =
-    let at : slice_get n.journal.links h.client ≡ Some p.key.peer.link = sym (r.linked h.client) ∙ h.link in
-    record {
-      client = λ k there. (
-        h.number,
-        subst (λ (c : ℕ). newest (record { client = c; server = i; invoke_id = p.key.invoke_id }) n.journal.notes ≡ Some h.number)
-            (r.apart h.client k p.key.peer.link at there) h.noted,
-      );
-      stranger = λ none. absurd (none h.client at);
-    }
+-- a node keeps the entry, but for one that lets invoke IDs be used again, which may keep none
+abbrev pub IsKeptSo : (reuse : Bool) → (after : Node) → Performed → Type 0
+IsKeptSo false after p = IsKeptFor after p
+IsKeptSo true after p = Unit {0}
 
-pub can_be_entered : (W overtake : ℕ) (n : Network) → IsReady W overtake n → (i : ℕ) (b : Node) (o : Outcome) → CanEnter (world_of n) i b o
-    → CanBeEntered n.journal i b o
-can_be_entered W overtake n r i b o h = record {
-  nodes = n.nodes.items;
-  linked = r.linked;
-  sends = h.sends;
-  ended = h.ended;
-  performed = peers_known W overtake n r i b o.performed h.performed;
-}
+-- so it is of what was performed for a stranger
+abbrev pub AreKept : (reuse : Bool) → (nodes : List Node) → (after : Node) → Option Performed → Type 0
+AreKept reuse nodes after None = Unit {0}
+AreKept reuse nodes after (Some p) = IsOfNone nodes p.key.peer.link → IsKeptSo reuse after p
 
-pub acts_as : (nodes nodes' : List Node) (j j' : JournalView) (log log' : List once.Fact) (i : ℕ) (b : Node) (o : Outcome) → IsWithNode nodes i b nodes'
-    → IsEntered nodes i b o j j' log log' → time_at (instant j') ≡ time_at (instant j) → j'.notes ≡ j.notes → Acts (world_with nodes j log) i b o (world_with nodes' j' log')
-acts_as nodes nodes' j j' log log' i b o with_node h time notes = record {
+module _ (W overtake : ℕ) (n : Network) (r : IsReady W overtake n) where
+  client_known : (i : ℕ) (p : Performed) → IsOfClient (world_of n) i p → HasClient n.journal i p
+  client_known i p h = λ k there. (
+    h.number,
+    subst (λ (c : ℕ). newest (record { client = c; server = i; invoke_id = p.key.invoke_id }) n.journal.notes ≡ Some h.number)
+        (r.apart h.client k p.key.peer.link (sym (r.linked h.client) ∙ h.link) there) h.noted,
+  )
+
+  clients_known : (reuse : Bool) (i : ℕ) (b : Node) (p : Option Performed) → AreOfPeerSo reuse (world_of n) i b p → HaveClient n.journal i p
+  clients_known reuse i b None h = tt
+  clients_known false i b (Some p) (inl h) = client_known i p h
+  clients_known true i b (Some p) (inl h) = client_known i p h
+  clients_known false i b (Some p) (inr h) = λ k there. absurd (h.stranger k (r.linked k ∙ there))
+  clients_known true i b (Some p) (inr h) = λ k there. absurd (h k (r.linked k ∙ there))
+
+  -- what was performed for a stranger is kept, but where invoke IDs are used again
+  pub kept_known : (reuse : Bool) (i : ℕ) (b : Node) (p : Option Performed) → AreOfPeerSo reuse (world_of n) i b p → AreKept reuse n.nodes.items b p
+  kept_known reuse i b None h = tt
+  kept_known true i b (Some p) h = λ none. tt
+  kept_known false i b (Some p) (inl h) = λ none. absurd (none h.client h.link)
+  kept_known false i b (Some p) (inr h) = λ none. (h.entry, h.kept)
+
+  pub can_be_entered : (reuse : Bool) (i : ℕ) (b : Node) (o : Outcome) → CanEnterSo reuse (world_of n) i b o → CanBeEntered n.journal i o
+  can_be_entered reuse i b o h = record {
+    nodes = n.nodes.items;
+    linked = r.linked;
+    sends = h.sends;
+    ended = h.ended;
+    performed = clients_known reuse i b o.performed h.performed;
+  }
+
+-- What was performed is logged.
+
+logged_by : (reuse : Bool) (nodes : List Node) (notes : List Note) (i : ℕ) (b : Node) (p : Option Performed) (old new : List once.Fact)
+    → AreKept reuse nodes b p → EntersLog nodes notes i b p old new → AreLoggedSo reuse nodes notes i b p old new
+logged_by true nodes notes i b None old new kept h = h
+logged_by false nodes notes i b None old new kept h = h
+logged_by true nodes notes i b (Some p) old new kept (inl h) = inl h
+logged_by false nodes notes i b (Some p) old new kept (inl h) = inl h
+logged_by true nodes notes i b (Some p) old new kept (inr h) = inr h.served
+logged_by false nodes notes i b (Some p) old new kept (inr h) = inr (h.kept (kept h.served.stranger))
+
+pub acts_so : (reuse : Bool) (nodes nodes' : List Node) (j j' : JournalView) (log log' : List once.Fact) (i : ℕ) (b : Node) (o : Outcome)
+    → IsWithNode nodes i b nodes' → IsEntered nodes i b o j j' log log' → AreKept reuse nodes b o.performed
+    → time_at (instant j') ≡ time_at (instant j) → j'.notes ≡ j.notes → ActsSo reuse (world_with nodes j log) i b o (world_with nodes' j' log')
+acts_so reuse nodes nodes' j j' log log' i b o with_node h kept time notes = record {
   nodes = with_node;
   time = time;
   lives = h.lives;
@@ -90,5 +116,22 @@ acts_as nodes nodes' j j' log log' i b o with_node h time notes = record {
   copied = h.sent.copied;
   between = h.between;
   ended = h.ended;
-  logged = h.logged;
+  logged = logged_by reuse nodes j.notes i b o.performed h.between log' kept h.logged;
+}
+
+-- where it lets none be used again
+pub acts_as : (nodes nodes' : List Node) (j j' : JournalView) (log log' : List once.Fact) (i : ℕ) (b : Node) (o : Outcome) → IsWithNode nodes i b nodes'
+    → IsEntered nodes i b o j j' log log' → AreKept false nodes b o.performed → time_at (instant j') ≡ time_at (instant j) → j'.notes ≡ j.notes
+    → Acts (world_with nodes j log) i b o (world_with nodes' j' log')
+acts_as nodes nodes' j j' log log' i b o with_node h kept time notes = record {
+  nodes = with_node;
+  time = time;
+  lives = h.lives;
+  notes = notes;
+  sent = h.sent.sent;
+  copies = h.sent.copies;
+  copied = h.sent.copied;
+  between = h.between;
+  ended = h.ended;
+  logged = logged_by false nodes j.notes i b o.performed h.between log' kept h.logged;
 }

@@ -1,8 +1,15 @@
 -- Logs that grow.
-use Rattle.std.proofs.Common.{◌≡◌, ℕ, suc, Bool, true, false, List, [], ◌∷◌, ◌++◌, length, drop, sym, ap, ◌∙◌, append_assoc, length-append, arith}
+use Rattle.std.proofs.Common.{◌≡◌, ℕ, suc, Bool, true, false, List, [], ◌∷◌, ◌++◌, length, drop, Option, Some, None, refl, sym, ap, inl, inr, ◌∙◌}
+use Rattle.std.proofs.Common.{append_assoc, length-append, arith}
+use Rattle.bac_transaction.specs.Meanings.{EndedView}
+use Rattle.bac_world.specs.Node.{Node, Outcome}
+use Rattle.bac_world.specs.Once.Fact.{Performed, Served}
+use Rattle.bac_world.specs.ReusingLogs.{Reuses}
+use Rattle.bac_world.specs.ReusingWorlds.{ActsSo, AreLoggedSo, DeliversIfSo, IsDeliveredSo}
+use Rattle.bac_world.specs.Services as service
 use Rattle.bac_world.specs.Once.{Fact}
-use Rattle.bac_world.specs.World.{World, IsDelivered, DeliversIf, is_deliverable}
-use Rattle.bac_liveness.proofs.StraightRuns.Growing.{Grows, grows_not, acts_grow}
+use Rattle.bac_world.specs.World.{AreEnded, Note, World, IsDelivered, DeliversIf, ending_fact, is_away, is_deliverable}
+use Rattle.bac_liveness.proofs.StraightRuns.Growing.{Grows, grows_not, grows_then, acts_grow}
 use Rattle.bac_network.specs.Logs.{IsSince}
 
 -- the log of an ask stays one as it grows
@@ -21,6 +28,33 @@ delivered_grows overtake number u v d = go (is_deliverable overtake u.time.pace.
   where
     go : (b : Bool) → DeliversIf b u d.copy v → Grows u.log v.log
     go true y = acts_grow u v d.copy.to y.hears.after y.hears.outcome y.hears.acts
+    go false same = grows_not u.log v.log (ap (λ (y : World). y.log) same)
+
+-- so it does where these nodes let invoke IDs be used again
+ended_grow : (notes : List Note) (node : ℕ) (fs : List EndedView) (old new : List Fact) → AreEnded notes node fs old new → Grows old new
+ended_grow notes node [] old new h = grows_not old new h
+ended_grow notes node (f ∷ fs) old new h =
+    let ended : Fact = ending_fact (is_away h.0 notes) h.0 f.how in
+    grows_then old (ended ∷ old) new (ended ∷ [], refl) (ended_grow notes node fs (ended ∷ old) new h.2)
+
+logged_grow : (reuse : Bool) (nodes : List Node) (notes : List Note) (node : ℕ) (after : Node) (p : Option service.Performed) (old new : List Fact)
+    → AreLoggedSo reuse nodes notes node after p old new → Grows old new
+logged_grow true nodes notes node after None old new h = grows_not old new h
+logged_grow true nodes notes node after (Some p) old new (inl h) = (Performed h.number p.request p.reply ∷ [], h.log)
+logged_grow true nodes notes node after (Some p) old new (inr h) = (Served p.key.peer node p.key.invoke_id h.begin p.request p.reply ∷ [], h.log)
+logged_grow false nodes notes node after None old new h = grows_not old new h
+logged_grow false nodes notes node after (Some p) old new (inl h) = (Performed h.number p.request p.reply ∷ [], h.log)
+logged_grow false nodes notes node after (Some p) old new (inr h) = (Served p.key.peer node p.key.invoke_id h.entry.begin p.request p.reply ∷ [], h.log)
+
+acts_grow_so : (reuse : Bool) (u v : World) (i : ℕ) (b : Node) (o : Outcome) → ActsSo reuse u i b o v → Grows u.log v.log
+acts_grow_so reuse u v i b o acts = grows_then u.log acts.between v.log (ended_grow u.notes i o.ended u.log acts.between acts.ended)
+    (logged_grow reuse u.nodes u.notes i b o.performed acts.between v.log acts.logged)
+
+pub delivered_grows_so : (overtake : ℕ) (r : Reuses) (number : ℕ) (u v : World) → IsDeliveredSo overtake r u number v → Grows u.log v.log
+delivered_grows_so overtake r number u v d = go (is_deliverable overtake u.time.pace.life u.time.now number u.copies d.copy) d.goes
+  where
+    go : (b : Bool) → DeliversIfSo b r u d.copy v → Grows u.log v.log
+    go true y = acts_grow_so (r (d.copy).to) u v (d.copy).to y.hears.after y.hears.outcome y.hears.acts
     go false same = grows_not u.log v.log (ap (λ (y : World). y.log) same)
 
 -- lists that are the same end alike

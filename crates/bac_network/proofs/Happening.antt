@@ -11,9 +11,13 @@ use Rattle.bac_network.specs.Clocks.{Instant}
 use Rattle.bac_network.specs.Histories.{WorldView}
 use Rattle.bac_requester.specs.declared.ask_fault.AskFault.{AskFault}
 use Rattle.bac_world.specs.Node.{Node}
+use Rattle.bac_world.specs.ReusingLogs.{Reuses}
+use Rattle.bac_world.specs.ReusingWorlds.{WorldStepSo}
 use Rattle.bac_world.specs.World.{World, Event, Copy, WorldStep, link_at, is_deliverable}
 use Rattle.bac_world.specs.World.Event.{Ask, AskAway, Deliver, Noise, Stray, Tick, Advance, Change, Restart, Begin, BeginAgain}
-use Rattle.bac_network.specs.Steps.{BeginsTooSoon, NamesNoNode, NamesNoCopy, NamesNodeLink, PassesClock, RefusesChange, TakesMemory, Happens, HappensTelling, Tells, Untells}
+use Rattle.bac_network.specs.Steps.{BeginsTooSoon, NamesNoNode, NamesNoCopy, NamesNodeLink, PassesClock, RefusesChange, TakesMemory, Happens, HappensSo, HappensTelling, HappensTellingSo}
+use Rattle.bac_network.specs.Steps.{Tells, Untells}
+use Rattle.bac_network.specs.Rules.{reuses_by}
 use Rattle.bac_network.specs.declared.fault.WorldFault.{WorldFault}
 use Rattle.bac_network.specs.declared.fault.WorldFault.TheVariants as fault
 
@@ -26,12 +30,12 @@ no_link nodes i l e at =
 none_some : {A : Type 0} (o : Option A) (x : A) → o ≡ None → o ≡ Some x → ⊥
 none_some o x e at = let f : None ≡ Some x = sym e ∙ at in cc
 
-abbrev seen : ℕ → List Store → World → Instant → List Life → WorldView
-seen limit opening w t lives =
-    record { overtake = limit; opening = opening; nodes = w.nodes; time = t; lives = lives; copies = w.copies; log = w.log; notes = w.notes }
+abbrev seen : ℕ → List Store → List Bool → World → Instant → List Life → WorldView
+seen limit opening reuses w t lives =
+    record { overtake = limit; opening = opening; reuses = reuses; nodes = w.nodes; time = t; lives = lives; copies = w.copies; log = w.log; notes = w.notes }
 
-module _ (overtake : ℕ) (old new : World) where
-  no_node : (e : Event) → WorldStep overtake old e new → NamesNoNode old e → ⊥
+module _ (overtake : ℕ) (u : Reuses) (old new : World) where
+  no_node : (e : Event) → WorldStepSo overtake u old e new → NamesNoNode old e → ⊥
   no_node (Ask client server limits r) (inl h) (inl n) = none_some (slice_get old.nodes client) h.before n h.at
   no_node (Ask client server limits r) (inl h) (inr n) = no_link old.nodes server h.link n h.peer
   no_node (Ask client server limits r) (inr h) (inl n) = none_some (slice_get old.nodes client) h.node n h.at
@@ -50,7 +54,7 @@ module _ (overtake : ℕ) (old new : World) where
   no_node (Advance by own) h n = n
   no_node (Change node c) h n = none_some (slice_get old.nodes node) h.before n h.at
 
-  no_copy : (e : Event) → WorldStep overtake old e new → NamesNoCopy old e → ⊥
+  no_copy : (e : Event) → WorldStepSo overtake u old e new → NamesNoCopy old e → ⊥
   no_copy (Ask client server limits r) h n = n
   no_copy (Deliver number) h n = none_some (slice_get old.copies number) h.copy n h.there
   no_copy (Noise node from octets) h n = n
@@ -128,7 +132,7 @@ module _ (overtake : ℕ) (old new : World) where
   clock_or_memory (Advance by own) n m = m
   clock_or_memory (Change node d) n m = n
 
-  no_refusal : (e : Event) → WorldStep overtake old e new → (why : ChangeFault) → RefusesChange old e why → ⊥
+  no_refusal : (e : Event) → WorldStepSo overtake u old e new → (why : ChangeFault) → RefusesChange old e why → ⊥
   no_refusal (Change node c) h why r =
       let same : Some h.before ≡ Some r.0 = sym h.at ∙ r.1 in
       let node_is : h.before ≡ r.0 = cc in
@@ -242,7 +246,7 @@ module _ (overtake : ℕ) (old new : World) where
 
   -- a node that may not begin excludes all other faults
   soon_alone : (e : Event) → BeginsTooSoon old e → (NamesNoNode old e → ⊥) × (NamesNoCopy old e → ⊥) × (NamesNodeLink old e → ⊥) × (PassesClock old e → ⊥)
-      × ((why : ChangeFault) → RefusesChange old e why → ⊥) × (TakesMemory overtake old e → ⊥) × (WorldStep overtake old e new → ⊥)
+      × ((why : ChangeFault) → RefusesChange old e why → ⊥) × (TakesMemory overtake old e → ⊥) × (WorldStepSo overtake u old e new → ⊥)
   soon_alone (Begin node exact) l = (
     λ n. none_some (slice_get old.nodes node) (l.0).0 n (l.0).1,
     λ n. n,
@@ -275,7 +279,7 @@ module _ (overtake : ℕ) (old new : World) where
 
   module _ (e : Event) where
     abbrev How : Result (Option AskFault) WorldFault → Type 0
-    How r = HappensTelling overtake old e r new
+    How r = HappensTellingSo overtake u old e r new
 
     fails_node : (r : Result (Option AskFault) WorldFault) → How r → NamesNoNode old e → r ≡ Err fault.NoSuchNode
     fails_node (Ok told) h n = absurd (no_node e h.0 n)
@@ -359,7 +363,7 @@ module _ (overtake : ℕ) (old new : World) where
     pub memory_only : (r : Result (Option AskFault) WorldFault) → How r → IsErrOf r fault.NoMemory → TakesMemory overtake old e
     memory_only r h is = let k : How (Err fault.NoMemory) = subst How is h in (k.0).0
 
-    pub step_is : (r : Result (Option AskFault) WorldFault) → How r → OnOk r (WorldStep overtake old e new)
+    pub step_is : (r : Result (Option AskFault) WorldFault) → How r → OnOk r (WorldStepSo overtake u old e new)
     step_is (Ok told) h = h.0
     step_is (Err f) h = tt
 
@@ -373,9 +377,14 @@ module _ (overtake : ℕ) (old new : World) where
 
     -- in code the opening stores and the limit stay beside it
     pub same_seen : (r : Result (Option AskFault) WorldFault) → How r → (now then : Instant) → OnErr r (now ≡ then) → (lives was : List Life)
-        → OnErr r (lives ≡ was) → (limit : ℕ) (opening : List Store) → OnErr r (seen limit opening new now lives ≡ seen limit opening old then was)
-    same_seen (Ok told) h now then same lives was lived limit opening = tt
-    same_seen (Err f) h now then same lives was lived limit opening = λ i. seen limit opening (h.1 i) (same i) (lived i)
+        → OnErr r (lives ≡ was) → (limit : ℕ) (opening : List Store) (reuses : List Bool) → OnErr r (seen limit opening reuses new now lives ≡ seen limit opening reuses old then was)
+    same_seen (Ok told) h now then same lives was lived limit opening reuses = tt
+    same_seen (Err f) h now then same lives was lived limit opening reuses = λ i. seen limit opening reuses (h.1 i) (same i) (lived i)
+
+-- by the same rules
+pub by_rules : (overtake : ℕ) (a b : List Bool) (old new : World) (e : Event) (r : Result (Option AskFault) WorldFault) → a ≡ b
+    → HappensTellingSo overtake (reuses_by a) old e r new → HappensTellingSo overtake (reuses_by b) old e r new
+by_rules overtake a b old new e r same h = subst (λ (l : List Bool). HappensTellingSo overtake (reuses_by l) old e r new) same h
 
 -- Want of memory.
 
@@ -387,6 +396,11 @@ pub no_memory : {A : Type 0} (overtake : ℕ) (old new : World) (e : Event) (q :
     → (NamesNoNode old e → ⊥) → new ≡ old → Happens overtake old e q new
 no_memory {A} overtake old new e q is memory node same =
     subst (λ (r : Result A WorldFault). Happens overtake old e r new) (sym is) ((memory, node), same)
+
+pub no_memory_so : {A : Type 0} (overtake : ℕ) (u : Reuses) (old new : World) (e : Event) (q : Result A WorldFault) → q ≡ Err fault.NoMemory
+    → TakesMemory overtake old e → (NamesNoNode old e → ⊥) → new ≡ old → HappensSo overtake u old e q new
+no_memory_so {A} overtake u old new e q is memory node same =
+    subst (λ (r : Result A WorldFault). HappensSo overtake u old e r new) (sym is) ((memory, node), same)
 
 pub no_memory_told : (overtake : ℕ) (old new : World) (e : Event) (q : Result (Option AskFault) WorldFault) → q ≡ Err fault.NoMemory
     → TakesMemory overtake old e → (NamesNoNode old e → ⊥) → new ≡ old → HappensTelling overtake old e q new
@@ -427,6 +441,47 @@ told_nothing overtake old new e n (Ok x) r h is =
     subst (λ (q : Result (Option AskFault) WorldFault). HappensTelling overtake old e q new) (sym is) (h.0, tells_none old new e n, h.1, h.2)
 told_nothing overtake old new e n (Err f) r h is =
     subst (λ (q : Result (Option AskFault) WorldFault). HappensTelling overtake old e q new) (sym is) h
+
+-- the same where these nodes let invoke IDs be used again
+pub told_nothing_so : {A : Type 0} (overtake : ℕ) (u : Reuses) (old new : World) (e : Event) → IsNoAsk e → (done : Result A WorldFault)
+    → (r : Result (Option AskFault) WorldFault) → HappensSo overtake u old e done new → Untells done r → HappensTellingSo overtake u old e r new
+told_nothing_so overtake u old new e n (Ok x) r h is =
+    subst (λ (q : Result (Option AskFault) WorldFault). HappensTellingSo overtake u old e q new) (sym is) (h.0, tells_none old new e n, h.1, h.2)
+told_nothing_so overtake u old new e n (Err f) r h is =
+    subst (λ (q : Result (Option AskFault) WorldFault). HappensTellingSo overtake u old e q new) (sym is) h
+
+-- Events at which no node hears a datagram are the same, whichever nodes let them be used again.
+
+abbrev pub HearsNothing : Event → Type 0
+HearsNothing (Ask client server limits r) = Unit {0}
+HearsNothing (Deliver number) = ⊥
+HearsNothing (Noise node from octets) = ⊥
+HearsNothing (Stray node from octets) = ⊥
+HearsNothing (AskAway client peer limits q) = Unit {0}
+HearsNothing (Tick node) = Unit {0}
+HearsNothing (Restart node exact store) = Unit {0}
+HearsNothing (Begin node exact) = Unit {0}
+HearsNothing (BeginAgain node exact first_id store) = Unit {0}
+HearsNothing (Advance by own) = Unit {0}
+HearsNothing (Change node c) = Unit {0}
+
+step_so : (overtake : ℕ) (u : Reuses) (old new : World) (e : Event) → HearsNothing e → WorldStep overtake old e new → WorldStepSo overtake u old e new
+step_so overtake u old new (Ask client server limits r) n s = s
+step_so overtake u old new (Deliver number) n s = absurd n
+step_so overtake u old new (Noise node from octets) n s = absurd n
+step_so overtake u old new (Stray node from octets) n s = absurd n
+step_so overtake u old new (AskAway client peer limits q) n s = s
+step_so overtake u old new (Tick node) n s = s
+step_so overtake u old new (Restart node exact store) n s = s
+step_so overtake u old new (Begin node exact) n s = s
+step_so overtake u old new (BeginAgain node exact first_id store) n s = s
+step_so overtake u old new (Advance by own) n s = s
+step_so overtake u old new (Change node c) n s = s
+
+pub told_so : (overtake : ℕ) (u : Reuses) (old new : World) (e : Event) (r : Result (Option AskFault) WorldFault)
+    → HappensTelling overtake old e r new → HearsNothing e → HappensTellingSo overtake u old e r new
+told_so overtake u old new e (Ok told) h n = (step_so overtake u old new e n h.0, h.1, h.2, h.3)
+told_so overtake u old new e (Err f) h n = h
 
 -- What is known of a copy that may be delivered.
 

@@ -1,3 +1,7 @@
+pub mod Rules
+pub mod AsksAlone
+pub mod ReusingClaims
+pub mod Strictly
 pub mod Histories
 pub mod OfNone
 pub mod StrangerLogs

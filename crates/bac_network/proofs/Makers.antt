@@ -13,7 +13,7 @@ use Rattle.bac_world.proofs.Steps.{decide_number}
 use Rattle.bac_journal.specs.Entering.{Every}
 use Rattle.bac_journal.specs.Lives.{fresh_life, lives_at}
 use Rattle.bac_journal.specs.Views.{AreLinks}
-use Rattle.bac_network.specs.Fresh.{Maker, fresh_at, greatest_window, links_of, nodes_of, opening_of}
+use Rattle.bac_network.specs.Fresh.{Maker, ruled_at, greatest_window, links_of, nodes_of, opening_of}
 use Rattle.bac_network.specs.Fresh.{HasBadSlotsWithin, HasBadWindow, HaveSameLink, IsGood, IsRightWithin, IsTaken}
 use Rattle.bac_protocol.specs.Pace.{IsTimely, clock_at}
 use Rattle.bac_journal.specs.Clocks.{OwnClocks, clock_of, pace_of}
@@ -114,9 +114,9 @@ less_or_more i j ne = go (nat_lt i j) refl
 
 module _ (t : Instant) (zero : t.moment ≡ 0) (timely : IsTimely (pace_of t.own))
     (shown : (i : ℕ) → clock_of t.moment t.own i ≡ clock_at (pace_of t.own) (clock_of t.moment t.own i).exact)
-    (most overtake : ℕ) (makers : List Maker) (right : IsRightWithin most overtake makers) where
+    (most overtake : ℕ) (reuses : List Bool) (makers : List Maker) (right : IsRightWithin most overtake makers) where
   abbrev first : World
-  first = as_world (fresh_at t overtake makers)
+  first = as_world (ruled_at t overtake reuses makers)
 
   apart : (i j : ℕ) (l : Octets) → link_at first.nodes i ≡ Some l → link_at first.nodes j ≡ Some l → i ≡ j
   apart i j l a b = go (decide_number i j)
@@ -176,7 +176,7 @@ module _ (t : Instant) (zero : t.moment ≡ 0) (timely : IsTimely (pace_of t.own
     room = omega (arith, right.bound);
   }
 
-  kept_fresh : IsKept (greatest_window makers) (links_of makers) (fresh_at t overtake makers)
+  kept_fresh : IsKept (greatest_window makers) (links_of makers) (ruled_at t overtake reuses makers)
   kept_fresh = record {
     history = record {
       first = first;
@@ -191,20 +191,21 @@ module _ (t : Instant) (zero : t.moment ≡ 0) (timely : IsTimely (pace_of t.own
   }
 
   pub kept_first : (window : ℕ) (links : List Octets) (v : WorldView) → window ≡ greatest_window makers → links ≡ links_of makers
-      → v ≡ fresh_at t overtake makers → IsKept window links v
+      → v ≡ ruled_at t overtake reuses makers → IsKept window links v
   kept_first window links v a b d =
       subst (λ w. IsKept w links v) (sym a)
       (subst (λ l. IsKept (greatest_window makers) l v) (sym b)
       (subst (λ x. IsKept (greatest_window makers) (links_of makers) x) (sym d) kept_fresh))
 
 -- what is made, as contracts see it
-pub made_is : (t : Instant) (overtake : ℕ) (makers : List Maker) (opening : List Store) (n : Network) → opening ≡ opening_of makers
+pub made_is : (t : Instant) (overtake : ℕ) (reuses : List Bool) (makers : List Maker) (opening : List Store) (n : Network) → opening ≡ opening_of makers
     → n.nodes.items ≡ nodes_of makers
     → n.journal ≡ record (n.journal) { links = links_of makers; moment = t.moment; own = t.own; lives = map fresh_life (links_of makers); copies = []; notes = [] } → n.log.items ≡ []
-    → view_of overtake opening n ≡ fresh_at t overtake makers
-made_is t overtake makers opening n a b d e = λ i. record {
+    → view_of overtake opening reuses n ≡ ruled_at t overtake reuses makers
+made_is t overtake reuses makers opening n a b d e = λ i. record {
   overtake = overtake;
   opening = a i;
+  reuses = reuses;
   nodes = b i;
   time = record { moment = (d i).moment; own = (d i).own };
   lives = (d i).lives;

@@ -8,7 +8,8 @@ use Rattle.bac_service.specs.Values.{Request}
 use Rattle.bac_transaction.specs.Meanings.{Ending}
 use Rattle.bac_world.specs.Node.{Node}
 use Rattle.bac_world.specs.Once.{Fact, HasRequestsAlone}
-use Rattle.bac_world.specs.World.{World, Copy, Note, WorldStep, IsAsked, MakeRequestsAlone}
+use Rattle.bac_world.specs.ReusingWorlds.{WorldStepSo}
+use Rattle.bac_world.specs.World.{World, Copy, Note, IsAsked, MakeRequestsAlone}
 use Rattle.bac_world.specs.World.Event.{Ask, Deliver}
 use Rattle.bac_world.proofs.Quiet.{alone_after_run}
 use Rattle.bac_journal.specs.declared.copies.Copy as copy
@@ -17,7 +18,10 @@ use Rattle.bac_journal.specs.Notes.{note_view, notes_view}
 use Rattle.bac_journal.specs.Views.{copy_view}
 use Rattle.bac_network.specs.declared.fact.Fact as code
 use Rattle.bac_network.specs.declared.fault.WorldFault.{WorldFault}
-use Rattle.bac_network.specs.Histories.{WorldView, HasHistory, as_world}
+use Rattle.bac_network.specs.declared.running.StraightRun.{StraightRun}
+use Rattle.bac_network.specs.Histories.{HasHistory, HasNoReuse, WorldView, as_world, reuses_of}
+use Rattle.bac_network.specs.Rules.{reuses_by}
+use Rattle.bac_world.specs.ReusingLogs.{NoneReuses}
 use Rattle.bac_network.specs.Steps.{IsFault}
 use Rattle.bac_network.specs.Views.{fact_view, log_view}
 use Rattle.bac_liveness.specs.StraightRuns.{IsStraight, deliveries, ending_in}
@@ -27,24 +31,33 @@ use Rattle.bac_network.specs.Going.{HasGone, HasStopped, IsStuck}
 use Rattle.bac_network.specs.Logs.{IsSince, DeliverUnended, Stops, ending_by}
 use Rattle.bac_network.specs.StraightRuns.{Goes, GoesAt, WentBy, WentSoFar, limits_of_server}
 use Rattle.bac_network.specs.Tells.{LogTells}
-use Rattle.bac_network.proofs.Deliveries.{none_yet, one_more, run_of}
-use Rattle.bac_network.proofs.Grown.{since_grows, delivered_grows}
+use Rattle.bac_network.proofs.Deliveries.{each_strictly, none_yet_so, one_more_so, run_of}
+use Rattle.bac_network.proofs.Grown.{since_grows, delivered_grows_so}
 use Rattle.bac_network.proofs.Tells.{log_tells}
 
 pub gone_none : (ask since first : ℕ) (w : WorldView) → IsSince since ask w.log → HasGone ask since first w w (first - first)
-gone_none ask since first w h = record { each = none_yet w.overtake ask first (as_world w); since_is = h; overtake = refl; opening = refl; passed = refl }
+gone_none ask since first w h = record {
+  each = none_yet_so w.overtake (reuses_of w) ask first (as_world w);
+  since_is = h;
+  overtake = refl;
+  opening = refl;
+  reuses = refl;
+  passed = refl;
+}
 
 pub gone_more : (ask since first number : ℕ) (w u v : WorldView) → first ≤ number → HasGone ask since first w u (number - first)
-    → ending_in ask u.log ≡ None → WorldStep u.overtake (as_world u) (Deliver number) (as_world v) → v.overtake ≡ u.overtake → v.opening ≡ u.opening
-    → v.time ≡ u.time → HasGone ask since first w v (number + 1 - first)
-gone_more ask since first number w u v le h none step overtake opening passed =
-    let did : WorldStep w.overtake (as_world u) (Deliver number) (as_world v) = subst (λ k. WorldStep k (as_world u) (Deliver number) (as_world v)) h.overtake
-    step in
+    → ending_in ask u.log ≡ None → WorldStepSo u.overtake (reuses_of u) (as_world u) (Deliver number) (as_world v) → v.overtake ≡ u.overtake
+    → v.opening ≡ u.opening → v.reuses ≡ u.reuses → v.time ≡ u.time → HasGone ask since first w v (number + 1 - first)
+gone_more ask since first number w u v le h none step overtake opening reuses passed =
+    let did : WorldStepSo w.overtake (reuses_of w) (as_world u) (Deliver number) (as_world v) =
+    subst (λ k. WorldStepSo k (reuses_of w) (as_world u) (Deliver number) (as_world v)) h.overtake
+    (subst (λ (l : List Bool). WorldStepSo u.overtake (reuses_by l) (as_world u) (Deliver number) (as_world v)) h.reuses step) in
     record {
-      each = one_more w.overtake ask first number (as_world w) (as_world u) (as_world v) le h.each none did;
-      since_is = since_grows since ask u.log v.log (delivered_grows w.overtake number (as_world u) (as_world v) did) h.since_is;
+      each = one_more_so w.overtake (reuses_of w) ask first number (as_world w) (as_world u) (as_world v) le h.each none did;
+      since_is = since_grows since ask u.log v.log (delivered_grows_so w.overtake (reuses_of w) number (as_world u) (as_world v) did) h.since_is;
       overtake = overtake ∙ h.overtake;
       opening = opening ∙ h.opening;
+      reuses = reuses ∙ h.reuses;
       passed = passed ∙ h.passed;
     }
 
@@ -67,19 +80,28 @@ stuck_at f ask since first number w u v le h none left why is =
       why = subst (λ k. IsFault f w.overtake (as_world u) (Deliver k)) at (subst (λ k. IsFault f k (as_world u) (Deliver number)) h.overtake why);
     })
 
+-- wherever the deliveries stopped, the rest stays
+pub stays_so : (ask since first : ℕ) (w u : WorldView) (q : Result StraightRun WorldFault)
+    → MatchResult q (λ s. HasStopped ask since first w u s.deliveries × (s.ask ≡ Some ask)) (λ f. IsStuck f ask since first w u)
+    → (u.overtake ≡ w.overtake) × (u.opening ≡ w.opening) × (u.reuses ≡ w.reuses) × (u.time ≡ w.time)
+stays_so ask since first w u (Ok s) h = (h.0.gone.overtake, h.0.gone.opening, h.0.gone.reuses, h.0.gone.passed)
+stays_so ask since first w u (Err f) h = (h.gone.overtake, h.gone.opening, h.gone.reuses, h.gone.passed)
+
 -- what the log of a world with a history tells
 pub tells : (w : WorldView) → HasHistory w → LogTells w.overtake (as_world w)
 tells w h = log_tells h.0 w.overtake h.1.first (as_world w) h.1.fresh h.1.timely h.1.bounded h.1.events h.1.run
 
-module _ (w asked new : WorldView) (h : HasHistory w) (client server : ℕ) (limits : Limits) (r : Request)
-    (asks : IsAsked (as_world w) client server limits r (as_world asked)) (overtake : asked.overtake ≡ w.overtake)
+module _ (w asked new : WorldView) (h : HasHistory w) (strict : HasNoReuse w) (client server : ℕ) (limits : Limits) (r : Request)
+    (asks : IsAsked (as_world w) client server limits r (as_world asked)) (overtake : asked.overtake ≡ w.overtake) (rules : asked.reuses ≡ w.reuses)
     (ask since first : ℕ) (ask_is : ask ≡ length w.notes) (first_is : first ≡ length w.copies) where
   each_of : (count : ℕ) → HasGone ask since first asked new count
       → DeliverUnended w.overtake (length w.notes) count (length w.copies) (as_world asked) (as_world new)
   each_of count g =
       subst (λ k. DeliverUnended k (length w.notes) count (length w.copies) (as_world asked) (as_world new)) overtake
       (subst (λ k. DeliverUnended asked.overtake k count (length w.copies) (as_world asked) (as_world new)) ask_is
-      (subst (λ k. DeliverUnended asked.overtake ask count k (as_world asked) (as_world new)) first_is g.each))
+      (subst (λ k. DeliverUnended asked.overtake ask count k (as_world asked) (as_world new)) first_is
+      (each_strictly asked.overtake (reuses_of asked) ask (subst (λ (l : List Bool). NoneReuses (reuses_by l)) (sym rules) strict) count first (as_world asked)
+      (as_world new) g.each)))
 
   was_straight : (count : ℕ) (ending : Option Ending) → HasStopped ask since first asked new count → ending ≡ ending_in ask new.log
       → IsStraight w.overtake (as_world w) client server limits r ending count (as_world new)

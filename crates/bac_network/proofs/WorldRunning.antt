@@ -1,19 +1,23 @@
 -- Runs, event by event.
-use Rattle.std.proofs.Common.{◌≡◌, ◌↔◌, ℕ, zero, suc, ◌+◌, ◌≤◌, List, [], ◌∷◌, ◌++◌, length, take, Option, Some, Result, Err, IsErrOf, slice_get}
+use Rattle.std.proofs.Common.{◌≡◌, ◌↔◌, ℕ, zero, suc, ◌+◌, ◌≤◌, Bool, List, [], ◌∷◌, ◌++◌, length, take, Option, Some, Result, Err, IsErrOf, slice_get}
 use Rattle.std.proofs.Common.{refl, sym, ap, subst, ◌∙◌, arith}
 use Rattle.bac_world.specs.World as world
-use Rattle.bac_world.specs.World.{World, WorldRun, WorldStep, MakeRequestsAlone}
+use Rattle.bac_world.specs.ReusingWorlds.{WorldRunSo, WorldStepSo}
+use Rattle.bac_world.specs.World.{World, WorldRun, MakeNoStray, MakeRequestsAlone}
 use Rattle.bac_world.proofs.Quiet.{alone_after_run}
 use Rattle.bac_requester.specs.declared.ask_fault.AskFault.{AskFault}
 use Rattle.bac_store.specs.declared.change_fault.ChangeFault.{ChangeFault}
-use Rattle.bac_network.specs.Histories.{WorldView, HasRequestsAloneNow, as_world}
-use Rattle.bac_network.specs.Runs.{StopsAt}
+use Rattle.bac_network.specs.AsksAlone.{HasAsksAloneNow}
+use Rattle.bac_network.specs.Histories.{WorldView, HasHistory, HasRequestsAloneNow, as_world, reuses_of}
+use Rattle.bac_network.specs.Rules.{reuses_by}
+use Rattle.bac_network.specs.Runs.{StopsAtSo}
 use Rattle.bac_network.specs.Steps.{BeginsTooSoon, IsFault, NamesNoCopy, NamesNodeLink, NamesNoNode, PassesClock, RefusesChange, TakesMemory}
 use Rattle.bac_network.specs.Clocks.{Instant}
 use Rattle.bac_network.specs.Views.{event_view, events_view, instant_after, instant_after_all}
 use Rattle.bac_network.specs.declared.event.Event.{Event}
 use Rattle.bac_network.specs.declared.fault.WorldFault.{WorldFault}
 use Rattle.bac_network.specs.declared.fault.WorldFault.TheVariants as fault
+use Rattle.bac_network.proofs.AsksAlone.{asks_alone, no_stranger_after, requests_of}
 use Rattle.bac_network.proofs.Histories.{run_more}
 
 -- Fronts of lists.
@@ -52,16 +56,17 @@ time_goes_on events place event at first mid new before after =
 -- One event more.
 
 pub goes_on : (old mid new : WorldView) (events : List Event) (place : ℕ) (event : Event) → slice_get events place ≡ Some event
-    → WorldRun old.overtake (as_world old) (take place (events_view old.time events)) (as_world mid) → mid.overtake ≡ old.overtake
-    → mid.time ≡ instant_after_all (take place events) old.time
-    → WorldStep mid.overtake (as_world mid) (event_view mid.time event) (as_world new)
-    → WorldRun old.overtake (as_world old) (take (place + 1) (events_view old.time events)) (as_world new)
-goes_on old mid new events place event at done same now step =
-    subst (λ l. WorldRun old.overtake (as_world old) l (as_world new))
+    → WorldRunSo old.overtake (reuses_of old) (as_world old) (take place (events_view old.time events)) (as_world mid) → mid.overtake ≡ old.overtake
+    → mid.reuses ≡ old.reuses → mid.time ≡ instant_after_all (take place events) old.time
+    → WorldStepSo mid.overtake (reuses_of mid) (as_world mid) (event_view mid.time event) (as_world new)
+    → WorldRunSo old.overtake (reuses_of old) (as_world old) (take (place + 1) (events_view old.time events)) (as_world new)
+goes_on old mid new events place event at done same rules now step =
+    subst (λ l. WorldRunSo old.overtake (reuses_of old) (as_world old) l (as_world new))
     (sym (take_next (events_view old.time events) place (event_view mid.time event)
     (seen_at events place event at old.time ∙ ap (λ (t : Instant). Some (event_view t event)) (sym now))))
-    (run_more old.overtake (take place (events_view old.time events)) (event_view mid.time event) (as_world old) (as_world mid) (as_world new) done
-    (subst (λ (v : ℕ). WorldStep v (as_world mid) (event_view mid.time event) (as_world new)) same step))
+    (run_more old.overtake (reuses_of old) (take place (events_view old.time events)) (event_view mid.time event) (as_world old) (as_world mid) (as_world new) done
+    (subst (λ (v : ℕ). WorldStepSo v (reuses_of old) (as_world mid) (event_view mid.time event) (as_world new)) same
+    (subst (λ (l : List Bool). WorldStepSo mid.overtake (reuses_by l) (as_world mid) (event_view mid.time event) (as_world new)) rules step)))
 
 -- All of them.
 
@@ -70,11 +75,11 @@ as_many t [] = refl
 as_many t (e ∷ es) = ap suc (as_many (instant_after e t) es)
 
 pub all_done : (old new : WorldView) (events : List Event) (place : ℕ) → length events ≤ place
-    → WorldRun old.overtake (as_world old) (take place (events_view old.time events)) (as_world new)
-    → WorldRun old.overtake (as_world old) (events_view old.time events) (as_world new)
+    → WorldRunSo old.overtake (reuses_of old) (as_world old) (take place (events_view old.time events)) (as_world new)
+    → WorldRunSo old.overtake (reuses_of old) (as_world old) (events_view old.time events) (as_world new)
 all_done old new events place all done =
     let many = as_many old.time events in
-    subst (λ l. WorldRun old.overtake (as_world old) l (as_world new)) (take_whole (events_view old.time events) place (omega (arith, many, all))) done
+    subst (λ l. WorldRunSo old.overtake (reuses_of old) (as_world old) l (as_world new)) (take_whole (events_view old.time events) place (omega (arith, many, all))) done
 
 pub all_passed : (old new : Instant) (events : List Event) (place : ℕ) → length events ≤ place → new ≡ instant_after_all (take place events) old
     → new ≡ instant_after_all events old
@@ -103,6 +108,33 @@ pub alone_so_far : (old mid : WorldView) (events : List world.Event) (place : �
 alone_so_far old mid events place done before alone =
     alone_after_run old.overtake (take place events) (as_world old) (as_world mid) (alone_front events place alone) done before
 
+-- The same without strangers.
+
+calm_front : (events : List world.Event) (place : ℕ) → MakeNoStray events → MakeNoStray (take place events)
+calm_front [] zero calm = tt
+calm_front [] (suc place) calm = tt
+calm_front (e ∷ events) zero calm = tt
+calm_front (world.Event.Ask client server limits r ∷ events) (suc place) calm = calm_front events place calm
+calm_front (world.Event.Deliver number ∷ events) (suc place) calm = calm_front events place calm
+calm_front (world.Event.Noise node from octets ∷ events) (suc place) calm = calm_front events place calm
+calm_front (world.Event.Stray node from octets ∷ events) (suc place) calm = absurd calm
+calm_front (world.Event.AskAway client peer limits r ∷ events) (suc place) calm = absurd calm
+calm_front (world.Event.Tick node ∷ events) (suc place) calm = calm_front events place calm
+calm_front (world.Event.Advance by own ∷ events) (suc place) calm = calm_front events place calm
+calm_front (world.Event.Change node c ∷ events) (suc place) calm = calm_front events place calm
+calm_front (world.Event.Restart node exact store ∷ events) (suc place) calm = calm_front events place calm
+calm_front (world.Event.Begin node exact ∷ events) (suc place) calm = calm_front events place calm
+calm_front (world.Event.BeginAgain node exact first_id store ∷ events) (suc place) calm = calm_front events place calm
+
+pub asks_so_far : (old mid : WorldView) (events : List world.Event) (place : ℕ) → HasHistory old
+    → WorldRun old.overtake (as_world old) (take place events) (as_world mid) → HasAsksAloneNow old → MakeRequestsAlone events → MakeNoStray events
+    → HasAsksAloneNow mid
+asks_so_far old mid events place history done before alone calm =
+    let parts = requests_of old.log before in
+    asks_alone mid.log (alone_so_far old mid events place done parts.0 alone)
+    (no_stranger_after old.overtake history.1.first (as_world old) (as_world mid) history.1.fresh history.1.events history.1.run (take place events)
+    (calm_front events place calm) done parts.1)
+
 -- A fault.
 
 clash : (r : Result (Option AskFault) WorldFault) → r ≡ Err fault.NoMemory → r ≡ Err fault.NoSuchNode → ⊥
@@ -126,12 +158,12 @@ fault_is fault.NoMemory overtake w e r is node copy link clock soon change memor
 )
 
 pub stops : (f : WorldFault) (old mid new : WorldView) (events : List Event) (place : ℕ) (event : Event) → slice_get events place ≡ Some event
-    → WorldRun old.overtake (as_world old) (take place (events_view old.time events)) (as_world mid) → mid.overtake ≡ old.overtake
+    → WorldRunSo old.overtake (reuses_of old) (as_world old) (take place (events_view old.time events)) (as_world mid) → mid.overtake ≡ old.overtake
     → mid.time ≡ instant_after_all (take place events) old.time → new ≡ mid
     → IsFault f mid.overtake (as_world mid) (event_view mid.time event)
-    → StopsAt (record { place = place; fault = f }) old (events_view old.time events) new
+    → StopsAtSo (record { place = place; fault = f }) old (events_view old.time events) new
 stops f old mid new events place event at done same now is why = record {
-  done = subst (λ (v : WorldView). WorldRun old.overtake (as_world old) (take place (events_view old.time events)) (as_world v)) (sym is) done;
+  done = subst (λ (v : WorldView). WorldRunSo old.overtake (reuses_of old) (as_world old) (take place (events_view old.time events)) (as_world v)) (sym is) done;
   event = event_view mid.time event;
   at = seen_at events place event at old.time ∙ ap (λ (t : Instant). Some (event_view t event)) (sym now);
   fault = subst (λ (v : WorldView). IsFault f old.overtake (as_world v) (event_view mid.time event)) (sym is)

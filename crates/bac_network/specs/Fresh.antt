@@ -1,5 +1,5 @@
 -- Which worlds are made, and what they are then.
-use Rattle.std.specs.Prelude.{◌≡◌, ◌≢◌, ◌<◌, ◌+◌, ◌*◌, ℕ, true, false, List, [], ◌∷◌, length, map, max, None, Some, slice_get}
+use Rattle.std.specs.Prelude.{◌≡◌, ◌≢◌, ◌<◌, ◌+◌, ◌*◌, ℕ, Bool, true, false, List, [], ◌∷◌, length, map, max, None, Some, slice_get}
 use Rattle.bac_protocol.specs.Pace.{IsTimely}
 use Rattle.bac_protocol.specs.Service.{Octets}
 use Rattle.bac_store.specs.Stores.{Store}
@@ -28,12 +28,13 @@ opening_of makers = map (λ (m : Maker). m.1) makers
 abbrev pub nodes_of : List Maker → List Node
 nodes_of makers = map (λ (m : Maker). fresh_node m.0 m.1) makers
 
--- a world to which nothing has happened, at that moment
-abbrev pub fresh_at : Instant → (overtake : ℕ) → List Maker → WorldView
-fresh_at t overtake makers =
+-- a world to which nothing has happened, at that moment, in which those nodes let invoke IDs be used again
+abbrev pub ruled_at : Instant → (overtake : ℕ) → (reuses : List Bool) → List Maker → WorldView
+ruled_at t overtake reuses makers =
     record {
       overtake = overtake;
       opening = opening_of makers;
+      reuses = reuses;
       nodes = nodes_of makers;
       time = t;
       lives = map fresh_life (links_of makers);
@@ -42,12 +43,25 @@ fresh_at t overtake makers =
       notes = [];
     }
 
+-- where none does
+abbrev pub fresh_at : Instant → (overtake : ℕ) → List Maker → WorldView
+fresh_at t overtake makers = ruled_at t overtake [] makers
+
 abbrev pub fresh_world : (overtake : ℕ) → List Maker → WorldView
 fresh_world overtake makers = fresh_at (record { moment = 0; own = None }) overtake makers
+
+-- its nodes have those rules
+abbrev pub ruled_world : (overtake : ℕ) → (reuses : List Bool) → List Maker → WorldView
+ruled_world overtake reuses makers = ruled_at (record { moment = 0; own = None }) overtake reuses makers
 
 -- its nodes have clocks of their own, which begin so
 abbrev pub clock_world : (overtake : ℕ) → List Maker → (drift life : ℕ) → (starts : List ℕ) → WorldView
 clock_world overtake makers drift life starts = fresh_at (record { moment = 0; own = Some (fresh_clocks drift life starts) }) overtake makers
+
+-- both
+abbrev pub ruled_clock_world : (overtake : ℕ) → (reuses : List Bool) → List Maker → (drift life : ℕ) → (starts : List ℕ) → WorldView
+ruled_clock_world overtake reuses makers drift life starts =
+    ruled_at (record { moment = 0; own = Some (fresh_clocks drift life starts) }) overtake reuses makers
 
 -- one of those before a place has that link
 pub record IsTaken (makers : List Maker) (place : ℕ) (link : Octets) : Type 0 where

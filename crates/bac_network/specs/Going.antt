@@ -1,18 +1,19 @@
 -- How far the deliveries of an ask have gone, in code.
 use Rattle.std.specs.Prelude.{◌≡◌, ℕ, ◌+◌, ◌<◌, length, None}
 use Rattle.bac_world.specs.World.Event.{Deliver}
-use Rattle.bac_network.specs.Histories.{WorldView, as_world}
+use Rattle.bac_network.specs.Histories.{WorldView, as_world, reuses_of}
 use Rattle.bac_network.specs.Steps.{IsFault}
 use Rattle.bac_network.specs.declared.fault.WorldFault.{WorldFault}
 use Rattle.bac_liveness.specs.StraightRuns.{ending_in}
-use Rattle.bac_network.specs.Logs.{IsSince, DeliverUnended, Stops}
+use Rattle.bac_network.specs.Logs.{IsSince, DeliverUnendedSo, Stops}
 
 -- so many copies were delivered, from the first of the ask on
 pub record HasGone (ask since first : ℕ) (old new : WorldView) (count : ℕ) : Type 0 where
-  pub each : DeliverUnended old.overtake ask count first (as_world old) (as_world new)
+  pub each : DeliverUnendedSo old.overtake (reuses_of old) ask count first (as_world old) (as_world new)
   pub since_is : IsSince since ask new.log
   pub overtake : new.overtake ≡ old.overtake
   pub opening : new.opening ≡ old.opening
+  pub reuses : new.reuses ≡ old.reuses
   pub passed : new.time ≡ old.time
 
 -- and that was all

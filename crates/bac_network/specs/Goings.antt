@@ -2,8 +2,11 @@
 use Rattle.std.specs.Prelude.{◌≡◌, ℕ, ◌≤◌, List, Some, slice_get}
 use Rattle.bac_protocol.specs.Service.{Octets}
 use Rattle.bac_node.specs.Calls.{ticked}
-use Rattle.bac_world.specs.Node.{Node, Outcome, NodeOn, NodeTick}
-use Rattle.bac_world.specs.World.{World, Copy, IsWithNode, Delivers, link_at}
+use Rattle.bac_world.specs.Node.{Node, Outcome, NodeTick}
+use Rattle.bac_world.specs.ReusingLogs.{Reuses}
+use Rattle.bac_world.specs.ReusingNodes.{NodeHears}
+use Rattle.bac_world.specs.ReusingWorlds.{DeliversSo}
+use Rattle.bac_world.specs.World.{World, Copy, IsWithNode, link_at}
 
 -- a node goes on so, and all others stay
 pub record Goes (old : List Node) (i : ℕ) (how : Node → Node → Type 0) (new : List Node) : Type 0 where
@@ -29,13 +32,13 @@ pub record IsBetween (nodes : List Node) (c : Copy) : Type 0 where
   pub to : slice_get nodes c.to ≡ Some receiver
 
 -- a node heard the copy of that number, and what came of it
-pub record IsHeardCopy (old : List Node) (told : ℕ → ℕ) (copies : List Copy) (number to : ℕ) (o : Outcome) (new : List Node) : Type 0 where
+pub record IsHeardCopy (u : Reuses) (old : List Node) (told : ℕ → ℕ) (copies : List Copy) (number to : ℕ) (o : Outcome) (new : List Node) : Type 0 where
   pub copy : Copy
   pub there : slice_get copies number ≡ Some copy
   pub receiver : to ≡ copy.to
   pub link : Octets
   pub sender : link_at old copy.from ≡ Some link
-  pub goes : Goes old copy.to (λ a b. NodeOn (told copy.to) link copy.octets a b o) new
+  pub goes : Goes old copy.to (λ a b. NodeHears (u copy.to) (told copy.to) link copy.octets a b o) new
 
 -- that comes of a node's tick
 pub record IsDue (nodes : List Node) (now node : ℕ) (o : Outcome) : Type 0 where
@@ -44,7 +47,7 @@ pub record IsDue (nodes : List Node) (now node : ℕ) (o : Outcome) : Type 0 whe
   pub due : NodeTick now before (ticked now before) o
 
 -- the copy of that number was delivered
-pub record Arrives (old : World) (number : ℕ) (new : World) : Type 0 where
+pub record Arrives (u : Reuses) (old : World) (number : ℕ) (new : World) : Type 0 where
   pub copy : Copy
   pub there : slice_get old.copies number ≡ Some copy
-  pub delivers : Delivers old copy new
+  pub delivers : DeliversSo u old copy new

@@ -1,16 +1,19 @@
 -- What contracts see of a world in code, and how it came to be.
-use Rattle.std.specs.Prelude.{◌≡◌, ℕ, List, slice_get}
+use Rattle.std.specs.Prelude.{◌≡◌, ℕ, Bool, List, slice_get}
 use Rattle.bac_protocol.specs.Pace.{IsTimely}
 use Rattle.bac_protocol.specs.Service.{Octets}
 use Rattle.bac_store.specs.Stores.{Store}
 use Rattle.bac_world.specs.Claims.{AreChangesPermitted, AreEndedOnce, ArePerformedOnce, AreReplayed, AreServedApart}
 use Rattle.bac_world.specs.Node.{Node}
 use Rattle.bac_world.specs.Once.{Fact, Stores, HasNoStranger, HasRequestsAlone, IsOnce, IsOnceAmongNodes, IsOnceByRequestsAlone}
+use Rattle.bac_world.specs.ReusingLogs.{IsOnceSo, NoneReuses, Reuses}
+use Rattle.bac_world.specs.ReusingWorlds.{WorldRunSo}
 use Rattle.bac_world.specs.World.{World, Copy, Note, Event, WorldRun, IsFresh, IsBounded, stores_of}
 use Rattle.bac_network.specs.Clocks.{Instant, instant, time_at}
 use Rattle.bac_journal.specs.declared.lives.Life.{Life}
 use Rattle.bac_journal.specs.Lives.{lives_at}
 use Rattle.bac_journal.specs.Views.{AreLinks}
+use Rattle.bac_network.specs.Rules.{reuses_by}
 use Rattle.bac_network.specs.Views.{log_view}
 use Rattle.bac_network.specs.declared.network.Network.{Network}
 
@@ -18,6 +21,7 @@ use Rattle.bac_network.specs.declared.network.Network.{Network}
 pub record WorldView : Type 0 where
   pub overtake : ℕ
   pub opening : List Store
+  pub reuses : List Bool  -- whether a node lets clients use an invoke ID again; one after the list's end does not
   pub nodes : List Node  -- numbered from 0
   pub time : Instant
   pub lives : List Life  -- what each node did so far
@@ -25,11 +29,12 @@ pub record WorldView : Type 0 where
   pub log : List Fact  -- newest first
   pub notes : List Note  -- newest first
 
-abbrev pub view_of : (overtake : ℕ) → List Store → Network → WorldView
-view_of overtake opening n =
+abbrev pub view_of : (overtake : ℕ) → List Store → (reuses : List Bool) → Network → WorldView
+view_of overtake opening reuses n =
     record {
       overtake = overtake;
       opening = opening;
+      reuses = reuses;
       nodes = n.nodes.items;
       time = instant n.journal;
       lives = n.journal.lives;
@@ -45,6 +50,18 @@ as_world w = record { nodes = w.nodes; time = time_at w.time; lives = lives_at w
 -- the stores that the nodes had at first
 abbrev pub opening_stores : WorldView → Stores
 opening_stores w i = slice_get w.opening i
+
+-- which of its nodes let clients use an invoke ID again
+abbrev pub reuses_of : WorldView → Reuses
+reuses_of w = reuses_by w.reuses
+
+-- none does
+abbrev pub HasNoReuse : WorldView → Type 0
+HasNoReuse w = NoneReuses (reuses_of w)
+
+-- the log is right with the stores: every accepted ask was performed at most once, but for a read at a node that lets invoke IDs be used again
+abbrev pub IsOnceSoNow : WorldView → Type 0
+IsOnceSoNow w = IsOnceSo (reuses_of w) (opening_stores w) w.log (stores_of w.nodes)
 
 -- the log is right with the stores: every accepted ask was performed at most once
 abbrev pub IsOnceNow : WorldView → Type 0
@@ -88,7 +105,21 @@ HasNoStrangerNow w = HasNoStranger w.log
 abbrev pub IsOnceAmongNodesNow : WorldView → Type 0
 IsOnceAmongNodesNow w = IsOnceAmongNodes (opening_stores w) w.log (stores_of w.nodes)
 
--- a run of a fresh world with those stores, whose windows are at most W, led to it
+-- a run of a fresh world with those stores, whose windows are at most W, and in which those nodes let invoke IDs be used again, led to it
+pub record HasRunSo (W : ℕ) (w : WorldView) : Type 0 where
+  pub first : World
+  pub events : List Event
+  pub fresh : IsFresh first
+  pub timely : IsTimely first.time.pace
+  pub bounded : IsBounded W w.overtake first
+  pub opening : (i : ℕ) → stores_of first.nodes i ≡ opening_stores w i
+  pub run : WorldRunSo w.overtake (reuses_of w) first events (as_world w)
+
+-- some such run did
+abbrev pub HasHistorySo : WorldView → Type 0
+HasHistorySo w = (W : ℕ) × HasRunSo W w
+
+-- a run in which no node does led to it
 pub record HasRun (W : ℕ) (w : WorldView) : Type 0 where
   pub first : World
   pub events : List Event
@@ -104,5 +135,5 @@ HasHistory w = (W : ℕ) × HasRun W w
 
 -- what is kept of it: the greatest window, and the nodes' links
 pub record IsKept (window : ℕ) (links : List Octets) (w : WorldView) : Type 0 where
-  pub history : HasRun window w
+  pub history : HasRunSo window w
   pub linked : AreLinks history.first.nodes links

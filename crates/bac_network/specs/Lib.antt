@@ -1,5 +1,6 @@
 pub mod Clocks
 pub mod Faults
+pub mod Rules
 pub mod Views
 pub mod Strangers
 pub mod Networks
@@ -8,6 +9,7 @@ pub mod Entries
 pub mod Asks
 pub mod Steps
 pub mod Histories
+pub mod AsksAlone
 pub mod OfNone
 pub mod StrangerLogs
 pub mod Fresh

@@ -2,6 +2,8 @@
 use Rattle.std.specs.Prelude.{◌≡◌, ◌≢◌, ◌⊎◌, ℕ, zero, suc, ◌≤◌, List, ◌++◌, length, Option, Some, None}
 use Rattle.bac_transaction.specs.Meanings.{Ending}
 use Rattle.bac_world.specs.Once.{Fact}
+use Rattle.bac_world.specs.ReusingLogs.{Reuses}
+use Rattle.bac_world.specs.ReusingWorlds.{WorldStepSo}
 use Rattle.bac_world.specs.World.{World, WorldStep}
 use Rattle.bac_world.specs.World.Event.{Deliver}
 use Rattle.bac_liveness.specs.StraightRuns.{ending_in}
@@ -24,6 +26,12 @@ abbrev pub DeliverUnended : (overtake ask count number : ℕ) → (old new : Wor
 DeliverUnended overtake ask zero number old new = new ≡ old
 DeliverUnended overtake ask (suc count) number old new =
     (ending_in ask old.log ≡ None) × (u : World) × WorldStep overtake old (Deliver number) u × DeliverUnended overtake ask count (suc number) u new
+
+-- the same where these nodes let invoke IDs be used again
+abbrev pub DeliverUnendedSo : (overtake : ℕ) → Reuses → (ask count number : ℕ) → (old new : World) → Type 0
+DeliverUnendedSo overtake u ask zero number old new = new ≡ old
+DeliverUnendedSo overtake u ask (suc count) number old new =
+    (ending_in ask old.log ≡ None) × (v : World) × WorldStepSo overtake u old (Deliver number) v × DeliverUnendedSo overtake u ask count (suc number) v new
 
 -- the ask has ended, or no copy is left from that number on
 abbrev pub Stops : (ask number : ℕ) → World → Type 0

@@ -3,9 +3,10 @@ use Rattle.std.specs.Prelude.{◌≡◌, ◌+◌, ◌≤◌, ℕ, List, Some, le
 use Rattle.bac_protocol.specs.Service.{Octets}
 use Rattle.bac_world.specs.Node.{Node}
 use Rattle.bac_world.specs.Once.{Fact}
+use Rattle.bac_world.specs.ReusingLogs.{Reuses}
 use Rattle.bac_world.specs.World.{World}
 use Rattle.bac_network.specs.Clocks.{instant, time_at, told_at}
-use Rattle.bac_journal.specs.Entering.{CanGoOn}
+use Rattle.bac_journal.specs.Entering.{CanGoOnSo}
 use Rattle.bac_journal.specs.Journals.{JournalView}
 use Rattle.bac_journal.specs.Lives.{lives_at}
 use Rattle.bac_journal.specs.Views.{AreLinks}
@@ -23,9 +24,16 @@ world_of n = world_with n.nodes.items n.journal (log_view n.log.items)
 abbrev pub told_in : Network → (node : ℕ) → ℕ
 told_in n node = told_at (instant n.journal) node
 
--- what comes of a node's call can enter it; the journal has the nodes' links, and no two nodes have one
+-- where these nodes let invoke IDs be used again, what comes of a node's call can enter it; the journal has the nodes' links, and no two nodes have one
+pub record IsReadySo (u : Reuses) (window overtake : ℕ) (n : Network) : Type 0 where
+  pub can : CanGoOnSo u window overtake (world_of n)
+  pub linked : AreLinks n.nodes.items n.journal.links
+  pub apart : (i j : ℕ) (l : Octets) → slice_get n.journal.links i ≡ Some l → slice_get n.journal.links j ≡ Some l → i ≡ j
+
+-- the same, whichever nodes do
 pub record IsReady (window overtake : ℕ) (n : Network) : Type 0 where
-  pub can : CanGoOn window overtake (world_of n)
+  pub reuses : Reuses
+  pub can : CanGoOnSo reuses window overtake (world_of n)
   pub linked : AreLinks n.nodes.items n.journal.links
   pub apart : (i j : ℕ) (l : Octets) → slice_get n.journal.links i ≡ Some l → slice_get n.journal.links j ≡ Some l → i ≡ j
 

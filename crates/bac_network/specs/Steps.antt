@@ -11,6 +11,8 @@ use Rattle.bac_requester.specs.declared.ask_fault.AskFault.TheVariants as ask_fa
 use Rattle.bac_store.specs.AtNode.{change_fault}
 use Rattle.bac_store.specs.declared.change_fault.ChangeFault.{ChangeFault}
 use Rattle.bac_world.specs.Node.{Node, Refusal, NodeRefuses}
+use Rattle.bac_world.specs.ReusingLogs.{Reuses}
+use Rattle.bac_world.specs.ReusingWorlds.{WorldStepSo}
 use Rattle.bac_world.specs.World.{World, Copy, Event, WorldStep, is_quiet, IsAsked, IsAskedAway, IsOfNone, IsRefused, is_deliverable, link_at, told}
 use Rattle.bac_world.specs.World.Event.{Ask, AskAway, Deliver, Noise, Stray, Tick, Advance, Change, Restart, Begin, BeginAgain}
 use Rattle.bac_network.specs.declared.fault.WorldFault.{WorldFault}
@@ -113,6 +115,11 @@ abbrev pub Happens : {A : Type 0} → (overtake : ℕ) → World → Event → R
 Happens overtake old e (Ok x) new = WorldStep overtake old e new × (PassesClock old e → ⊥) × (NamesNodeLink old e → ⊥)
 Happens overtake old e (Err f) new = IsFault f overtake old e × (new ≡ old)
 
+-- the same where these nodes let invoke IDs be used again
+abbrev pub HappensSo : {A : Type 0} → (overtake : ℕ) → Reuses → World → Event → Result A WorldFault → World → Type 0
+HappensSo overtake u old e (Ok x) new = WorldStepSo overtake u old e new × (PassesClock old e → ⊥) × (NamesNodeLink old e → ⊥)
+HappensSo overtake u old e (Err f) new = IsFault f overtake old e × (new ≡ old)
+
 -- Asks.
 
 -- why an ask was refused
@@ -163,6 +170,12 @@ Tells (Some f) old (Change node c) new = ⊥
 abbrev pub HappensTelling : (overtake : ℕ) → World → Event → Result (Option AskFault) WorldFault → World → Type 0
 HappensTelling overtake old e (Ok told) new = WorldStep overtake old e new × Tells told old e new × (PassesClock old e → ⊥) × (NamesNodeLink old e → ⊥)
 HappensTelling overtake old e (Err f) new = IsFault f overtake old e × (new ≡ old)
+
+-- the same where these nodes let invoke IDs be used again
+abbrev pub HappensTellingSo : (overtake : ℕ) → Reuses → World → Event → Result (Option AskFault) WorldFault → World → Type 0
+HappensTellingSo overtake u old e (Ok told) new =
+    WorldStepSo overtake u old e new × Tells told old e new × (PassesClock old e → ⊥) × (NamesNodeLink old e → ⊥)
+HappensTellingSo overtake u old e (Err f) new = IsFault f overtake old e × (new ≡ old)
 
 -- where nothing is told
 abbrev pub Untells : {A : Type 0} → Result A WorldFault → Result (Option AskFault) WorldFault → Type 0

@@ -2,7 +2,7 @@
 ghost use Rattle.std.specs.Prelude.{◌≡◌, ◌↔◌, ◌+◌, ◌<◌, ◌≤◌, ◌⊎◌, ℕ, IsErrOf, IfErr, IfOk, None, OnErr, OnOk, length, slice_get};
 ghost use Rattle.bac_protocol.specs.Pace.{IsTimely};
 ghost use Rattle.bac_journal.specs.Clocks.{drift_of, own_pace, paced};
-ghost use Rattle.bac_network.specs.Fresh.{clock_world, IsRefusedWithClocks, IsRight};
+ghost use Rattle.bac_network.specs.Fresh.{clock_world, ruled_clock_world, IsRefusedWithClocks, IsRight};
 ghost use Rattle.bac_network.specs.Histories.{as_world};
 
 use crate::fault::{NewClocksFault, NewWorldFault, PaceFault};
@@ -33,6 +33,22 @@ impl World {
         ensures right { OnOk result (IsTimely (own_pace pace.drift pace.life) × IsRight overtake nodes.items) }
         ensures refused { IfErr result (λ e. IsRefusedWithClocks e overtake nodes.items pace.drift pace.life starts.now) }
     {
+        World::with_clocks_and_rules(alloc, nodes, overtake, pace, starts, Vec::new(alloc))
+    }
+
+    /// A world as of `with_clocks`, with rules for each node as `with_rules` takes them. It is refused as `with_clocks` refuses it.
+    pub fn with_clocks_and_rules(
+        alloc: Global,
+        nodes: Vec<(Config, Store)>,
+        overtake: u64,
+        pace: Pace,
+        starts: &[u32],
+        reuses: Vec<bool>,
+    ) -> Result<World, NewClocksFault>
+        ensures made { IfOk result (λ w. w ≡ ruled_clock_world overtake reuses.items nodes.items pace.drift pace.life starts.now) }
+        ensures right { OnOk result (IsTimely (own_pace pace.drift pace.life) × IsRight overtake nodes.items) }
+        ensures refused { IfErr result (λ e. IsRefusedWithClocks e overtake nodes.items pace.drift pace.life starts.now) }
+    {
         if !pace.is_timely() {
             return Err(NewClocksFault::BadPace);
         }
@@ -40,7 +56,7 @@ impl World {
             return Err(NewClocksFault::BadStarts);
         }
         let limit = checked(MOST_SLOTS, &nodes, overtake)?;
-        match World::fresh_with_clocks(alloc, nodes, limit, pace, starts) {
+        match World::fresh_with_clocks(alloc, nodes, limit, pace, starts, reuses) {
             Ok(world) => Ok(world),
             Err(NoMemory) => Err(NewClocksFault::NotMade(NewWorldFault::NoMemory)),
         }
@@ -53,11 +69,12 @@ impl World {
         overtake: u8,
         pace: Pace,
         starts: &[u32],
+        reuses: Vec<bool>,
     ) -> Result<World, NoMemory>
         requires right { IsRight overtake makers.items }
         requires timely { IsTimely (own_pace pace.drift pace.life) }
         requires each { length starts.now ≡ length makers.items }
-        ensures { IfOk result (λ w. w ≡ clock_world overtake makers.items pace.drift pace.life starts.now) }
+        ensures { IfOk result (λ w. w ≡ ruled_clock_world overtake reuses.items makers.items pace.drift pace.life starts.now) }
     {
         let window = greatest_window(&makers);
         let opening = stores_of(alloc, &makers)?;
@@ -68,6 +85,7 @@ impl World {
             overtake,
             window,
             opening,
+            reuses,
             network: Network {
                 nodes,
                 journal,
@@ -83,7 +101,7 @@ impl World {
         ensures same { as_world self.new ≡ as_world self.old }
         ensures paced { OnOk result (self.new.time ≡ record (self.old.time) { own = paced node rate self.old.time.own }) }
         ensures err { OnErr result (self.new ≡ self.old) }
-        ensures settings { (self.new.overtake ≡ self.old.overtake) × (self.new.opening ≡ self.old.opening) }
+        ensures settings { (self.new.overtake ≡ self.old.overtake) × (self.new.opening ≡ self.old.opening) × (self.new.reuses ≡ self.old.reuses) }
         ensures node { IsErrOf result PaceFault.NoSuchNode ↔ (slice_get self.old.nodes node ≡ None) }
         ensures within { OnOk result ((1000000 ≤ rate + drift_of self.old.time.own) × (rate ≤ 1000000 + drift_of self.old.time.own)) }
         ensures beyond { IsErrOf result PaceFault.BadPace → (rate + drift_of self.old.time.own < 1000000) ⊎ (1000000 + drift_of self.old.time.own < rate) }

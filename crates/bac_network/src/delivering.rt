@@ -3,8 +3,9 @@ ghost use Rattle.std.specs.Prelude.{◌≡◌, ◌+◌, ℕ, OnErr, OnOk};
 ghost use Rattle.bac_world.specs.World.Event.{Deliver};
 ghost use Rattle.bac_network.specs.Goings.{Arrives};
 ghost use Rattle.bac_network.specs.Clocks.{instant};
-ghost use Rattle.bac_network.specs.Networks.{world_of, HasRoom, IsReady};
-ghost use Rattle.bac_network.specs.Steps.{Happens, TakesMemory};
+ghost use Rattle.bac_network.specs.Networks.{world_of, HasRoom, IsReadySo};
+ghost use Rattle.bac_network.specs.Rules.{reuses_by};
+ghost use Rattle.bac_network.specs.Steps.{HappensSo, TakesMemory};
 
 use crate::entering::enter;
 use crate::fault::WorldFault;
@@ -18,10 +19,11 @@ impl Network {
         &mut self,
         overtake: u8,
         window: u8,
+        reuses: &[bool],
         number: usize,
     ) -> Result<(), WorldFault>
-        requires { IsReady window overtake self.old }
-        ensures happens { Happens overtake (world_of self.old) (Deliver number) result (world_of self.new) }
+        requires { IsReadySo (reuses_by reuses.now) window overtake self.old }
+        ensures happens { HappensSo overtake (reuses_by reuses.now) (world_of self.old) (Deliver number) result (world_of self.new) }
         ensures links { self.new.journal.links ≡ self.old.journal.links }
         ensures stays { instant self.new.journal ≡ instant self.old.journal }
         ensures lived { OnErr result (self.new.journal.lives ≡ self.old.journal.lives) }
@@ -29,35 +31,35 @@ impl Network {
         match self.journal.is_deliverable(overtake, number) {
             None => Err(WorldFault::NoSuchDatagram),
             Some(false) => Ok(()),
-            Some(true) => Ok(self.deliver_now(window, number)?),
+            Some(true) => Ok(self.deliver_now(window, reuses, number)?),
         }
     }
 
     /// A copy that is deliverable is delivered to its node.
-    fn deliver_now(&mut self, window: u8, number: usize) -> Result<(), NoMemory>
-        requires { (overtake : ℕ) × IsReady window overtake self.old × TakesMemory overtake (world_of self.old) (Deliver number) }
-        ensures went { OnOk result (Arrives (world_of self.old) number (world_of self.new)) }
+    fn deliver_now(&mut self, window: u8, reuses: &[bool], number: usize) -> Result<(), NoMemory>
+        requires { (overtake : ℕ) × IsReadySo (reuses_by reuses.now) window overtake self.old × TakesMemory overtake (world_of self.old) (Deliver number) }
+        ensures went { OnOk result (Arrives (reuses_by reuses.now) (world_of self.old) number (world_of self.new)) }
         ensures err { OnErr result (world_of self.new ≡ world_of self.old) }
         ensures links { self.new.journal.links ≡ self.old.journal.links }
         ensures stays { instant self.new.journal ≡ instant self.old.journal }
         ensures lived { OnErr result (self.new.journal.lives ≡ self.old.journal.lives) }
     {
         self.make_room(2, usize::from(window) + 1)?;
-        self.hand_over(window, number)
+        self.hand_over(window, reuses, number)
     }
 
     /// A copy that is deliverable is handed to its node. There is room: a node sends at most a window and one more datagram of it, and at most one ticket ends
     /// and one request is performed.
-    fn hand_over(&mut self, window: u8, number: usize) -> Result<(), NoMemory>
-        requires ready { (overtake : ℕ) × IsReady window overtake self.old × TakesMemory overtake (world_of self.old) (Deliver number) }
+    fn hand_over(&mut self, window: u8, reuses: &[bool], number: usize) -> Result<(), NoMemory>
+        requires ready { (overtake : ℕ) × IsReadySo (reuses_by reuses.now) window overtake self.old × TakesMemory overtake (world_of self.old) (Deliver number) }
         requires room { HasRoom 2 (window + 1) self.old }
-        ensures went { OnOk result (Arrives (world_of self.old) number (world_of self.new)) }
+        ensures went { OnOk result (Arrives (reuses_by reuses.now) (world_of self.old) number (world_of self.new)) }
         ensures err { OnErr result (world_of self.new ≡ world_of self.old) }
         ensures links { self.new.journal.links ≡ self.old.journal.links }
         ensures stays { instant self.new.journal ≡ instant self.old.journal }
         ensures lived { OnErr result (self.new.journal.lives ≡ self.old.journal.lives) }
     {
-        let (to, outcome) = hear_copy(&mut self.nodes, &self.journal, number)?;
+        let (to, outcome) = hear_copy(&mut self.nodes, &self.journal, reuses, number)?;
         enter(
             &self.nodes[to],
             &mut self.journal,

@@ -20,7 +20,7 @@ pub(crate) fn enter(
     node: usize,
     outcome: Outcome,
 )
-    requires can { CanBeEntered journal.old node after.now (outcome_view outcome) }
+    requires can { CanBeEntered journal.old node (outcome_view outcome) }
     requires sender { node < length journal.old.links }
     requires room { length (outcome_view outcome).sends ≤ journal.old.room }
     requires log_room { length log.old.items + length (outcome_view outcome).ended + performances (outcome_view outcome).performed ≤ vec_capacity log.old }

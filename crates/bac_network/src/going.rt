@@ -1,43 +1,77 @@
 //! A node's call among the nodes: it goes on, and all others stay.
-ghost use Rattle.std.specs.Prelude.{◌≡◌, ◌<◌, ◌≤◌, IfOk, IfErr, OnErr, OnOk, IsErrOf, length, map, slice_get, None, Some};
+ghost use Rattle.std.specs.Prelude.{◌≡◌, ◌↔◌, ◌<◌, ◌≤◌, IfOk, IfErr, OnErr, OnOk, IsErrOf, length, map, slice_get, None, Some};
 ghost use Rattle.bac_apdu.specs.Views.{limits_view};
 ghost use Rattle.bac_npdu.specs.Views.{peer_view};
 ghost use Rattle.bac_service.specs.Views.{owned_request_view};
 ghost use Rattle.bac_store.specs.AtNode.{change_fault};
 ghost use Rattle.bac_store.specs.Views.{change_view};
-ghost use Rattle.bac_node.specs.Calls.{Refuses, IsAsked, ticked};
+ghost use Rattle.bac_node.specs.Calls.{IsAsked, IsNotHeard, Refuses, ticked};
 ghost use Rattle.bac_node.specs.Views.{outcome_view};
 ghost use Rattle.bac_world.specs.Laws.{IsMeaningless};
-ghost use Rattle.bac_world.specs.Node.{Node as NodeView, NodeOn, NodeTick, begun_again, restarted, store_after_restart, with_change};
+ghost use Rattle.bac_world.specs.Node.{Node as NodeView, NodeTick, begun_again, restarted, store_after_restart, with_change};
+ghost use Rattle.bac_world.specs.ReusingNodes.{NodeHears};
 ghost use Rattle.bac_world.specs.World.{Copy};
 ghost use Rattle.bac_network.specs.Clocks.{instant, told_at};
 ghost use Rattle.bac_network.specs.Goings.{ArePunctual, Goes, IsBetween, IsHeardCopy, IsPunctual};
+ghost use Rattle.bac_network.specs.Rules.{reuses_by};
 
 use bac_apdu::Limits;
 use bac_journal::Journal;
-use bac_node::{Node, NodeFault, Outcome};
+use bac_node::{Node, NodeFault, Outcome, hears_by_rules};
 use bac_npdu::{LinkAddress, Peer};
 use bac_requester::{AskFault, Asked};
 use bac_service::OwnedRequest;
 use bac_store::{Change, ChangeFault, Store};
+use bac_transaction::Rules;
 use bac_value::NoMemory;
 
-/// A node hears a datagram from a link, at a moment that is not before its latest.
+/// Whether a node lets clients use an invoke ID again as soon as its transaction is over.
+pub(crate) fn reuses_at(reuses: &[bool], node: usize) -> bool
+    ensures { result ≡ reuses_by reuses.now node }
+{
+    match reuses.get(node) {
+        Some(reuse) => *reuse,
+        None => false,
+    }
+}
+
+/// A node hears a datagram as one of a world does that lets clients use invoke IDs again or not; its memory has no bound.
+fn hear_by_rule(
+    node: &mut Node,
+    reuse: bool,
+    now: u64,
+    from: LinkAddress,
+    octets: &[u8],
+) -> Result<Outcome, NodeFault>
+    ensures went { IfOk result (λ o. NodeHears reuse now from octets.now node.old node.new (outcome_view o)) }
+    ensures early { IsErrOf result NodeFault.ClockBack ↔ (now < node.old.latest) }
+    ensures dropped { IsNotHeard node.old.link from octets.now → IsErrOf result NodeFault.NoMemory → ⊥ }
+    ensures err { OnErr result (node.new ≡ node.old) }
+{
+    // by the rules of its setting it hears as such a node
+    hears_by_rules();
+    let rules = Rules::of(reuse);
+    node.hear(&rules, now, from, octets)
+}
+
+/// A node hears a datagram from a link, at a moment that is not before its latest. It lets clients use invoke IDs again or not, and its memory has no
+/// bound.
 pub(crate) fn hear(
     nodes: &mut [Node],
     i: usize,
+    reuse: bool,
     now: u64,
     from: LinkAddress,
     octets: &[u8],
 ) -> Result<Outcome, NoMemory>
     requires there { i < length nodes.old }
     requires punctual { IsPunctual nodes.old i now }
-    ensures went { IfOk result (λ o. Goes nodes.old i (λ a b. NodeOn now from octets.now a b (outcome_view o)) nodes.new) }
+    ensures went { IfOk result (λ o. Goes nodes.old i (λ a b. NodeHears reuse now from octets.now a b (outcome_view o)) nodes.new) }
     ensures meant { IsMeaningless from octets.now → OnErr result ⊥ }
     ensures err { OnErr result (nodes.new ≡ nodes.old) }
 {
     let node = &mut nodes[i];
-    match node.on(now, from, octets) {
+    match hear_by_rule(node, reuse, now, from, octets) {
         Ok(outcome) => Ok(outcome),
         Err(NodeFault::NoMemory) => Err(NoMemory),
         // the moment is not before the node's latest one
@@ -49,16 +83,19 @@ pub(crate) fn hear(
 pub(crate) fn hear_copy(
     nodes: &mut [Node],
     journal: &Journal,
+    reuses: &[bool],
     number: usize,
 ) -> Result<(usize, Outcome), NoMemory>
     requires there { (c : Copy) × (slice_get journal.now.copies number ≡ Some c) × IsBetween nodes.old c }
     requires punctual { ArePunctual nodes.old (told_at (instant journal.now)) }
-    ensures heard { IfOk result (λ r. IsHeardCopy nodes.old (told_at (instant journal.now)) journal.now.copies number r.0 (outcome_view r.1) nodes.new) }
+    ensures heard { IfOk result (λ r. IsHeardCopy (reuses_by reuses.now) nodes.old (told_at (instant journal.now)) journal.now.copies number r.0 (outcome_view r.1) nodes.new) }
     ensures err { OnErr result (nodes.new ≡ nodes.old) }
 {
     let copy = &journal.copies()[number];
     let from = nodes[copy.from].link();
-    let outcome = hear(nodes, copy.to, journal.told(copy.to), from, &copy.octets)?;
+    let reuse = reuses_at(reuses, copy.to);
+    let now = journal.told(copy.to);
+    let outcome = hear(nodes, copy.to, reuse, now, from, &copy.octets)?;
     Ok((copy.to, outcome))
 }
 

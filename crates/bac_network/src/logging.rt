@@ -6,9 +6,14 @@ ghost use Rattle.bac_requester.specs.TransactionViews.{ending_view};
 ghost use Rattle.bac_requester.specs.Views.{ended_view};
 ghost use Rattle.bac_world.specs.Node as world;
 ghost use Rattle.bac_world.specs.Once as once;
-ghost use Rattle.bac_world.specs.World.{AreEnded, AreLogged, IsLogged, IsOfNone, IsServedTo, ending_fact};
+ghost use Rattle.bac_slots.specs.Slots.{value_at};
+ghost use Rattle.bac_protocol.specs.Server.{ServerTransaction};
+ghost use Rattle.bac_transaction.specs.Keys.{same_key};
+ghost use Rattle.bac_transaction.specs.Views.{peer_key_view};
+ghost use Rattle.bac_world.specs.ReusingWorlds.{IsServedSo};
+ghost use Rattle.bac_world.specs.World.{AreEnded, IsLogged, IsOfNone, IsServedTo, ending_fact};
 ghost use Rattle.bac_journal.specs.Views.{AreLinks};
-ghost use Rattle.bac_network.specs.Entries.{AreNoted, HasPeer, HavePeer, IsAskOf, IsKeptFor, performances};
+ghost use Rattle.bac_network.specs.Entries.{AreNoted, EntersLog, HasClient, HaveClient, IsAskOf, IsKeptFor, performances};
 ghost use Rattle.bac_network.specs.Views.{fact_view, log_view};
 
 use crate::fact::Fact;
@@ -16,6 +21,7 @@ use bac_journal::{Journal, Transaction};
 use bac_node::Node;
 use bac_requester::{Ended, Ending};
 use bac_responder::{Act, Effect};
+use bac_transaction::PeerKey;
 
 /// The ending of an ask of that number, of a node or of a stranger.
 fn ending_fact(away: bool, number: usize, how: Ending) -> Fact
@@ -82,18 +88,26 @@ fn performed_fact(journal: &Journal, client: usize, node: usize, act: Act) -> Fa
     }
 }
 
-/// What was performed for a stranger, in an entry that the node keeps.
+/// When the entry began in which a request was performed: now, where a read has none.
+fn begin_of(after: &Node, key: &PeerKey) -> u64
+    ensures { (entry : ServerTransaction) → value_at same_key (peer_key_view key.now) after.now.servers.slots ≡ Some entry → result ≡ entry.begin }
+{
+    match after.entry_begin(key) {
+        Some(begin) => begin,
+        None => after.latest(),
+    }
+}
+
+/// What was performed for a stranger, in an entry if the node keeps one.
 fn served_fact(after: &Node, node: usize, act: Act) -> Fact
-    requires { IsKeptFor after.now (performed_view act) }
-    ensures { (nodes : List world.Node) → IsOfNone nodes act.key.peer.link → (log : List once.Fact)
+    ensures kept { IsKeptFor after.now (performed_view act) → (nodes : List world.Node) → IsOfNone nodes act.key.peer.link → (log : List once.Fact)
         → IsServedTo nodes node after.now (performed_view act) log (fact_view result ∷ log) }
+    ensures served { (nodes : List world.Node) → IsOfNone nodes act.key.peer.link → (log : List once.Fact)
+        → IsServedSo nodes node (performed_view act) log (fact_view result ∷ log) }
 {
     let Act { key, effect } = act;
     let Effect { request, reply } = effect;
-    // no node of a world uses invoke IDs again, so each performance has its entry
-    let Some(begin) = after.entry_begin(&key) else {
-        unreachable!()
-    };
+    let begin = begin_of(after, &key);
     Fact::Served {
         peer: key.peer,
         node,
@@ -106,9 +120,9 @@ fn served_fact(after: &Node, node: usize, act: Act) -> Fact
 
 /// What was performed, as a fact: for a node or for a stranger.
 fn act_fact(after: &Node, journal: &Journal, node: usize, act: Act) -> Fact
-    requires peer { HasPeer journal.now node after.now (performed_view act) }
+    requires client { HasClient journal.now node (performed_view act) }
     ensures { (nodes : List world.Node) → AreLinks nodes journal.now.links → (log : List once.Fact)
-        → AreLogged nodes journal.now.notes node after.now (Some (performed_view act)) log (fact_view result ∷ log) }
+        → EntersLog nodes journal.now.notes node after.now (Some (performed_view act)) log (fact_view result ∷ log) }
 {
     match journal.node_of(act.key.peer.link) {
         Some(client) => performed_fact(journal, client, node, act),
@@ -125,9 +139,9 @@ pub(crate) fn log_performed(
     act: Option<Act>,
 )
     requires room { length log.old.items + performances (option_map performed_view act) ≤ vec_capacity log.old }
-    requires peer { HavePeer journal.now node after.now (option_map performed_view act) }
+    requires client { HaveClient journal.now node (option_map performed_view act) }
     ensures log { (nodes : List world.Node) → AreLinks nodes journal.now.links
-        → AreLogged nodes journal.now.notes node after.now (option_map performed_view act) (log_view log.old.items) (log_view log.new.items) }
+        → EntersLog nodes journal.now.notes node after.now (option_map performed_view act) (log_view log.old.items) (log_view log.new.items) }
 {
     if let Some(act) = act {
         log.push_reserved(act_fact(after, journal, node, act));

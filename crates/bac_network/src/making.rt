@@ -2,7 +2,7 @@
 ghost use Rattle.std.specs.Prelude.{◌≡◌, ◌↔◌, ◌<◌, ◌+◌, ◌*◌, ◌≤◌, IfErr, IfOk, IfSome, IsTrue, None, OnOk, length};
 ghost use Rattle.bac_node.specs.Fresh.{fresh_node, has_slots_within, window_fits};
 ghost use Rattle.bac_journal.specs.Entering.{Every};
-ghost use Rattle.bac_network.specs.Fresh.{fresh_world, greatest_window, links_of, nodes_of, opening_of};
+ghost use Rattle.bac_network.specs.Fresh.{fresh_world, greatest_window, links_of, nodes_of, opening_of, ruled_world};
 ghost use Rattle.bac_network.specs.Fresh.{HasBadSlotsWithin, HasBadWindow, HaveSameLink, IsGood, IsRefusedFor, IsRefusedWithin, IsRight, IsRightWithin, IsTaken};
 
 use crate::fault::NewWorldFault;
@@ -206,8 +206,7 @@ impl World {
         ensures right { OnOk result (IsRight overtake nodes.items) }
         ensures refused { IfErr result (λ e. IsRefusedFor e overtake nodes.items) }
     {
-        let limit = checked(MOST_SLOTS, &nodes, overtake)?;
-        Ok(World::fresh(alloc, nodes, limit, MOST_SLOTS)?)
+        World::made(alloc, nodes, overtake, MOST_SLOTS, Vec::new(alloc))
     }
 
     /// A world as one of `new`, whose nodes may have up to 65,536 slots in each table.
@@ -222,8 +221,42 @@ impl World {
         ensures right { OnOk result (IsRightWithin 65536 overtake nodes.items) }
         ensures refused { IfErr result (λ e. IsRefusedWithin 65536 e overtake nodes.items) }
     {
-        let limit = checked(MOST_LARGE_SLOTS, &nodes, overtake)?;
-        Ok(World::fresh(alloc, nodes, limit, MOST_LARGE_SLOTS)?)
+        World::made(alloc, nodes, overtake, MOST_LARGE_SLOTS, Vec::new(alloc))
+    }
+
+    /// A world as one of `with_large_tables`, with rules for each node: one of which `reuses` says so, by its number, lets clients use an invoke ID again as
+    /// soon as its transaction is over (clause 5.4). It performs each read anew, and shares its slots among addresses. A node after the list's end is strict, as
+    /// all are in the other worlds. No node has a bound on the octets that it keeps.
+    ///
+    /// It is refused as `with_large_tables` refuses it.
+    pub fn with_rules(
+        alloc: Global,
+        nodes: Vec<(Config, Store)>,
+        overtake: u64,
+        reuses: Vec<bool>,
+    ) -> Result<World, NewWorldFault>
+        ensures made { IfOk result (λ w. w ≡ ruled_world overtake reuses.items nodes.items) }
+        ensures right { OnOk result (IsRightWithin 65536 overtake nodes.items) }
+        ensures refused { IfErr result (λ e. IsRefusedWithin 65536 e overtake nodes.items) }
+    {
+        World::made(alloc, nodes, overtake, MOST_LARGE_SLOTS, reuses)
+    }
+
+    /// A world of these nodes, whose tables have so many slots at the most, or the first reason why not.
+    fn made(
+        alloc: Global,
+        nodes: Vec<(Config, Store)>,
+        overtake: u64,
+        most: usize,
+        reuses: Vec<bool>,
+    ) -> Result<World, NewWorldFault>
+        requires { most ≤ 65536 }
+        ensures made { IfOk result (λ w. w ≡ ruled_world overtake reuses.items nodes.items) }
+        ensures right { OnOk result (IsRightWithin most overtake nodes.items) }
+        ensures refused { IfErr result (λ e. IsRefusedWithin most e overtake nodes.items) }
+    {
+        let limit = checked(most, &nodes, overtake)?;
+        Ok(World::fresh(alloc, nodes, limit, most, reuses)?)
     }
 
     /// A world of nodes that are right, whose tables have so many slots at the most.
@@ -232,10 +265,11 @@ impl World {
         makers: Vec<(Config, Store)>,
         overtake: u8,
         most: usize,
+        reuses: Vec<bool>,
     ) -> Result<World, NoMemory>
         requires right { IsRightWithin most overtake makers.items }
         requires most { most ≤ 65536 }
-        ensures { IfOk result (λ w. w ≡ fresh_world overtake makers.items) }
+        ensures { IfOk result (λ w. w ≡ ruled_world overtake reuses.items makers.items) }
     {
         let window = greatest_window(&makers);
         let opening = stores_of(alloc, &makers)?;
@@ -246,6 +280,7 @@ impl World {
             overtake,
             window,
             opening,
+            reuses,
             network: Network {
                 nodes,
                 journal,

@@ -1,7 +1,8 @@
 //! Nodes, and what is kept beside them.
 ghost use Rattle.std.specs.Prelude.{◌≡◌, OnErr, OnOk};
-ghost use Rattle.bac_network.specs.Networks.{world_of, AreAlike, HasRoom, IsReady};
-ghost use Rattle.bac_network.specs.Steps.{HappensTelling, Untells};
+ghost use Rattle.bac_network.specs.Networks.{world_of, AreAlike, HasRoom, IsReady, IsReadySo};
+ghost use Rattle.bac_network.specs.Rules.{reuses_by};
+ghost use Rattle.bac_network.specs.Steps.{HappensTellingSo, Untells};
 ghost use Rattle.bac_network.specs.Clocks.{instant};
 ghost use Rattle.bac_network.specs.Views.{event_view, instant_after};
 
@@ -32,16 +33,19 @@ impl Network {
         self.journal.reserve(copies)
     }
 
-    /// An event happens, or a fault says why not, and nothing changes. The fault of a refused ask is told.
+    /// An event happens, or a fault says why not, and nothing changes. The fault of a refused ask is told. Those nodes let invoke IDs be used again of
+    /// which the list says it.
     pub(crate) fn step(
         &mut self,
         alloc: Global,
         overtake: u8,
         window: u8,
+        reuses: &[bool],
         event: &Event,
     ) -> Result<Option<AskFault>, WorldFault>
-        requires { IsReady window overtake self.old }
-        ensures happens { HappensTelling overtake (world_of self.old) (event_view (instant self.old.journal) event.now) result (world_of self.new) }
+        requires ready { IsReady window overtake self.old }
+        requires hears { IsReadySo (reuses_by reuses.now) window overtake self.old }
+        ensures happens { HappensTellingSo overtake (reuses_by reuses.now) (world_of self.old) (event_view (instant self.old.journal) event.now) result (world_of self.new) }
         ensures links { self.new.journal.links ≡ self.old.journal.links }
         ensures passed { OnOk result (instant self.new.journal ≡ instant_after event.now (instant self.old.journal)) }
         ensures stays { OnErr result (instant self.new.journal ≡ instant self.old.journal) }
@@ -54,10 +58,12 @@ impl Network {
                 limits,
                 request,
             } => self.ask(alloc, window, *client, *server, limits, request),
-            Event::Deliver { number } => untold(self.deliver(overtake, window, *number)),
-            Event::Noise { node, from, octets } => untold(self.hear_noise(*node, *from, octets)),
+            Event::Deliver { number } => untold(self.deliver(overtake, window, reuses, *number)),
+            Event::Noise { node, from, octets } => {
+                untold(self.hear_noise(reuses, *node, *from, octets))
+            }
             Event::Stranger { node, from, octets } => {
-                untold(self.hear_stranger(window, *node, *from, octets))
+                untold(self.hear_stranger(window, reuses, *node, *from, octets))
             }
             Event::AskStranger {
                 node,

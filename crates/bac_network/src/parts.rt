@@ -26,3 +26,15 @@ impl Alike for Node {
         self.same(other)
     }
 }
+
+impl Alike for bool {
+    ghost use Rattle.std.specs.Prelude.{Bool};
+
+    ghost Seen = { Bool };
+
+    ghost seen = { λ s. s };
+
+    fn is_alike(&self, other: &bool) -> bool {
+        *self == *other
+    }
+}

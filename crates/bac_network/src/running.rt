@@ -1,13 +1,13 @@
 //! The straight run.
-ghost use Rattle.std.specs.Prelude.{◌≡◌, ◌+◌, ◌<◌, ◌^◌, IfErr, IfOk, OnErr, OnOk, MatchBool, MatchOption, MatchResult, None, Some, length, slice_get};
+ghost use Rattle.std.specs.Prelude.{◌≡◌, ◌⊎◌, ◌+◌, ◌<◌, ◌^◌, [], IfErr, IfOk, OnErr, OnOk, MatchBool, MatchOption, MatchResult, None, Some, length, slice_get};
 ghost use Rattle.bac_apdu.specs.Views.{limits_view};
 ghost use Rattle.bac_service.specs.Views.{owned_request_view};
 ghost use Rattle.bac_requester.specs.TransactionViews.{ending_view};
 ghost use Rattle.bac_world.specs.Node.{Node};
-ghost use Rattle.bac_world.specs.World.{WorldStep};
+ghost use Rattle.bac_world.specs.ReusingWorlds.{WorldStepSo};
 ghost use Rattle.bac_world.specs.World.Event.{Ask, Deliver};
 ghost use Rattle.bac_network.specs.Histories.{AreChangesPermittedNow, AreEndedOnceNow, ArePerformedOnceNow, AreReplayedNow, HasHistory};
-ghost use Rattle.bac_network.specs.Histories.{HasRequestsAloneNow, IsOnceByRequestsAloneNow, IsOnceNow, as_world};
+ghost use Rattle.bac_network.specs.Histories.{HasNoReuse, HasRequestsAloneNow, IsOnceByRequestsAloneNow, IsOnceNow, IsOnceSoNow, as_world, reuses_of};
 ghost use Rattle.bac_network.specs.OfNone.{HasStrangersOfNoneNow};
 ghost use Rattle.bac_network.specs.Steps.{IsFault};
 ghost use Rattle.bac_liveness.specs.StraightRuns.{ending_in};
@@ -87,6 +87,7 @@ fn ask(
     ensures err { OnErr result (world.new ≡ world.old) }
     ensures overtake { world.new.overtake ≡ world.old.overtake }
     ensures opening { world.new.opening ≡ world.old.opening }
+    ensures rules { world.new.reuses ≡ world.old.reuses }
     ensures passed { world.new.time ≡ world.old.time }
 {
     let event = Event::Ask {
@@ -118,11 +119,12 @@ fn is_over(world: &World, ask: usize, since: usize, number: usize) -> bool
 
 /// Delivers a copy. After an error the world is as before.
 fn deliver(world: &mut World, number: usize) -> Result<(), WorldFault>
-    ensures went { OnOk result (WorldStep world.old.overtake (as_world world.old) (Deliver number) (as_world world.new)) }
+    ensures went { OnOk result (WorldStepSo world.old.overtake (reuses_of world.old) (as_world world.old) (Deliver number) (as_world world.new)) }
     ensures fault { IfErr result (λ f. IsFault f world.old.overtake (as_world world.old) (Deliver number)) }
     ensures err { OnErr result (world.new ≡ world.old) }
     ensures overtake { world.new.overtake ≡ world.old.overtake }
     ensures opening { world.new.opening ≡ world.old.opening }
+    ensures rules { world.new.reuses ≡ world.old.reuses }
     ensures passed { world.new.time ≡ world.old.time }
 {
     world.step(&Event::Deliver { number })?;
@@ -165,6 +167,17 @@ fn deliver_all(
     })
 }
 
+/// How many of the oldest facts tell no ending of the next ask: all. Where nodes have rules of their own none is left out, whose number is no less right.
+fn facts_before(world: &World) -> usize
+    ensures { (result ≡ 0) ⊎ ((world.now.reuses ≡ []) × (result ≡ length world.now.log)) }
+{
+    if world.reuses().is_empty() {
+        world.log().len()
+    } else {
+        0
+    }
+}
+
 /// Asks with these limits of the server, and delivers the copies that arise.
 fn ask_and_deliver(
     world: &mut World,
@@ -173,16 +186,17 @@ fn ask_and_deliver(
     limits: Limits,
     request: OwnedRequest,
 ) -> Result<StraightRun, WorldFault>
-    requires { HasHistory world.old }
-    ensures goes { MatchResult result (λ s. Goes world.old.overtake (as_world world.old) client server (limits_view limits) (owned_request_view request)
+    requires { HasNoReuse world.old → HasHistory world.old }
+    ensures goes { HasNoReuse world.old → MatchResult result (λ s. Goes world.old.overtake (as_world world.old) client server (limits_view limits) (owned_request_view request)
         (ending_by s.ask world.new.log) s.deliveries (as_world world.new))
         (λ f. Fails f world.old.overtake (as_world world.old) client server (limits_view limits) (owned_request_view request) (as_world world.new)) }
     ensures overtake { world.new.overtake ≡ world.old.overtake }
     ensures opening { world.new.opening ≡ world.old.opening }
+    ensures rules { world.new.reuses ≡ world.old.reuses }
     ensures passed { world.new.time ≡ world.old.time }
 {
     let number = world.asks().len();
-    let since = world.log().len();
+    let since = facts_before(world);
     let first = world.copies().len();
     if ask(world, client, server, limits, request)? {
         deliver_all(world, number, since, first)
@@ -199,29 +213,34 @@ fn ask_and_deliver(
 ///
 /// It stops at the first event that fails, and returns its fault; the events before it have happened. Errors: `NoSuchNode` where the world lacks one of the
 /// nodes, and then nothing has changed; `NoMemory` where an allocation fails. No other: each copy that it delivers is there. It takes no memory of its own.
+///
+/// Where nodes let invoke IDs be used again, it is a run of the world as any other, by what `World::step` says.
 pub fn straight(
     world: &mut World,
     client: usize,
     server: usize,
     request: OwnedRequest,
 ) -> Result<StraightRun, WorldFault>
-    ensures run { WentSoFar world.old.overtake (as_world world.old) client server (owned_request_view request) (as_world world.new) }
-    ensures goes { IfOk result (λ s. GoesAt world.old.overtake (as_world world.old) client server (owned_request_view request)
+    ensures run { HasNoReuse world.old → WentSoFar world.old.overtake (as_world world.old) client server (owned_request_view request) (as_world world.new) }
+    ensures goes { HasNoReuse world.old → IfOk result (λ s. GoesAt world.old.overtake (as_world world.old) client server (owned_request_view request)
         (ending_by s.ask world.new.log) s.deliveries (as_world world.new)) }
-    ensures stopped { IfErr result (λ f. StopsShort f world.old.overtake (as_world world.old) client server (owned_request_view request) (as_world world.new)) }
-    ensures answered { (a b : Node) → CanBeAnswered world.old.overtake (as_world world.old) client server a b (owned_request_view request)
+    ensures stopped { HasNoReuse world.old
+        → IfErr result (λ f. StopsShort f world.old.overtake (as_world world.old) client server (owned_request_view request) (as_world world.new)) }
+    ensures answered { HasNoReuse world.old → (a b : Node) → CanBeAnswered world.old.overtake (as_world world.old) client server a b (owned_request_view request)
         → IfOk result (λ s. IsAnsweredSoon (as_world world.old) client server a b (owned_request_view request)
         (ending_by s.ask world.new.log) s.deliveries (as_world world.new)) }
     ensures overtake { world.new.overtake ≡ world.old.overtake }
     ensures opening { world.new.opening ≡ world.old.opening }
+    ensures rules { world.new.reuses ≡ world.old.reuses }
     ensures passed { world.new.time ≡ world.old.time }
-    ensures once { IsOnceNow world.new }
-    ensures performed { ArePerformedOnceNow world.new }
+    ensures once { IsOnceSoNow world.new }
+    ensures once_without_reuse { HasNoReuse world.old → IsOnceNow world.new }
+    ensures performed { HasNoReuse world.old → ArePerformedOnceNow world.new }
     ensures ended { AreEndedOnceNow world.new }
     ensures permitted { AreChangesPermittedNow world.new }
     ensures stores { AreReplayedNow world.new }
     ensures strangers { HasStrangersOfNoneNow world.new }
-    ensures requests_alone { HasRequestsAloneNow world.old → IsOnceByRequestsAloneNow world.new }
+    ensures requests_alone { HasNoReuse world.old → HasRequestsAloneNow world.old → IsOnceByRequestsAloneNow world.new }
 {
     // the laws of every world, here and where the run ends
     world.is_once();

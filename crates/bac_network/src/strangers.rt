@@ -1,14 +1,16 @@
 //! Octets of strangers.
 ghost use Rattle.std.specs.Prelude.{◌≡◌, ◌+◌, ◌<◌, ℕ, OnErr, OnOk, length};
-ghost use Rattle.bac_world.specs.World.{HearsStranger, IsOfNone};
+ghost use Rattle.bac_world.specs.ReusingWorlds.{HearsOutsideSo};
+ghost use Rattle.bac_world.specs.World.{IsOfNone};
 ghost use Rattle.bac_world.specs.World.Event.{Stray};
 ghost use Rattle.bac_network.specs.Clocks.{instant};
-ghost use Rattle.bac_network.specs.Networks.{world_of, HasRoom, IsReady};
-ghost use Rattle.bac_network.specs.Steps.{Happens};
+ghost use Rattle.bac_network.specs.Networks.{world_of, HasRoom, IsReadySo};
+ghost use Rattle.bac_network.specs.Rules.{reuses_by};
+ghost use Rattle.bac_network.specs.Steps.{HappensSo};
 
 use crate::entering::enter;
 use crate::fault::WorldFault;
-use crate::going::hear;
+use crate::going::{hear, reuses_at};
 use crate::network::Network;
 use bac_npdu::LinkAddress;
 use bac_value::NoMemory;
@@ -18,12 +20,13 @@ impl Network {
     pub(crate) fn hear_stranger(
         &mut self,
         window: u8,
+        reuses: &[bool],
         node: usize,
         from: LinkAddress,
         octets: &[u8],
     ) -> Result<(), WorldFault>
-        requires { (overtake : ℕ) × IsReady window overtake self.old }
-        ensures happens { (overtake : ℕ) → Happens overtake (world_of self.old) (Stray node from octets.now) result (world_of self.new) }
+        requires { (overtake : ℕ) × IsReadySo (reuses_by reuses.now) window overtake self.old }
+        ensures happens { (overtake : ℕ) → HappensSo overtake (reuses_by reuses.now) (world_of self.old) (Stray node from octets.now) result (world_of self.new) }
         ensures links { self.new.journal.links ≡ self.old.journal.links }
         ensures stays { instant self.new.journal ≡ instant self.old.journal }
         ensures lived { OnErr result (self.new.journal.lives ≡ self.old.journal.lives) }
@@ -33,7 +36,7 @@ impl Network {
         }
         match self.journal.node_of(from) {
             Some(_node) => Err(WorldFault::NodeLink),
-            None => Ok(self.hear_from_outside(window, node, from, octets)?),
+            None => Ok(self.hear_from_outside(window, reuses, node, from, octets)?),
         }
     }
 
@@ -41,21 +44,22 @@ impl Network {
     fn hear_from_outside(
         &mut self,
         window: u8,
+        reuses: &[bool],
         node: usize,
         from: LinkAddress,
         octets: &[u8],
     ) -> Result<(), NoMemory>
-        requires ready { (overtake : ℕ) × IsReady window overtake self.old }
+        requires ready { (overtake : ℕ) × IsReadySo (reuses_by reuses.now) window overtake self.old }
         requires there { node < length self.old.nodes.items }
         requires stranger { IsOfNone self.old.nodes.items from }
-        ensures went { OnOk result (HearsStranger (world_of self.old) node from octets.now (world_of self.new)) }
+        ensures went { OnOk result (HearsOutsideSo (IsOfNone self.old.nodes.items from) (reuses_by reuses.now) (world_of self.old) node from octets.now (world_of self.new)) }
         ensures err { OnErr result (world_of self.new ≡ world_of self.old) }
         ensures links { self.new.journal.links ≡ self.old.journal.links }
         ensures stays { instant self.new.journal ≡ instant self.old.journal }
         ensures lived { OnErr result (self.new.journal.lives ≡ self.old.journal.lives) }
     {
         self.make_room(2, usize::from(window) + 1)?;
-        self.hear_with_room(window, node, from, octets)
+        self.hear_with_room(window, reuses, node, from, octets)
     }
 
     /// A node hears octets from a link of no node, where there is room for what comes of them. It sends at most a window and one more datagram; at
@@ -63,21 +67,24 @@ impl Network {
     fn hear_with_room(
         &mut self,
         window: u8,
+        reuses: &[bool],
         node: usize,
         from: LinkAddress,
         octets: &[u8],
     ) -> Result<(), NoMemory>
-        requires ready { (overtake : ℕ) × IsReady window overtake self.old }
+        requires ready { (overtake : ℕ) × IsReadySo (reuses_by reuses.now) window overtake self.old }
         requires there { node < length self.old.nodes.items }
         requires stranger { IsOfNone self.old.nodes.items from }
         requires room { HasRoom 2 (window + 1) self.old }
-        ensures went { OnOk result (HearsStranger (world_of self.old) node from octets.now (world_of self.new)) }
+        ensures went { OnOk result (HearsOutsideSo (IsOfNone self.old.nodes.items from) (reuses_by reuses.now) (world_of self.old) node from octets.now (world_of self.new)) }
         ensures err { OnErr result (world_of self.new ≡ world_of self.old) }
         ensures links { self.new.journal.links ≡ self.old.journal.links }
         ensures stays { instant self.new.journal ≡ instant self.old.journal }
         ensures lived { OnErr result (self.new.journal.lives ≡ self.old.journal.lives) }
     {
-        let outcome = hear(&mut self.nodes, node, self.journal.told(node), from, octets)?;
+        let reuse = reuses_at(reuses, node);
+        let now = self.journal.told(node);
+        let outcome = hear(&mut self.nodes, node, reuse, now, from, octets)?;
         enter(
             &self.nodes[node],
             &mut self.journal,

@@ -2,16 +2,19 @@
 ghost use Rattle.std.specs.Prelude.{◌≡◌, ◌≤◌, ◌↔◌, ◌∷◌, [], ℕ, IsErrOf, IsTrue, IfErr, IfOk, OnErr, OnOk, MatchOption, MatchResult, None, Some};
 ghost use Rattle.std.specs.Prelude.{length, map, slice_get, take};
 ghost use Rattle.bac_store.specs.declared.change_fault.ChangeFault.{ChangeFault};
+ghost use Rattle.bac_world.specs.ReusingWorlds.{WorldRunSo, WorldStepSo};
 ghost use Rattle.bac_world.specs.World.{WorldRun, WorldStep, stores_of};
 ghost use Rattle.bac_journal.specs.Clocks.{parts_of};
 ghost use Rattle.bac_journal.specs.Notes.{notes_view};
 ghost use Rattle.bac_journal.specs.Views.{copy_view};
+ghost use Rattle.bac_network.specs.AsksAlone.{HasAsksAloneNow, IsOnceOfAsksNow};
+ghost use Rattle.bac_network.specs.Histories.{HasHistorySo, HasNoReuse, IsOnceSoNow, reuses_of};
 ghost use Rattle.bac_network.specs.Histories.{AreChangesPermittedNow, AreEndedOnceNow, ArePerformedOnceNow, AreReplayedNow, HasHistory};
 ghost use Rattle.bac_network.specs.Histories.{AreServedApartNow, HasNoStrangerNow, HasRequestsAloneNow, IsOnceAmongNodesNow, IsOnceByRequestsAloneNow};
 ghost use Rattle.bac_network.specs.Histories.{IsOnceNow, as_world};
 ghost use Rattle.bac_network.specs.OfNone.{HasStrangersOfNoneNow};
 ghost use Rattle.bac_network.specs.Steps.{BeginsTooSoon, NamesNoCopy, NamesNoNode, NamesNodeLink, PassesClock, RefusesChange, TakesMemory, Tells};
-ghost use Rattle.bac_network.specs.Runs.{RequestsTakeEffectOnce, StopsAt};
+ghost use Rattle.bac_network.specs.Runs.{AsksTakeEffectOnce, RequestsTakeEffectOnce, StopsAt, StopsAtSo};
 ghost use Rattle.bac_network.specs.Views.{event_view, events_view, instant_after, instant_after_all, log_view};
 
 use crate::are_alike;
@@ -33,12 +36,16 @@ use std::marker::Model;
 /// performed and the answer are its own, whole. Each store is that of its node's last start, after what was performed and changed there since, in the
 /// log's order. A restart keeps the store, or the log has the new one. Strangers, peers at links of no node, may send any octets and be asked; the
 /// log has what they had performed.
+///
+/// All nodes are strict, but for those that `with_rules` says let clients use an invoke ID again as soon as its transaction is over. Such a node may
+/// perform a read more than once; its client gets the reply to one of these.
 #[derive(Drop)]
 pub struct World {
     pub(crate) alloc: Global,
     pub(crate) overtake: u8,
     pub(crate) window: u8,
     pub(crate) opening: Vec<Store>,
+    pub(crate) reuses: Vec<bool>,
     pub(crate) network: Network,
 }
 
@@ -47,9 +54,9 @@ impl Model for World {
 
     ghost Value = { WorldView };
 
-    ghost view = { λ w. view_of w.overtake w.opening.items w.network };
+    ghost view = { λ w. view_of w.overtake w.opening.items w.reuses.items w.network };
 
-    ghost invariant = { λ w. IsKept w.window w.network.journal.links (view_of w.overtake w.opening.items w.network) };
+    ghost invariant = { λ w. IsKept w.window w.network.journal.links (view_of w.overtake w.opening.items w.reuses.items w.network) };
 }
 
 impl World {
@@ -82,6 +89,14 @@ impl World {
         ensures { result.now ≡ self.now.opening }
     {
         &self.opening
+    }
+
+    /// Whether each node lets clients use an invoke ID again as soon as its transaction is over, by the nodes' numbers; one after the list's end does
+    /// not. It never changes.
+    pub fn reuses(&self) -> &[bool]
+        ensures { result.now ≡ self.now.reuses }
+    {
+        &self.reuses
     }
 
     /// The present moment, in milliseconds since the world was made; where nodes have clocks of their own in millionths of one.
@@ -128,23 +143,30 @@ impl World {
     }
 
     /// A law of every world; the call does nothing. A run of a fresh world with the opening stores led to this one (`history`), and its log is right
-    /// with the stores (`once`). Every accepted ask was performed at most once, as it was asked, with the reply of its server's store as it then was
-    /// (`performed`). It ended at most once, and was answered with that reply alone (`ended`). Each change that a node made in its own store had no
-    /// fault for it as it then was (`permitted`). Performed requests, changes and restarts alone changed the stores (`stores`). Where no node changed
-    /// its own store or restarted, performed requests alone did (`requests_alone`). Where there is nothing of strangers, all of this holds of nodes
-    /// alone (`among_nodes`). What a node performed for one stranger under one invoke ID, between two of its restarts, is of several entries. They
-    /// began more than 65,000 ms apart, by the node's clock (`apart`). Each peer that the log has as a stranger is at a link of no node
-    /// (`strangers`).
+    /// with the stores (`once`): every accepted ask was performed at most once, but for a read at a node that lets invoke IDs be used again. Every ask
+    /// ended at most once, and was answered with a reply with which it was performed (`ended`). Each change that a node made in its own store had no
+    /// fault for it as it then was (`permitted`). Performed requests, changes and restarts alone changed the stores (`stores`). Each peer that the log
+    /// has as a stranger is at a link of no node (`strangers`).
+    ///
+    /// The rest is of worlds in which no node lets invoke IDs be used again (`history_without_reuse`, `once_without_reuse`). Every accepted ask was
+    /// performed at most once, as it was asked, with the reply of its server's store as it then was (`performed`). Where no node changed its own store or
+    /// restarted, performed requests alone changed the stores (`requests_alone`). Where there is nothing of strangers, all of this holds of nodes alone
+    /// (`among_nodes`). Where both is so, asks of nodes, performed requests and endings alone are in the log, which is right with the stores
+    /// (`asks_alone`). What a node performed for one stranger under one invoke ID, between two of its restarts, is of several entries. They began more
+    /// than 65,000 ms apart, by the node's clock (`apart`).
     pub fn is_once(&self)
-        ensures history { HasHistory self.now }
-        ensures once { IsOnceNow self.now }
-        ensures performed { ArePerformedOnceNow self.now }
+        ensures history { HasHistorySo self.now }
+        ensures once { IsOnceSoNow self.now }
+        ensures history_without_reuse { HasNoReuse self.now → HasHistory self.now }
+        ensures once_without_reuse { HasNoReuse self.now → IsOnceNow self.now }
+        ensures performed { HasNoReuse self.now → ArePerformedOnceNow self.now }
         ensures ended { AreEndedOnceNow self.now }
         ensures permitted { AreChangesPermittedNow self.now }
         ensures stores { AreReplayedNow self.now }
-        ensures requests_alone { HasRequestsAloneNow self.now → IsOnceByRequestsAloneNow self.now }
-        ensures among_nodes { HasNoStrangerNow self.now → IsOnceAmongNodesNow self.now }
-        ensures apart { AreServedApartNow self.now }
+        ensures requests_alone { HasNoReuse self.now → HasRequestsAloneNow self.now → IsOnceByRequestsAloneNow self.now }
+        ensures among_nodes { HasNoReuse self.now → HasNoStrangerNow self.now → IsOnceAmongNodesNow self.now }
+        ensures asks_alone { HasNoReuse self.now → HasAsksAloneNow self.now → IsOnceOfAsksNow self.now }
+        ensures apart { HasNoReuse self.now → AreServedApartNow self.now }
         ensures strangers { HasStrangersOfNoneNow self.now }
     {
         // all of it follows from the invariant of the fields
@@ -161,8 +183,13 @@ impl World {
     /// - `NodeLink` exactly where the node of a stranger's event is there and the stranger's link is a node's;
     /// - `TooSoon` exactly where a node is there and may not begin now;
     /// - after these `NoMemory` where an allocation fails: never for noise, for a copy that is not deliverable, or for the clock.
+    ///
+    /// What is promised of worlds in which no node lets invoke IDs be used again is as for `is_once` (`went_without_reuse`, `asks_alone`).
     pub fn step(&mut self, event: &Event) -> Result<Option<AskFault>, WorldFault>
-        ensures went { OnOk result (WorldStep self.old.overtake (as_world self.old) (event_view self.old.time event.now) (as_world self.new)) }
+        ensures went { OnOk result (WorldStepSo self.old.overtake (reuses_of self.old) (as_world self.old) (event_view self.old.time event.now)
+            (as_world self.new)) }
+        ensures went_without_reuse { HasNoReuse self.old
+            → OnOk result (WorldStep self.old.overtake (as_world self.old) (event_view self.old.time event.now) (as_world self.new)) }
         ensures told { IfOk result (λ told. Tells told (as_world self.old) (event_view self.old.time event.now) (as_world self.new)) }
         ensures node { IsErrOf result WorldFault.NoSuchNode ↔ NamesNoNode (as_world self.old) (event_view self.old.time event.now) }
         ensures datagram { IsErrOf result WorldFault.NoSuchDatagram ↔ NamesNoCopy (as_world self.old) (event_view self.old.time event.now) }
@@ -174,17 +201,18 @@ impl World {
         ensures memory { IsErrOf result WorldFault.NoMemory → TakesMemory self.old.overtake (as_world self.old) (event_view self.old.time event.now) }
         ensures passed { OnOk result (self.new.time ≡ instant_after event.now self.old.time) }
         ensures err { OnErr result (self.new ≡ self.old) }
-        ensures settings { (self.new.overtake ≡ self.old.overtake) × (self.new.opening ≡ self.old.opening) }
-        ensures once { IsOnceNow self.new }
-        ensures performed { ArePerformedOnceNow self.new }
+        ensures settings { (self.new.overtake ≡ self.old.overtake) × (self.new.opening ≡ self.old.opening) × (self.new.reuses ≡ self.old.reuses) }
+        ensures once { IsOnceSoNow self.new }
+        ensures once_without_reuse { HasNoReuse self.old → IsOnceNow self.new }
+        ensures performed { HasNoReuse self.old → ArePerformedOnceNow self.new }
         ensures ended { AreEndedOnceNow self.new }
         ensures permitted { AreChangesPermittedNow self.new }
         ensures stores { AreReplayedNow self.new }
         ensures strangers { HasStrangersOfNoneNow self.new }
-        ensures requests_alone { RequestsTakeEffectOnce self.old (event_view self.old.time event.now ∷ []) self.new }
+        ensures requests_alone { HasNoReuse self.old → RequestsTakeEffectOnce self.old (event_view self.old.time event.now ∷ []) self.new }
+        ensures asks_alone { HasNoReuse self.old → AsksTakeEffectOnce self.old (event_view self.old.time event.now ∷ []) self.new }
     {
-        self.network
-            .step(self.alloc, self.overtake, self.window, event)
+        self.network.step(self.alloc, self.overtake, self.window, &self.reuses, event)
     }
 
     /// Makes events happen in their order, up to the first that fails, whose place and fault it returns; the events before it have happened.
@@ -194,21 +222,32 @@ impl World {
     /// whole. Each server's store is its opening store after the performed requests in their order. With changes and restarts of nodes too, the log
     /// is right with the stores (`once`). Strangers may send any octets and be asked in all of these: what they had performed is in the log, in its
     /// place, and counts as performed. The log has no peer at a node's link as a stranger (`strangers`). The time is what the events that happened
-    /// made of it (`passed`).
+    /// made of it (`passed`). Where there is nothing of strangers, no change and no restart, the log has asks, performed requests and endings alone, and
+    /// is right with the stores (`asks_alone`). All but `once` is of worlds in which no node lets invoke IDs be used again; where nodes do, these may
+    /// perform a read more than once.
     pub fn run(&mut self, events: &[Event]) -> Result<(), RunFault>
-        ensures went { OnOk result (WorldRun self.old.overtake (as_world self.old) (events_view self.old.time events.now) (as_world self.new)) }
-        ensures stopped { IfErr result (λ f. StopsAt f self.old (events_view self.old.time events.now) self.new) }
+        ensures went { OnOk result (WorldRunSo self.old.overtake (reuses_of self.old) (as_world self.old) (events_view self.old.time events.now)
+            (as_world self.new)) }
+        ensures stopped { IfErr result (λ f. StopsAtSo f self.old (events_view self.old.time events.now) self.new) }
+        ensures went_without_reuse { HasNoReuse self.old
+            → OnOk result (WorldRun self.old.overtake (as_world self.old) (events_view self.old.time events.now) (as_world self.new)) }
+        ensures stopped_without_reuse { HasNoReuse self.old
+            → IfErr result (λ f. StopsAt f self.old (events_view self.old.time events.now) self.new) }
         ensures passed { OnOk result (self.new.time ≡ instant_after_all events.now self.old.time) }
         ensures passed_before { IfErr result (λ f. self.new.time ≡ instant_after_all (take f.place events.now) self.old.time) }
-        ensures settings { (self.new.overtake ≡ self.old.overtake) × (self.new.opening ≡ self.old.opening) }
-        ensures once { IsOnceNow self.new }
-        ensures performed { ArePerformedOnceNow self.new }
+        ensures settings { (self.new.overtake ≡ self.old.overtake) × (self.new.opening ≡ self.old.opening) × (self.new.reuses ≡ self.old.reuses) }
+        ensures once { IsOnceSoNow self.new }
+        ensures once_without_reuse { HasNoReuse self.old → IsOnceNow self.new }
+        ensures performed { HasNoReuse self.old → ArePerformedOnceNow self.new }
         ensures ended { AreEndedOnceNow self.new }
         ensures permitted { AreChangesPermittedNow self.new }
         ensures stores { AreReplayedNow self.new }
         ensures strangers { HasStrangersOfNoneNow self.new }
-        ensures requests_alone { RequestsTakeEffectOnce self.old (events_view self.old.time events.now) self.new }
+        ensures requests_alone { HasNoReuse self.old → RequestsTakeEffectOnce self.old (events_view self.old.time events.now) self.new }
+        ensures asks_alone { HasNoReuse self.old → AsksTakeEffectOnce self.old (events_view self.old.time events.now) self.new }
     {
+        // the law of every world, here and where the run ends
+        self.is_once();
         for (place, event) in events.iter().enumerate() {
             if let Err(fault) = self.step(event) {
                 return Err(RunFault { place, fault });
@@ -218,7 +257,7 @@ impl World {
         Ok(())
     }
 
-    /// Whether two worlds are the same. That is so if they have the same limit of overtaking, opening stores, nodes with their stores and clocks,
+    /// Whether two worlds are the same. That is so if they have the same limit of overtaking, opening stores, rules, nodes with their stores and clocks,
     /// moment, log, copies and notes of asks. It takes no memory.
     pub fn same(&self, other: &World) -> bool
         ensures { IsTrue result ↔ (self.now ≡ other.now) }
@@ -227,6 +266,9 @@ impl World {
             return false;
         }
         if !are_alike(&self.opening, &other.opening) {
+            return false;
+        }
+        if !are_alike(&self.reuses, &other.reuses) {
             return false;
         }
         if !are_alike(&self.network.nodes, &other.network.nodes) {

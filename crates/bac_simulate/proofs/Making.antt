@@ -111,6 +111,7 @@ of_parts overtake opening nodes lives =
     record {
       overtake = overtake;
       opening = opening;
+      reuses = [];
       nodes = nodes;
       time = record { moment = 0; own = None };
       lives = lives;

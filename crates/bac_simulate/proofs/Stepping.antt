@@ -5,10 +5,10 @@ use Rattle.std.proofs.Common.{refl, sym, ap, subst, ◌∙◌, slice_get}
 use Rattle.std.specs.Io.KnownBytes.{Appends}
 use Rattle.bac_requester.specs.declared.ask_fault.AskFault.{AskFault}
 use Rattle.bac_world.specs.World as world
-use Rattle.bac_world.specs.World.{WorldStep}
+use Rattle.bac_world.specs.ReusingWorlds.{WorldStepSo}
 use Rattle.bac_network.specs.Faults.{fault_number}
 use Rattle.bac_network.specs.Clocks.{Instant}
-use Rattle.bac_network.specs.Histories.{WorldView, as_world}
+use Rattle.bac_network.specs.Histories.{WorldView, as_world, reuses_of}
 use Rattle.bac_network.specs.Views.{event_view, instant_after}
 use Rattle.bac_network.specs.declared.event.Event.{Event}
 use Rattle.bac_network.specs.declared.event.Event.TheVariants as event
@@ -60,18 +60,19 @@ same_after t (event.Stranger node from octets) = refl
 same_after t (event.AskStranger node peer limits request) = refl
 
 pub happened : (line : ℕ) (e : Event) (told : Option AskFault) (old new : WorldView) (facts copies : ℕ) (a b : Option (List ℕ))
-    → facts ≡ length old.log → copies ≡ length old.copies → WorldStep old.overtake (as_world old) (event_view old.time e) (as_world new)
+    → facts ≡ length old.log → copies ≡ length old.copies → WorldStepSo old.overtake (reuses_of old) (as_world old) (event_view old.time e) (as_world new)
     → Tells told (as_world old) (event_view old.time e) (as_world new)
-    → new.overtake ≡ old.overtake → new.time ≡ instant_after e old.time → Appends a b (outcome_text told facts copies new)
+    → new.overtake ≡ old.overtake → new.reuses ≡ old.reuses → new.time ≡ instant_after e old.time → Appends a b (outcome_text told facts copies new)
     → AppendsText a b (IsStep line true (Happens (happening_view e)) old new)
-happened line e told old new facts copies a b fs cs went tells same passed printed = (
+happened line e told old new facts copies a b fs cs went tells same rules passed printed = (
   outcome_text told facts copies new,
   (
     inl (record {
       told = told;
-      went = subst (λ (h : world.Event). WorldStep old.overtake (as_world old) h (as_world new)) (same_event old.time e) went;
+      went = subst (λ (h : world.Event). WorldStepSo old.overtake (reuses_of old) (as_world old) h (as_world new)) (same_event old.time e) went;
       tells = subst (λ (h : world.Event). Tells told (as_world old) h (as_world new)) (same_event old.time e) tells;
       overtake = same;
+      reuses = rules;
       time = passed ∙ same_after old.time e;
       is = ap (λ (n : ℕ). outcome_text told n copies new) fs ∙ ap (λ (n : ℕ). outcome_text told (length old.log) n new) cs;
     }),
@@ -171,11 +172,11 @@ pub no_clock : {A : Type 0} (t : Printing A) (line node start : ℕ) (w : WorldV
 no_clock t line node start w said none is = record { none = none; same = refl; is = is }
 
 pub paced_so : {A : Type 0} (t : Printing A) (line node rate : ℕ) (old new : WorldView) (said : List A) → as_world new ≡ as_world old
-    → new.overtake ≡ old.overtake → new.time ≡ record (old.time) { own = paced node rate old.time.own }
+    → new.overtake ≡ old.overtake → new.reuses ≡ old.reuses → new.time ≡ record (old.time) { own = paced node rate old.time.own }
     → (1000000 ≤ rate + drift_of old.time.own) × (rate ≤ 1000000 + drift_of old.time.own) → t.clock old node rate said
     → Steps t line true (Paced node rate) old new said
-paced_so t line node rate old new said same overtake time within is =
-    record { slow = within.0; fast = within.1; same = same; overtake = overtake; time = time; is = is }
+paced_so t line node rate old new said same overtake rules time within is =
+    record { slow = within.0; fast = within.1; same = same; overtake = overtake; reuses = rules; time = time; is = is }
 
 pub pace_fault_is : (f : PaceFault) (node rate : ℕ) (w : WorldView)
     → (IsErrOf (the_pace_err f) pace_fault.NoSuchNode ↔ (slice_get w.nodes node ≡ None))
@@ -202,12 +203,12 @@ clock_missing line node start w number a b none is printed = (
   (no_clock in_text line node start w (fault_line line number) none (ap (λ (n : ℕ). fault_line line n) is), printed),
 )
 
-pub pace_printed : (line node rate : ℕ) (old new : WorldView) (a b : Option (List ℕ)) → as_world new ≡ as_world old → new.overtake ≡ old.overtake
+pub pace_printed : (line node rate : ℕ) (old new : WorldView) (a b : Option (List ℕ)) → as_world new ≡ as_world old → new.overtake ≡ old.overtake → new.reuses ≡ old.reuses
     → new.time ≡ record (old.time) { own = paced node rate old.time.own }
     → (1000000 ≤ rate + drift_of old.time.own) × (rate ≤ 1000000 + drift_of old.time.own) → Appends a b (paced_line node rate)
     → AppendsText a b (IsStep line true (Paced node rate) old new)
-pace_printed line node rate old new a b same overtake time within printed =
-    (paced_line node rate, (paced_so in_text line node rate old new (paced_line node rate) same overtake time within refl, printed))
+pace_printed line node rate old new a b same overtake rules time within printed =
+    (paced_line node rate, (paced_so in_text line node rate old new (paced_line node rate) same overtake rules time within refl, printed))
 
 pub pace_refused : (line node rate : ℕ) (f : PaceFault) (old new : WorldView) (number : ℕ) (a b : Option (List ℕ))
     → (IsErrOf (the_pace_err f) pace_fault.NoSuchNode ↔ (slice_get old.nodes node ≡ None))

@@ -12,7 +12,7 @@ use Rattle.bac_journal.specs.declared.noting.Note as note
 use Rattle.bac_journal.specs.Views.{copy_view}
 use Rattle.bac_journal.specs.declared.copies.Copy as copy
 use Rattle.bac_network.specs.Faults.{fault_number}
-use Rattle.bac_network.specs.Histories.{WorldView, as_world}
+use Rattle.bac_network.specs.Histories.{WorldView, as_world, reuses_of}
 use Rattle.bac_network.specs.declared.event.Event.{Event}
 use Rattle.bac_network.specs.Steps.{BeginsTooSoon, NamesNoCopy, NamesNodeLink, NamesNoNode, PassesClock, RefusesChange, TakesMemory, Tells}
 use Rattle.bac_network.specs.Views.{event_view, fact_view, instant_after, log_view}
@@ -28,7 +28,8 @@ use Rattle.bac_store.specs.declared.change_fault.ChangeFault.{ChangeFault}
 use Rattle.bac_text.specs.Texts.{AppendsText}
 use Rattle.bac_world.specs.Once as once
 use Rattle.bac_world.specs.World as world
-use Rattle.bac_world.specs.World.{count_of, later, WorldStep}
+use Rattle.bac_world.specs.ReusingWorlds.{WorldStepSo}
+use Rattle.bac_world.specs.World.{count_of, later}
 use Rattle.bac_simulate.specs.Moments.{ms_now}
 use Rattle.bac_simulate.specs.Runs.{Runs, Steps, Printing, change_fault_in, pace_fault_number}
 use Rattle.bac_simulate.specs.Scripts.{ScriptLine, Happens, Lost, Began, Paced}
@@ -135,18 +136,19 @@ head_at s now e w head is line = subst (λ (n : ℕ). IsHeadText s n e head) is 
 pub event_told : (s : EventStyle) (line : ℕ) (e : Event) (told : Option AskFault) (old new : WorldView) (facts copies now : ℕ) (reason : Why)
     → (head outcome text : List ℕ) (a b : Option (List ℕ)) → facts ≡ length old.log → copies ≡ length old.copies → now ≡ ms_now old
     → reason ≡ why_nothing old (happening_view e) → IsHeadText s now (happening_view e) head
-    → WorldStep old.overtake (as_world old) (event_view old.time e) (as_world new)
-    → Tells told (as_world old) (event_view old.time e) (as_world new) → new.overtake ≡ old.overtake → new.time ≡ instant_after e old.time
+    → WorldStepSo old.overtake (reuses_of old) (as_world old) (event_view old.time e) (as_world new)
+    → Tells told (as_world old) (event_view old.time e) (as_world new) → new.overtake ≡ old.overtake → new.reuses ≡ old.reuses → new.time ≡ instant_after e old.time
     → IsOutcome s told reason facts copies new outcome → text ≡ head ++ outcome → Appends a b text
     → AppendsText a b (Steps (told_in s) line true (Happens (happening_view e)) old new)
-event_told s line e told old new facts copies now reason head outcome text a b fs cs ns why is_head went tells same passed is_outcome added printed = (
+event_told s line e told old new facts copies now reason head outcome text a b fs cs ns why is_head went tells same rules passed is_outcome added printed = (
   text,
   (
     inl (record {
       told = told;
-      went = subst (λ (h : world.Event). WorldStep old.overtake (as_world old) h (as_world new)) (same_event old.time e) went;
+      went = subst (λ (h : world.Event). WorldStepSo old.overtake (reuses_of old) (as_world old) h (as_world new)) (same_event old.time e) went;
       tells = subst (λ (h : world.Event). Tells told (as_world old) h (as_world new)) (same_event old.time e) tells;
       overtake = same;
+      reuses = rules;
       time = passed ∙ same_after old.time e;
       is =
           record {
@@ -232,13 +234,13 @@ clock_missing_told s line node start w number a b none is end =
     (end.0, (no_clock (told_in s) line node start w end.0 none (subst (λ (n : ℕ). IsEndText s line n end.0) is end.1.0), end.1.1))
 
 pub pace_told : (s : EventStyle) (line node rate now : ℕ) (old new : WorldView) (a b : Option (List ℕ)) → as_world new ≡ as_world old
-    → new.overtake ≡ old.overtake → new.time ≡ record (old.time) { own = paced node rate old.time.own }
+    → new.overtake ≡ old.overtake → new.reuses ≡ old.reuses → new.time ≡ record (old.time) { own = paced node rate old.time.own }
     → (1000000 ≤ rate + drift_of old.time.own) × (rate ≤ 1000000 + drift_of old.time.own) → now ≡ ms_now old
     → AppendsText a b (IsPacedText s now node rate) → AppendsText a b (Steps (told_in s) line true (Paced node rate) old new)
-pace_told s line node rate now old new a b same overtake time within is told = (
+pace_told s line node rate now old new a b same overtake rules time within is told = (
   told.0,
   (
-    paced_so (told_in s) line node rate old new told.0 same overtake time within (subst (λ (n : ℕ). IsPacedText s n node rate told.0) is told.1.0),
+    paced_so (told_in s) line node rate old new told.0 same overtake rules time within (subst (λ (n : ℕ). IsPacedText s n node rate told.0) is told.1.0),
     told.1.1,
   ),
 )

@@ -13,7 +13,7 @@ use Rattle.bac_chart.specs.declared.mark.Mark as code
 use Rattle.bac_chart.specs.declared.mark.Mark.TheVariants as mark
 use Rattle.bac_journal.specs.Views.{copy_view}
 use Rattle.bac_journal.specs.declared.copies.Copy as copy
-use Rattle.bac_network.specs.Histories.{WorldView, as_world}
+use Rattle.bac_network.specs.Histories.{WorldView, as_world, reuses_of}
 use Rattle.bac_journal.specs.Clocks.{drift_of, paced}
 use Rattle.bac_network.specs.declared.event.Event.{Event}
 use Rattle.bac_network.specs.declared.fault.PaceFault.{PaceFault}
@@ -26,7 +26,8 @@ use Rattle.bac_requester.specs.declared.ask_fault.AskFault.{AskFault}
 use Rattle.bac_protocol.specs.World.{same_key}
 use Rattle.bac_world.specs.Once as once
 use Rattle.bac_world.specs.World as world
-use Rattle.bac_world.specs.World.{count_of, is_deliverable, later, WorldStep}
+use Rattle.bac_world.specs.ReusingWorlds.{WorldStepSo}
+use Rattle.bac_world.specs.World.{count_of, is_deliverable, later}
 use Rattle.bac_simulate.specs.Drawn.{in_marks}
 use Rattle.bac_simulate.specs.Moments.{ms_now, parts_in}
 use Rattle.bac_simulate.specs.Runs.{Runs, Steps}
@@ -165,13 +166,13 @@ no_line line lines i all w a = (
 -- ---- clocks
 
 pub pace_drawn : (line node rate now : ℕ) (old new : WorldView) (a b : List code.Mark) (m : code.Mark) → as_world new ≡ as_world old
-    → new.overtake ≡ old.overtake → new.time ≡ record (old.time) { own = paced node rate old.time.own }
+    → new.overtake ≡ old.overtake → new.reuses ≡ old.reuses → new.time ≡ record (old.time) { own = paced node rate old.time.own }
     → (1000000 ≤ rate + drift_of old.time.own) × (rate ≤ 1000000 + drift_of old.time.own) → now ≡ ms_now old → mark_view m ≡ paced_mark now node rate
     → b ≡ a ++ m ∷ [] → AppendsMarks a b (Steps in_marks line true (Paced node rate) old new)
-pace_drawn line node rate now old new a b m same overtake time within is mark pushes = (
+pace_drawn line node rate now old new a b m same overtake rules time within is mark pushes = (
   mark_view m ∷ [],
   (
-    paced_so in_marks line node rate old new (mark_view m ∷ []) same overtake time within
+    paced_so in_marks line node rate old new (mark_view m ∷ []) same overtake rules time within
         (ap (λ (x : Mark). x ∷ []) (mark ∙ ap (λ (n : ℕ). paced_mark n node rate) is)),
     pushed a b m pushes,
   ),
@@ -192,15 +193,15 @@ pace_not_drawn line node rate f old new a went none beyond same is = (
 -- ---- one event
 
 pub passed : (line : ℕ) (e : Event) (told : Option AskFault) (old new : WorldView) (a b : List code.Mark)
-    → WorldStep old.overtake (as_world old) (event_view old.time e) (as_world new)
-    → Tells told (as_world old) (event_view old.time e) (as_world new) → new.overtake ≡ old.overtake → new.time ≡ instant_after e old.time
+    → WorldStepSo old.overtake (reuses_of old) (as_world old) (event_view old.time e) (as_world new)
+    → Tells told (as_world old) (event_view old.time e) (as_world new) → new.overtake ≡ old.overtake → new.reuses ≡ old.reuses → new.time ≡ instant_after e old.time
     → AddsMarks a b (event_marks told (happening_view e) old new)
     → AppendsMarks a b (Steps in_marks line true (Happens (happening_view e)) old new)
-passed line e told old new a b step tells same after added =
-    let went = subst (λ (h : world.Event). WorldStep old.overtake (as_world old) h (as_world new)) (same_event old.time e) step in
+passed line e told old new a b step tells same rules after added =
+    let went = subst (λ (h : world.Event). WorldStepSo old.overtake (reuses_of old) (as_world old) h (as_world new)) (same_event old.time e) step in
     let said = subst (λ (h : world.Event). Tells told (as_world old) h (as_world new)) (same_event old.time e) tells in (
       event_marks told (happening_view e) old new,
-      (inl (record { told = told; went = went; tells = said; overtake = same; time = after ∙ same_after old.time e; is = refl }), added),
+      (inl (record { told = told; went = went; tells = said; overtake = same; reuses = rules; time = after ∙ same_after old.time e; is = refl }), added),
     )
 
 pub news_are : (facts copies i k : ℕ) (w : WorldView) (coming : Option Mark) (a b : List code.Mark) → i ≡ facts → k ≡ copies

@@ -49,6 +49,7 @@ world_set s =
     record {
       overtake = s.overtake;
       opening = houses s.nodes;
+      reuses = [];
       nodes = house_nodes s.window 0 s.nodes;
       time = record { moment = 0; own = None };
       lives = fresh_lives s.nodes;

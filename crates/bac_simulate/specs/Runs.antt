@@ -3,9 +3,9 @@ use Rattle.std.specs.Prelude.{◌≡◌, ◌<◌, ◌≤◌, ◌⊎◌, ℕ, ◌
 use Rattle.std.specs.Io.KnownBytes.{Keeps}
 use Rattle.bac_requester.specs.declared.ask_fault.AskFault.{AskFault}
 use Rattle.bac_journal.specs.Clocks.{drift_of, paced}
-use Rattle.bac_world.specs.World.{WorldStep}
+use Rattle.bac_world.specs.ReusingWorlds.{WorldStepSo}
 use Rattle.bac_network.specs.Faults.{fault_number}
-use Rattle.bac_network.specs.Histories.{WorldView, as_world}
+use Rattle.bac_network.specs.Histories.{WorldView, as_world, reuses_of}
 use Rattle.bac_network.specs.Steps.{IsFault, RefusesChange, Tells}
 use Rattle.bac_network.specs.declared.fault.PaceFault.{PaceFault}
 use Rattle.bac_network.specs.declared.fault.PaceFault.TheVariants as pace_fault
@@ -40,9 +40,10 @@ pub record Printing (A : Type 0) : Type 1 where
 -- an event happened, and this is printed of it
 pub record Happened {A : Type 0} (t : Printing A) (event : Happening) (old new : WorldView) (said : List A) : Type 0 where
   pub told : Option AskFault
-  pub went : WorldStep old.overtake (as_world old) (event_at old.time event) (as_world new)
+  pub went : WorldStepSo old.overtake (reuses_of old) (as_world old) (event_at old.time event) (as_world new)
   pub tells : Tells told (as_world old) (event_at old.time event) (as_world new)
   pub overtake : new.overtake ≡ old.overtake
+  pub reuses : new.reuses ≡ old.reuses
   pub time : new.time ≡ time_after event old.time
   pub is : t.went told event old new said
 
@@ -72,6 +73,7 @@ pub record WasPaced {A : Type 0} (t : Printing A) (node rate : ℕ) (old new : W
   pub fast : rate ≤ 1000000 + drift_of old.time.own
   pub same : as_world new ≡ as_world old
   pub overtake : new.overtake ≡ old.overtake
+  pub reuses : new.reuses ≡ old.reuses
   pub time : new.time ≡ record (old.time) { own = paced node rate old.time.own }
   pub is : t.clock old node rate said
 

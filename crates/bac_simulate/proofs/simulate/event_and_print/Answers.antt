@@ -5,7 +5,7 @@ use Rattle.bac_simulate.proofs.simulate.event_and_print.Goals as goal
 pub returns-in-Ok : goal.returns-in-Ok
 returns-in-Ok g c =
     happened c.args.line c.args.event.now c.in-Ok.refused c.args.world.now c.step.new.self c.of-before.result.facts c.of-before.result.copies _ _
-    c.of-before.ensures.facts c.of-before.ensures.copies c.in-Ok.ensures.went c.in-Ok.ensures.told c.step.ensures.settings.0 c.in-Ok.ensures.passed
+    c.of-before.ensures.facts c.of-before.ensures.copies c.in-Ok.ensures.went c.in-Ok.ensures.told c.step.ensures.settings.0 c.step.ensures.settings.2 c.in-Ok.ensures.passed
     c.in_ok-print_outcome-in-Ok.ensures
 
 pub returns-in_ok-print_refused-in-Some : goal.returns-in_ok-print_refused-in-Some

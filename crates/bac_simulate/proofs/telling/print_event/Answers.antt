@@ -10,7 +10,7 @@ pub returns-in-Ok : goal.returns-in-Ok
 returns-in-Ok g c =
     event_told c.args.style c.args.line c.args.event.now c.in-Ok.refused c.args.world.now c.step.new.self c.of-before.result.facts c.of-before.result.copies
     c.ms_now.result c.why_nothing-why.result _ _ _ _ _ c.of-before.ensures.facts c.of-before.ensures.copies c.ms_now.ensures c.why_nothing-why.ensures
-    c.in_ok-head.ensures c.in-Ok.ensures.went c.in-Ok.ensures.told c.step.ensures.settings.0 c.in-Ok.ensures.passed c.in_ok-outcome-in-Ok.ensures refl
+    c.in_ok-head.ensures c.in-Ok.ensures.went c.in-Ok.ensures.told c.step.ensures.settings.0 c.step.ensures.settings.2 c.in-Ok.ensures.passed c.in_ok-outcome-in-Ok.ensures refl
     (written _ _ _ _ _ c.in_ok-print_both-in-Ok.ensures c.as_slice.ensures.value)
 
 pub returns-in_ok-print_both-in-Some : goal.returns-in_ok-print_both-in-Some

@@ -30,7 +30,7 @@ returns-in-Ok-None g c =
     (subst (λ (o : Option Mark). AddsMarks a b (optional_marks o ++ news_marks seen.facts seen.copies new)) c.in_ok-coming.ensures
     c.in_ok-add_news-in-Ok-None.ensures) in
     let told = subst (λ (o : Option AskFault). Tells o (as_world old) (event_view old.time e) (as_world new)) c.in-Ok-None.field-0-is c.in-Ok-None.ensures.told in
-    passed c.args.line e None old new a b c.in-Ok-None.ensures.went told c.step.ensures.settings.0 c.in-Ok-None.ensures.passed added
+    passed c.args.line e None old new a b c.in-Ok-None.ensures.went told c.step.ensures.settings.0 c.step.ensures.settings.2 c.in-Ok-None.ensures.passed added
 
 pub returns-in-Ok-Some : goal.returns-in-Ok-Some
 returns-in-Ok-Some g c =
@@ -45,7 +45,7 @@ returns-in-Ok-Some g c =
     (subst (λ (number : ℕ). AddsMarks a b (refused_mark c.ms_now-now.result (happening_view e) number ∷ [])) c.number.ensures
     c.in_ok-add_refused-in-Ok-Some.ensures) in
     let told = subst (λ (o : Option AskFault). Tells o (as_world old) (event_view old.time e) (as_world new)) c.in-Ok-Some.field-0-is c.in-Ok-Some.ensures.told in
-    passed c.args.line e (Some fault) old new a b c.in-Ok-Some.ensures.went told c.step.ensures.settings.0 c.in-Ok-Some.ensures.passed added
+    passed c.args.line e (Some fault) old new a b c.in-Ok-Some.ensures.went told c.step.ensures.settings.0 c.step.ensures.settings.2 c.in-Ok-Some.ensures.passed added
 
 pub returns-in-Some : goal.returns-in-Some
 returns-in-Some g c =

@@ -5,7 +5,7 @@ pub returns-in_ok-push-in-Ok : goal.returns-in_ok-push-in-Ok
 returns-in_ok-push-in-Ok g c =
     let clock = c.args.clock.now in
     pace_drawn c.args.line clock.node clock.rate c.ms_now.result c.args.world.now c.set_pace.new.self c.args.marks.now.items c.push.new.self.items c.in_ok-mark.mark
-    c.set_pace.ensures.same c.set_pace.ensures.settings.0 c.in-Ok.ensures.paced c.in-Ok.ensures.within c.ms_now.ensures c.in_ok-mark.ensures
+    c.set_pace.ensures.same c.set_pace.ensures.settings.0 c.set_pace.ensures.settings.2 c.in-Ok.ensures.paced c.in-Ok.ensures.within c.ms_now.ensures c.in_ok-mark.ensures
     c.in_ok-push-in-Ok.ensures.items
 
 pub returns-in-Err : goal.returns-in-Err

@@ -6,6 +6,7 @@ use Rattle.bac_node.specs.Views.{outcome_view}
 use Rattle.bac_journal.specs.Journals.{JournalView}
 use Rattle.bac_network.specs.Clocks.{instant, time_at}
 use Rattle.bac_network.specs.Networks.{world_with}
+use Rattle.bac_network.specs.Rules.{reuses_by}
 use Rattle.bac_network.specs.Views.{log_view}
 use Rattle.bac_network.specs.declared.network.Network.{Network}
 use Rattle.bac_network.proofs.Delivered.{gone_read, stranger_enters, stranger_heard}
@@ -18,8 +19,8 @@ enter-requires-clause-can c =
     let new : Network = record n { nodes = with_items n.nodes c.hear.new.nodes } in
     let items = with_items_is n.nodes c.hear.new.nodes (omega arith) in
     let at = gone_read new c.args.node _ c.deref_mut.result.now c.hear.new.nodes items c.in_ok-outcome.ensures.went c.index.result.now c.index.ensures in
-    (stranger_enters n new c.args.node c.args.from c.args.octets.now (outcome_view c.in_ok-outcome.outcome) c.requires.stranger c.deref_mut.result.now
-    c.deref_mut.ensures.value c.told.result c.told.ensures c.hear.new.nodes items c.in_ok-outcome.ensures.went c.index.result.now at c.args.window
+    (stranger_enters (reuses_by c.args.reuses.now) n new c.args.node c.args.from c.args.octets.now (outcome_view c.in_ok-outcome.outcome) c.requires.stranger c.deref_mut.result.now
+    c.deref_mut.ensures.value c.told-now.result c.told-now.ensures c.reuses_at-reuse.result c.reuses_at-reuse.ensures c.hear.new.nodes items c.in_ok-outcome.ensures.went c.index.result.now at c.args.window
     c.requires.ready.0 c.requires.ready.1).can
 
 pub enter-requires-clause-sender : goal.enter-requires-clause-sender
@@ -28,8 +29,8 @@ enter-requires-clause-sender c =
     let new : Network = record n { nodes = with_items n.nodes c.hear.new.nodes } in
     let items = with_items_is n.nodes c.hear.new.nodes (omega arith) in
     let at = gone_read new c.args.node _ c.deref_mut.result.now c.hear.new.nodes items c.in_ok-outcome.ensures.went c.index.result.now c.index.ensures in
-    (stranger_enters n new c.args.node c.args.from c.args.octets.now (outcome_view c.in_ok-outcome.outcome) c.requires.stranger c.deref_mut.result.now
-    c.deref_mut.ensures.value c.told.result c.told.ensures c.hear.new.nodes items c.in_ok-outcome.ensures.went c.index.result.now at c.args.window
+    (stranger_enters (reuses_by c.args.reuses.now) n new c.args.node c.args.from c.args.octets.now (outcome_view c.in_ok-outcome.outcome) c.requires.stranger c.deref_mut.result.now
+    c.deref_mut.ensures.value c.told-now.result c.told-now.ensures c.reuses_at-reuse.result c.reuses_at-reuse.ensures c.hear.new.nodes items c.in_ok-outcome.ensures.went c.index.result.now at c.args.window
     c.requires.ready.0 c.requires.ready.1).sender
 
 pub enter-requires-clause-room : goal.enter-requires-clause-room
@@ -38,8 +39,8 @@ enter-requires-clause-room c =
     let new : Network = record n { nodes = with_items n.nodes c.hear.new.nodes } in
     let items = with_items_is n.nodes c.hear.new.nodes (omega arith) in
     let at = gone_read new c.args.node _ c.deref_mut.result.now c.hear.new.nodes items c.in_ok-outcome.ensures.went c.index.result.now c.index.ensures in
-    let few = (stranger_enters n new c.args.node c.args.from c.args.octets.now (outcome_view c.in_ok-outcome.outcome) c.requires.stranger
-    c.deref_mut.result.now c.deref_mut.ensures.value c.told.result c.told.ensures c.hear.new.nodes items c.in_ok-outcome.ensures.went c.index.result.now at
+    let few = (stranger_enters (reuses_by c.args.reuses.now) n new c.args.node c.args.from c.args.octets.now (outcome_view c.in_ok-outcome.outcome) c.requires.stranger
+    c.deref_mut.result.now c.deref_mut.ensures.value c.told-now.result c.told-now.ensures c.reuses_at-reuse.result c.reuses_at-reuse.ensures c.hear.new.nodes items c.in_ok-outcome.ensures.went c.index.result.now at
     c.args.window c.requires.ready.0 c.requires.ready.1).sends in
     let room = c.requires.room.journal in
     omega (arith, few, room)
@@ -50,8 +51,8 @@ enter-requires-clause-log_room c =
     let new : Network = record n { nodes = with_items n.nodes c.hear.new.nodes } in
     let items = with_items_is n.nodes c.hear.new.nodes (omega arith) in
     let at = gone_read new c.args.node _ c.deref_mut.result.now c.hear.new.nodes items c.in_ok-outcome.ensures.went c.index.result.now c.index.ensures in
-    let few = (stranger_enters n new c.args.node c.args.from c.args.octets.now (outcome_view c.in_ok-outcome.outcome) c.requires.stranger
-    c.deref_mut.result.now c.deref_mut.ensures.value c.told.result c.told.ensures c.hear.new.nodes items c.in_ok-outcome.ensures.went c.index.result.now at
+    let few = (stranger_enters (reuses_by c.args.reuses.now) n new c.args.node c.args.from c.args.octets.now (outcome_view c.in_ok-outcome.outcome) c.requires.stranger
+    c.deref_mut.result.now c.deref_mut.ensures.value c.told-now.result c.told-now.ensures c.reuses_at-reuse.result c.reuses_at-reuse.ensures c.hear.new.nodes items c.in_ok-outcome.ensures.went c.index.result.now at
     c.args.window c.requires.ready.0 c.requires.ready.1).facts in
     let room = c.requires.room.log in
     omega (arith, few, room)
@@ -67,9 +68,13 @@ pub returns-clause-went : goal.returns-clause-went
 returns-clause-went c =
     let n = c.args.self.now in
     let new : Network = record { nodes = with_items n.nodes c.hear.new.nodes; journal = c.enter.new.journal; log = c.enter.new.log } in
+    let moved : Network = record n { nodes = with_items n.nodes c.hear.new.nodes } in
     let items = with_items_is n.nodes c.hear.new.nodes (omega arith) in
     let at = gone_read new c.args.node _ c.deref_mut.result.now c.hear.new.nodes items c.in_ok-outcome.ensures.went c.index.result.now c.index.ensures in
-    stranger_heard n new c.args.node c.args.from c.args.octets.now (outcome_view c.in_ok-outcome.outcome) c.requires.stranger c.deref_mut.result.now
-    c.deref_mut.ensures.value c.told.result c.told.ensures c.hear.new.nodes items c.in_ok-outcome.ensures.went c.index.result.now at
+    stranger_heard (reuses_by c.args.reuses.now) n new c.args.node c.args.from c.args.octets.now (outcome_view c.in_ok-outcome.outcome) c.requires.stranger c.deref_mut.result.now
+    c.deref_mut.ensures.value c.told-now.result c.told-now.ensures c.reuses_at-reuse.result c.reuses_at-reuse.ensures c.hear.new.nodes items c.in_ok-outcome.ensures.went c.index.result.now at
     (c.enter.ensures.entered n.nodes.items (c.requires.ready.1).linked)
+    (stranger_enters (reuses_by c.args.reuses.now) n moved c.args.node c.args.from c.args.octets.now (outcome_view c.in_ok-outcome.outcome) c.requires.stranger
+    c.deref_mut.result.now c.deref_mut.ensures.value c.told-now.result c.told-now.ensures c.reuses_at-reuse.result c.reuses_at-reuse.ensures c.hear.new.nodes items c.in_ok-outcome.ensures.went c.index.result.now at
+    c.args.window c.requires.ready.0 c.requires.ready.1).kept
     (ap (λ (j : JournalView). time_at (instant j)) c.enter.ensures.same) (ap (λ (j : JournalView). j.notes) c.enter.ensures.same)

@@ -42,9 +42,12 @@ pub returns-clause-ticked : goal.returns-clause-ticked
 returns-clause-ticked c =
     let n = c.args.self.now in
     let new : Network = record { nodes = with_items n.nodes c.commit.new.nodes; journal = c.enter.new.journal; log = c.enter.new.log } in
+    let moved : Network = record n { nodes = with_items n.nodes c.commit.new.nodes } in
     let items = with_items_is n.nodes c.commit.new.nodes (omega arith) in
     let at = gone_read new c.args.node _ c.deref_mut.result.now c.commit.new.nodes items c.commit.ensures c.index.result.now c.index.ensures in
     ticks n new c.args.node (outcome_view c.args.outcome) c.requires.due c.deref_mut.result.now c.deref_mut.ensures.value c.told.result
     c.told.ensures c.commit.new.nodes items c.commit.ensures c.index.result.now at
     (c.enter.ensures.entered n.nodes.items (c.requires.ready.2).linked)
+    (tick_enters c.requires.ready.0 c.requires.ready.1 n moved c.requires.ready.2 c.args.node (outcome_view c.args.outcome) c.requires.due
+    c.deref_mut.result.now c.deref_mut.ensures.value c.told.result c.told.ensures c.commit.new.nodes items c.commit.ensures c.index.result.now at).kept
     (ap (λ (j : JournalView). time_at (instant j)) c.enter.ensures.same) (ap (λ (j : JournalView). j.notes) c.enter.ensures.same)

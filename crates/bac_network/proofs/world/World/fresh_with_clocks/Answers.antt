@@ -18,10 +18,10 @@ invariant_of-result c =
     let o : OwnClocks = fresh_clocks c.args.pace.drift c.args.pace.life c.args.starts.now in
     let t : Instant = record { moment = 0; own = Some (fresh_clocks c.args.pace.drift c.args.pace.life c.args.starts.now) } in
     let are : c.in_ok-links_of.field-0.items ≡ links_of c.args.makers.items = c.in_ok-links_of.ensures ∙ ap links_of c.deref-3.ensures.value in
-    kept_first t refl c.requires.timely (own_shown o) 1024 c.args.overtake c.args.makers.items c.requires.right _ _ _
+    kept_first t refl c.requires.timely (own_shown o) 1024 c.args.overtake c.args.reuses.items c.args.makers.items c.requires.right _ _ _
     (c.greatest_window-window.ensures ∙ ap greatest_window c.deref.ensures.value)
     (ap (λ (k : JournalView). k.links) c.in_ok-journal.ensures ∙ are)
-    (made_is t c.args.overtake c.args.makers.items c.in_ok-opening.opening.items
+    (made_is t c.args.overtake c.args.reuses.items c.args.makers.items c.in_ok-opening.opening.items
     (record { nodes = c.in_ok-nodes.nodes; journal = c.in_ok-journal.journal; log = c.new.result })
     (c.in_ok-opening.ensures ∙ ap opening_of c.deref-2.ensures.value) c.in_ok-nodes.ensures
     (c.in_ok-journal.ensures ∙ ap (λ (l : List Octets). record (c.in_ok-journal.journal) {

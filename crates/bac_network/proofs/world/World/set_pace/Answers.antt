@@ -12,13 +12,13 @@ use Rattle.bac_network.proofs.world.World.set_pace.Goals as goal
 
 pub set_rate-requires-clause-there : goal.set_rate-requires-clause-there
 set_rate-requires-clause-there c =
-    let ready = ready_now c.self.inside.window c.self.inside.overtake c.self.inside.opening.items c.self.inside.network c.self.invariant in
+    let ready = ready_now c.self.inside.window c.self.inside.overtake c.self.inside.opening.items c.self.inside.reuses.items c.self.inside.network c.self.invariant in
     linked_within c.self.inside.network.nodes.items c.self.inside.network.journal.links ready.linked c.args.node (omega arith)
 
 pub invariant_of-self : goal.invariant_of-self
 invariant_of-self c =
     let new : Network = record { nodes = c.self.inside.network.nodes; journal = c.set_rate.new.self; log = c.self.inside.network.log } in
-    kept_same c.self.inside.window c.self.inside.overtake c.self.inside.opening.items c.self.inside.network new
+    kept_same c.self.inside.window c.self.inside.overtake c.self.inside.opening.items c.self.inside.reuses.items c.self.inside.network new
     (ap (λ (j : JournalView). j.links) c.set_rate.ensures.is) c.self.invariant
     (λ i. record {
       nodes = c.self.inside.network.nodes.items;
