@@ -15,6 +15,7 @@ mod laws;
 mod links;
 mod memory;
 mod nodes;
+mod rules;
 mod schedules;
 mod sleeping;
 mod turns;

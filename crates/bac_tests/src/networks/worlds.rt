@@ -63,6 +63,29 @@ pub(super) fn clock_world(alloc: Global, starts: &[u32]) -> Option<World> {
     }
 }
 
+/// The second of three nodes lets clients use an invoke ID again.
+fn rules(alloc: Global) -> Option<Vec<bool>> {
+    Vec::from_slice(alloc, &[false, true]).ok()
+}
+
+/// A world of three nodes with the house store, of which the second lets clients use an invoke ID again.
+pub(super) fn ruled_world(alloc: Global) -> Option<World> {
+    let mut nodes = Vec::new(alloc);
+    if !put_nodes(alloc, &mut nodes) {
+        return None;
+    }
+    World::with_rules(alloc, nodes, 128, rules(alloc)?).ok()
+}
+
+/// The same, with clocks of those starts.
+pub(super) fn ruled_clock_world(alloc: Global, starts: &[u32]) -> Option<World> {
+    let mut nodes = Vec::new(alloc);
+    if !put_nodes(alloc, &mut nodes) {
+        return None;
+    }
+    World::with_clocks_and_rules(alloc, nodes, 128, PACE, starts, rules(alloc)?).ok()
+}
+
 /// How a line went.
 #[derive(Clone, Copy, PartialEq)]
 pub(super) enum Went {
