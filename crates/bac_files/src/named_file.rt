@@ -2,7 +2,7 @@
 ghost use Rattle.std.specs.Prelude.{IfErr};
 ghost use Rattle.bac_text.specs.Statuses.{IsStop};
 
-use crate::file_news::{FileNews, news_of_unput, tell_news, tell_not_read};
+use crate::file_news::{news_of_unput, tell_news, tell_not_read};
 use crate::file_task::FileTask;
 use crate::listed_files::object_named_by;
 use crate::peer_file::{Asked, PeerFile, end_words};
@@ -85,12 +85,15 @@ fn deliver<F: OpenFiles, O: Write, E: Write>(
     ensures told { IfErr result IsStop }
 {
     match path {
-        Some(path) => write_out(&Target { files, path }, octets, out, err),
+        Some(path) => {
+            let target = Target { files, path };
+            write_out(&target, octets, out, err)
+        }
         None => write_octets(octets, out, err),
     }
 }
 
-/// A client reads a file of a task's peer as a whole. Says on `err` why, if it was not read to its end.
+/// A new client reads a file of a task's peer as a whole, as far as the peer answers.
 fn read_named<F: OpenFiles, M: ClientSockets, E: Write>(
     environment: &Environment<'_, F, M>,
     task: &FileTask,
