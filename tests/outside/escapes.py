@@ -21,7 +21,7 @@ import unicodedata
 program = os.path.abspath(sys.argv[1])
 # a right-to-left override, a C1 control, a zero-width space, a line separator, an unassigned character, a control, and beyond U+FFFF a tag
 HARM = 'a\u202eb\x9bc\u200bd\u2028e\u0378f\x1bg\U000e0041h'
-COMMANDS = set('answer decode check explain simulate serve keep ask pair backup restore help version completion'.split())
+COMMANDS = set('answer decode check explain simulate serve keep ask pair get put backup restore help version completion'.split())
 HIDDEN = {'Cc', 'Cf', 'Zl', 'Zp', 'Cn'}
 wrong = []
 counts = {'outputs': 0, 'raw': 0}
@@ -135,6 +135,8 @@ def asks(folder):
         run('ask', *to, 'read', HARM, HARM)
         run('ask', '--to', HARM, 'read', 'device:1', 'object-name')
         run('ask', *to, '--out', str(folder / 'none' / HARM), 'get', 'file:1')
+        run('get', *to, '--out', str(folder / 'none' / HARM), 'file:1')
+        run('put', *to, HARM, str(folder / HARM))
         run('backup', *to, str(folder / HARM / HARM))
         run('restore', *to, str(folder / HARM))
     finally:

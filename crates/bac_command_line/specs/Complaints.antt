@@ -3,9 +3,14 @@ use Rattle.std.specs.Prelude.{ℕ, Bool, ◌&&◌, ◌||◌, if◌then◌else◌
 use Rattle.bac_shown.specs.declared.form.Form.{Form}
 use Rattle.bac_shown.specs.declared.form.Form.TheVariants.{Text, Json}
 
+-- a command that reads or writes whole files
+abbrev pub is_of_files : (command : List ℕ) → Bool
+is_of_files command =
+    bytes_eq command (codes "get") || (bytes_eq command (codes "put") || (bytes_eq command (codes "backup") || bytes_eq command (codes "restore")))
+
 -- on a terminal, by control characters of its own
 abbrev pub draws_progress : (command : List ℕ) → Bool
-draws_progress command = bytes_eq command (codes "ask") || (bytes_eq command (codes "backup") || bytes_eq command (codes "restore"))
+draws_progress command = is_of_files command || bytes_eq command (codes "ask")
 
 -- as they come where progress is drawn between them; those of a server in the form of its log
 abbrev pub complaints_of : (command : List ℕ) → (is_terminal is_json : Bool) → Option Form

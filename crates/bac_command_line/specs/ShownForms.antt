@@ -2,6 +2,8 @@
 use Rattle.std.specs.Prelude.{Bool, true, false, if◌then◌else◌, Option, Some, None}
 use Rattle.bac_asking.specs.Given.{is_json, is_raw}
 use Rattle.bac_asking.specs.declared.asking.Asking.{Asking}
+use Rattle.bac_files.specs.declared.file_task.FileWork.{FileWork}
+use Rattle.bac_files.specs.declared.file_task.FileWork.TheVariants as files
 use Rattle.bac_reading.specs.declared.decoding.Decoding.{Decoding}
 use Rattle.bac_reading.specs.declared.decoding.Decoding.TheVariants as decodings
 use Rattle.bac_reading.specs.declared.decoding.LayerForm.TheVariants as layers
@@ -51,6 +53,11 @@ form_of_list lists.Objects = Json
 abbrev pub form_of_ask : Asking → Option Form
 form_of_ask asking = if is_raw asking then None else Some (form_by (is_json asking))
 
+-- octets of a file go to standard output as they are
+abbrev pub form_of_files : FileWork → Asking → Option Form
+form_of_files (files.Fetch object None) asking = None
+form_of_files work asking = form_of_ask asking
+
 -- None where that is octets by nature, or wanted as it came
 abbrev pub form_of : Task → Option Form
 form_of (task.Answer datagram objects) = Some Text
@@ -64,7 +71,7 @@ form_of (task.Keep path loss form) = Some (form_of_list form)
 form_of (task.Forget forgetting) = Some Text
 form_of (task.Ask asking peer words) = form_of_ask asking
 form_of (task.AskLines asking default path) = form_of_ask asking
-form_of (task.Files file work) = form_of_ask file.asking
+form_of (task.Files file work) = form_of_files work file.asking
 form_of (task.Points points) = form_of_ask points.asking
 form_of task.Pair = Some Text
 form_of (task.Tell telling) = Some Text

@@ -1,15 +1,22 @@
 //! How complaints of a command line are shown.
 ghost use Rattle.std.specs.Prelude.{◌≡◌};
-ghost use Rattle.bac_command_line.specs.Complaints.{complaints_of, draws_progress};
+ghost use Rattle.bac_command_line.specs.Complaints.{complaints_of, draws_progress, is_of_files};
 
 use bac_shown::Form;
 use clap::ArgMatches;
+
+/// Whether a command reads or writes whole files.
+fn is_of_files(command: &str) -> bool
+    ensures { result ≡ is_of_files command.now }
+{
+    command == "get" || command == "put" || command == "backup" || command == "restore"
+}
 
 /// Whether a command draws its progress on a terminal, by control characters of its own.
 fn draws_progress(command: &str) -> bool
     ensures { result ≡ draws_progress command.now }
 {
-    command == "ask" || command == "backup" || command == "restore"
+    is_of_files(command) || command == "ask"
 }
 
 /// How complaints of a command are shown: as they come where progress is drawn between them, as objects of JSON where a server's log has these.

@@ -168,7 +168,10 @@ pub(crate) fn print_no_task<E: Write>(matches: &ArgMatches<'_>, err: &mut E) -> 
             }
             None => print_bad_address(bad_node(given), err),
         },
-        Some(("backup" | "restore", given)) => print_bad_address(bad_node(given), err),
+        Some(("get" | "put" | "backup" | "restore", given)) => print_bad_address(
+            bad_node(given),
+            err,
+        ),
         Some(("read" | "write" | "points", given)) => match bad_timeout(given) {
             Some(text) => {
                 print_bad_timeout(text, err);

@@ -1,9 +1,10 @@
 //! How what a task prints is shown.
 ghost use Rattle.std.specs.Prelude.{◌≡◌};
-ghost use Rattle.bac_command_line.specs.ShownForms.{form_by, form_of, form_of_ask, form_of_list, form_of_view, is_json_decoding, is_json_report};
+ghost use Rattle.bac_command_line.specs.ShownForms.{form_by, form_of, form_of_ask, form_of_files, form_of_list, form_of_view, is_json_decoding, is_json_report};
 
 use crate::task::Task;
 use bac_asking::Asking;
+use bac_files::FileWork;
 use bac_reading::{Decoding, LayerForm, Report};
 use bac_serving::ListForm;
 use bac_shown::Form;
@@ -75,6 +76,16 @@ fn form_of_ask(asking: &Asking) -> Option<Form>
     }
 }
 
+/// Octets of a file go to standard output as they are.
+fn form_of_files(work: &FileWork<'_, '_>, asking: &Asking) -> Option<Form>
+    ensures { result ≡ form_of_files work.now asking.now }
+{
+    match work {
+        FileWork::Fetch { path: None, .. } => None,
+        _ => form_of_ask(asking),
+    }
+}
+
 /// How what a task prints is shown. None where that is octets by nature, or wanted as it came.
 pub(crate) fn form_of(task: &Task<'_, '_>) -> Option<Form>
     ensures { result ≡ form_of task.now }
@@ -91,7 +102,7 @@ pub(crate) fn form_of(task: &Task<'_, '_>) -> Option<Form>
         Task::Forget(_) => Some(Form::Text),
         Task::Ask { asking, .. } => form_of_ask(asking),
         Task::AskLines { asking, .. } => form_of_ask(asking),
-        Task::Files { task, .. } => form_of_ask(&task.asking),
+        Task::Files { task, work } => form_of_files(work, &task.asking),
         Task::Points(task) => form_of_ask(&task.asking),
         Task::Pair => Some(Form::Text),
         Task::Tell(_) => Some(Form::Text),

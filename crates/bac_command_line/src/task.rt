@@ -1,6 +1,6 @@
 //! What a command line asks for.
 use bac_asking::{Asking, asking_of, bad_pace, default_of, peer_of};
-use bac_files::{FileTask, FileWork, backup_of, file_task_of, work_of};
+use bac_files::{FileTask, FileWork, file_task_of, file_work_of, work_of};
 use bac_keep_file::Loss;
 use bac_npdu::Peer;
 use bac_points::{PointTask, point_task_of};
@@ -228,13 +228,9 @@ pub(crate) fn task_of<'m, 'a>(
                 words,
             })
         }
-        ("backup", given) => Some(Task::Files {
+        (command @ ("get" | "put" | "backup" | "restore"), given) => Some(Task::Files {
             task: file_task_of(given, is_terminal)?,
-            work: backup_of(given)?,
-        }),
-        ("restore", given) => Some(Task::Files {
-            task: file_task_of(given, is_terminal)?,
-            work: FileWork::Restore(given.get_str("folder")?),
+            work: file_work_of(command, given)?,
         }),
         (command @ ("read" | "write" | "points"), given) => {
             Some(Task::Points(point_task_of(command, given)?))

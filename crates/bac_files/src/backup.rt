@@ -3,13 +3,16 @@ ghost use Rattle.std.specs.Prelude.{IfErr};
 ghost use Rattle.bac_text.specs.Statuses.{IsStop};
 
 use crate::comparing::{Comparison, compare, digest_of};
-use crate::file_news::{FileNews, print_news, print_not_read};
+use crate::file_news::{FileNews, news_of_unput, print_news, print_not_read};
 use crate::file_task::{ChosenFiles, FileTask};
 use crate::folder::{Folder, MANIFEST};
 use crate::listed_files::{listed_files, objects_in};
-use crate::manifest::{SavedFile, file_name, manifest_line, read_manifest_line};
+use crate::manifest::{SavedFile, file_name};
 use crate::peer_file::{PeerFile, end_words};
-use crate::reasons::{print_bad_manifest, print_empty_manifest, print_no_files};
+use crate::reasons::{
+    print_empty_manifest, print_no_files, print_nothing_restored, print_nothing_saved,
+};
+use crate::saved_files::{are_saved, has_object, manifest_of};
 use crate::whole_files::client_of;
 use crate::whole_reading::{Got, read_whole};
 use crate::whole_writing::{Put, replace_whole};
@@ -20,7 +23,7 @@ use bac_npdu::Peer;
 use bac_point_report::is_silent;
 use bac_text::{Status, no_memory};
 use bac_value::ObjectIdentifier;
-use std::alloc::{AllocError, Global};
+use std::alloc::Global;
 use std::io::Write;
 
 /// The files of a peer, and the folder that has them.
@@ -65,40 +68,40 @@ fn name_in<E: Write>(alloc: Global, object: ObjectIdentifier, err: &mut E) -> Re
     }
 }
 
-/// Adds the line of a file to a manifest.
-fn add_line(alloc: Global, file: &SavedFile, manifest: &mut Vec<u8>) -> Result<(), AllocError> {
-    let line = manifest_line(alloc, file)?;
-    manifest.extend_from_slice(&line)?;
-    manifest.push(b'\n')?;
-    Ok(())
+/// The files that a backup is to save.
+#[derive(Clone, Copy)]
+struct Wanted<'o> {
+    objects: &'o [ObjectIdentifier],
+    /// Whether the manifest also lists other files of an earlier one.
+    keeps_others: bool,
 }
 
-/// Whether one of some files is that of an object.
-fn has_object(files: &[SavedFile], object: ObjectIdentifier) -> bool {
-    files.iter().any(|file| file.object == object)
-}
-
-/// The manifest of files that were saved, and of those of an earlier one that were not.
-fn manifest_of(
-    alloc: Global,
-    saved: &[SavedFile],
-    earlier: &[SavedFile],
-) -> Result<Vec<u8>, AllocError> {
-    let mut manifest = Vec::new(alloc);
-    for file in saved {
-        add_line(alloc, file, &mut manifest)?;
-    }
-    for file in earlier {
-        if !has_object(saved, file.object) {
-            add_line(alloc, file, &mut manifest)?;
+impl<'o> Wanted<'o> {
+    /// These alone: all files of a device.
+    fn all(objects: &'o [ObjectIdentifier]) -> Wanted<'o> {
+        Wanted {
+            objects,
+            keeps_others: false,
         }
     }
-    Ok(manifest)
-}
 
-/// Whether octets are those of a saved file.
-fn are_saved(file: &SavedFile, octets: &[u8]) -> bool {
-    octets.len() as u64 == file.length && digest_of(octets) == file.digest
+    /// These, beside others that were saved before.
+    fn named(objects: &'o [ObjectIdentifier]) -> Wanted<'o> {
+        Wanted {
+            objects,
+            keeps_others: true,
+        }
+    }
+
+    /// Whether all of them are among some files.
+    fn are_all_in(&self, saved: &[SavedFile]) -> bool {
+        self.objects.iter().all(|object| has_object(saved, *object))
+    }
+
+    /// The files of an earlier manifest that the new one also lists, if they are not saved anew.
+    fn others_of<'s>(&self, earlier: &'s [SavedFile]) -> &'s [SavedFile] {
+        if self.keeps_others { earlier } else { &[] }
+    }
 }
 
 impl<F: OpenFiles, M: ClientSockets> Backup<'_, F, M> {
@@ -256,16 +259,16 @@ impl<F: OpenFiles, M: ClientSockets> Backup<'_, F, M> {
         Ok(names)
     }
 
-    /// Writes the manifest of files that were saved, and of those of an earlier one that were not, beside that of the folder.
+    /// Writes the manifest of files that were saved, and of others that it also lists, beside that of the folder.
     fn write_manifest<E: Write>(
         &self,
         saved: &[SavedFile],
-        earlier: &[SavedFile],
+        others: &[SavedFile],
         err: &mut E,
     ) -> Result<(), Status>
         ensures told { IfErr result IsStop }
     {
-        let Ok(manifest) = manifest_of(self.folder.alloc, saved, earlier) else {
+        let Ok(manifest) = manifest_of(self.folder.alloc, saved, others) else {
             return Err(no_memory(err));
         };
         let there = self.folder.write_unfinished(MANIFEST, &manifest, err)?;
@@ -286,17 +289,11 @@ impl<F: OpenFiles, M: ClientSockets> Backup<'_, F, M> {
         self.folder.finish(MANIFEST, err)
     }
 
-    /// Puts files that were saved, and at last their manifest, in place of those of the folder. Files of an earlier manifest that were not saved now keep their lines.
-    fn finish<E: Write>(
-        &self,
-        saved: &[SavedFile],
-        earlier: &[SavedFile],
-        err: &mut E,
-    ) -> Result<(), Status>
+    /// Puts files that were saved, and at last their manifest, in place of those of the folder.
+    fn finish<E: Write>(&self, saved: &[SavedFile], err: &mut E) -> Result<(), Status>
         ensures told { IfErr result IsStop }
     {
         let names = self.names_of(saved, err)?;
-        self.write_manifest(saved, earlier, err)?;
         self.finish_each(&names, err)
     }
 
@@ -316,41 +313,85 @@ impl<F: OpenFiles, M: ClientSockets> Backup<'_, F, M> {
         Ok(())
     }
 
-    /// Puts files that were saved in place, if there are any, and prints which they are.
+    /// Puts files that were saved, and their manifest, in place, and prints which they are.
     fn conclude<O: Write, E: Write>(
         &self,
         saved: &[SavedFile],
-        earlier: &[SavedFile],
         out: &mut O,
         err: &mut E,
     ) -> Result<(), Status>
         ensures told { IfErr result IsStop }
     {
-        if !saved.is_empty() {
-            self.finish(saved, earlier, err)?;
-        }
+        self.finish(saved, err)?;
         self.print_saved(saved, out, err)
     }
 
-    /// Saves files of the peer beside those of an earlier manifest. Answers whether all were saved.
-    fn save_beside<O: Write, E: Write>(
-        &mut self,
+    /// Writes the manifest of files, if they are all that are wanted. Answers whether they are.
+    fn list_if_all<E: Write>(
+        &self,
+        wanted: Wanted<'_>,
+        saved: &[SavedFile],
         earlier: &[SavedFile],
-        objects: &[ObjectIdentifier],
+        err: &mut E,
+    ) -> Result<bool, Status>
+        ensures told { IfErr result IsStop }
+    {
+        if !wanted.are_all_in(saved) {
+            return Ok(false);
+        }
+        self.write_manifest(saved, wanted.others_of(earlier), err)?;
+        Ok(true)
+    }
+
+    /// Writes files of the peer and their manifest beside those of the folder. Answers the files; None where one of them could not be read or written, which is printed.
+    fn write_beside<O: Write, E: Write>(
+        &mut self,
+        wanted: Wanted<'_>,
+        earlier: &[SavedFile],
+        out: &mut O,
+        err: &mut E,
+    ) -> Result<Option<Vec<SavedFile>>, Status>
+        ensures told { IfErr result IsStop }
+    {
+        let saved = self.save_each(wanted.objects, out, err)?;
+        if self.list_if_all(wanted, &saved, earlier, err)? {
+            Ok(Some(saved))
+        } else {
+            Ok(None)
+        }
+    }
+
+    /// Saves files of the peer in a folder with an earlier manifest of these files. Where one is not saved, `err` says that the folder is as it was.
+    fn save_over<O: Write, E: Write>(
+        &mut self,
+        wanted: Wanted<'_>,
+        earlier: &[SavedFile],
         out: &mut O,
         err: &mut E,
     ) -> Result<bool, Status>
         ensures told { IfErr result IsStop }
     {
-        let saved = self.save_each(objects, out, err)?;
-        self.conclude(&saved, earlier, out, err)?;
-        Ok(objects.iter().all(|object| has_object(&saved, *object)))
+        match self.write_beside(wanted, earlier, out, err) {
+            Ok(Some(saved)) => {
+                self.conclude(&saved, out, err)?;
+                Ok(true)
+            }
+            Ok(None) => {
+                print_nothing_saved(self.folder.path, !earlier.is_empty(), err);
+                Ok(false)
+            }
+            Err(status) => {
+                print_nothing_saved(self.folder.path, !earlier.is_empty(), err);
+                Err(status)
+            }
+        }
     }
 
-    /// Saves files of the peer. Nothing of the folder changes until all of them are written beside those that are there; where none is saved, nothing changes. Prints which are saved once all of them are in place. Answers whether all were saved.
+    /// Saves files of the peer. They and their manifest get their names once all of them are written beside those that are there; where one is not saved, none of them
+    /// does. Prints which are saved once all are in place. Answers whether they are.
     fn save_all<O: Write, E: Write>(
         &mut self,
-        objects: &[ObjectIdentifier],
+        wanted: Wanted<'_>,
         out: &mut O,
         err: &mut E,
     ) -> Result<bool, Status>
@@ -358,7 +399,7 @@ impl<F: OpenFiles, M: ClientSockets> Backup<'_, F, M> {
     {
         self.folder.make(err)?;
         let earlier = self.earlier(err)?;
-        self.save_beside(&earlier, objects, out, err)
+        self.save_over(wanted, &earlier, out, err)
     }
 
     /// Saves the files in the object-list of the device with this instance. Answers whether all were saved; prints why not.
@@ -375,7 +416,7 @@ impl<F: OpenFiles, M: ClientSockets> Backup<'_, F, M> {
                 print_no_files(err);
                 Ok(false)
             }
-            Some(listed) => self.save_all(&listed, out, err),
+            Some(listed) => self.save_all(Wanted::all(&listed), out, err),
             None => Ok(false),
         }
     }
@@ -412,11 +453,7 @@ impl<F: OpenFiles, M: ClientSockets> Backup<'_, F, M> {
         let Ok(why) = end_words(alloc, &put.last) else {
             return Err(no_memory(err));
         };
-        let news = match put.uncut {
-            Some(uncut) => FileNews::NotCut(uncut, &why),
-            None => FileNews::NotPut(put.count, count, &why),
-        };
-        print_news(alloc, object, &news, out, err)?;
+        print_news(alloc, object, &news_of_unput(count, put, &why), out, err)?;
         self.note_silence(&put.last.end, err);
         Ok(())
     }
@@ -480,8 +517,7 @@ impl<F: OpenFiles, M: ClientSockets> Backup<'_, F, M> {
         self.print_compared(file, count, &got, out, err)
     }
 
-    /// The octets of a file of the folder, as many as it is to have, and one more where it is longer; None where it cannot be read, which `err` says: the others can
-    /// be restored.
+    /// The octets of a file of the folder, as many as it is to have, and one more where it is longer; None where it cannot be read, which `err` says.
     fn kept<E: Write>(&self, file: &SavedFile, err: &mut E) -> Result<Option<Vec<u8>>, Status>
         ensures told { IfErr result IsStop }
     {
@@ -504,8 +540,8 @@ impl<F: OpenFiles, M: ClientSockets> Backup<'_, F, M> {
     ) -> Result<bool, Status>
         ensures told { IfErr result IsStop }
     {
-        if !are_saved(file, octets) {
-            self.print_damaged(file.object, out, err)?;
+        // it may have changed since it was looked at
+        if !self.is_undamaged(file, octets, out, err)? {
             return Ok(false);
         }
         if !self.put_all(file.object, octets, out, err)? {
@@ -529,8 +565,57 @@ impl<F: OpenFiles, M: ClientSockets> Backup<'_, F, M> {
         }
     }
 
+    /// Whether octets are those of a file in the manifest; prints if they are not.
+    fn is_undamaged<O: Write, E: Write>(
+        &self,
+        file: &SavedFile,
+        octets: &[u8],
+        out: &mut O,
+        err: &mut E,
+    ) -> Result<bool, Status>
+        ensures told { IfErr result IsStop }
+    {
+        if are_saved(file, octets) {
+            return Ok(true);
+        }
+        self.print_damaged(file.object, out, err)?;
+        Ok(false)
+    }
+
+    /// Whether the folder has a file as the manifest lists it; prints if it has not.
+    fn has_file<O: Write, E: Write>(
+        &self,
+        file: &SavedFile,
+        out: &mut O,
+        err: &mut E,
+    ) -> Result<bool, Status>
+        ensures told { IfErr result IsStop }
+    {
+        match self.kept(file, err)? {
+            Some(octets) => self.is_undamaged(file, &octets, out, err),
+            None => Ok(false),
+        }
+    }
+
+    /// Whether the folder has all of these files as the manifest lists them; prints which it has not.
+    fn has_files<O: Write, E: Write>(
+        &self,
+        files: &[SavedFile],
+        out: &mut O,
+        err: &mut E,
+    ) -> Result<bool, Status>
+        ensures told { IfErr result IsStop }
+    {
+        let mut all = true;
+        for file in files {
+            let has = self.has_file(file, out, err)?;
+            all = all && has;
+        }
+        Ok(all)
+    }
+
     /// Writes files of the folder back, one after the other, up to one that gets no answer. Answers whether the peer has all of them then.
-    fn restore_all<O: Write, E: Write>(
+    fn restore_each<O: Write, E: Write>(
         &mut self,
         files: &[SavedFile],
         out: &mut O,
@@ -544,6 +629,22 @@ impl<F: OpenFiles, M: ClientSockets> Backup<'_, F, M> {
             all = all && restored;
         }
         Ok(all)
+    }
+
+    /// Writes files of the folder back, if all of them are as the manifest lists them; otherwise none. Answers whether the peer has all of them then.
+    fn restore_all<O: Write, E: Write>(
+        &mut self,
+        files: &[SavedFile],
+        out: &mut O,
+        err: &mut E,
+    ) -> Result<bool, Status>
+        ensures told { IfErr result IsStop }
+    {
+        if self.has_files(files, out, err)? {
+            return self.restore_each(files, out, err);
+        }
+        print_nothing_restored(err);
+        Ok(false)
     }
 }
 
@@ -582,7 +683,7 @@ fn back_up_named<F: OpenFiles, M: ClientSockets, O: Write, E: Write>(
     ensures told { IfErr result IsStop }
 {
     let mut backup = backup_in(environment, task, path, err)?;
-    backup.save_all(objects, out, err)
+    backup.save_all(Wanted::named(objects), out, err)
 }
 
 /// Saves the files of a device in a folder. Answers whether all were saved.
@@ -617,39 +718,6 @@ pub(crate) fn back_up<F: OpenFiles, M: ClientSockets, O: Write, E: Write>(
             back_up_named(environment, task, &named, path, out, err)
         }
         ChosenFiles::Listed(device) => { back_up_listed(environment, task, device, path, out, err) }
-    }
-}
-
-impl<F: OpenFiles> Folder<'_, F> {
-    /// The files of a manifest in it. A line of no such form: its number on `err`.
-    fn files_in<E: Write>(&self, text: &[u8], err: &mut E) -> Result<Vec<SavedFile>, Status>
-        ensures told { IfErr result IsStop }
-    {
-        let Ok(text) = std::str::from_utf8(text) else {
-            return Err(print_bad_manifest(self.path, 1, err));
-        };
-        let mut files = Vec::new(self.alloc);
-        for (place, line) in text.lines().enumerate() {
-            let Ok(read) = read_manifest_line(self.alloc, line) else {
-                return Err(no_memory(err));
-            };
-            let Some(file) = read else {
-                let number = place.saturating_add(1);
-                return Err(print_bad_manifest(self.path, number, err));
-            };
-            if files.push(file).is_err() {
-                return Err(no_memory(err));
-            }
-        }
-        Ok(files)
-    }
-
-    /// The files of its manifest.
-    fn manifest_files<E: Write>(&self, err: &mut E) -> Result<Vec<SavedFile>, Status>
-        ensures told { IfErr result IsStop }
-    {
-        let text = self.read(MANIFEST, err)?;
-        self.files_in(&text, err)
     }
 }
 

@@ -1,10 +1,10 @@
-//! What `backup` and `restore` print of a file.
+//! What `backup`, `restore`, `get` and `put` print of a file.
 ghost use Rattle.std.specs.Prelude.{IfErr};
 ghost use Rattle.bac_text.specs.Statuses.{IsStop};
 
 use crate::peer_file::end_words;
 use crate::whole_reading::Got;
-use crate::whole_writing::Uncut;
+use crate::whole_writing::{Put, Uncut};
 use bac_text::{Status, no_memory, output_failed};
 use bac_value::ObjectIdentifier;
 use bac_value_text::object_text;
@@ -111,6 +111,25 @@ pub(crate) fn print_news<O: Write, E: Write>(
     }
 }
 
+/// Tells on `err` what came of a file, behind its name.
+pub(crate) fn tell_news<E: Write>(
+    alloc: Global,
+    object: ObjectIdentifier,
+    news: &FileNews<'_>,
+    err: &mut E,
+) {
+    // if that fails too, only the status is left
+    let _ = write_line(alloc, object, news, err);
+}
+
+/// What came of so many octets that were not put as a whole, for that reason.
+pub(crate) fn news_of_unput<'a>(count: usize, put: &Put, why: &'a [u8]) -> FileNews<'a> {
+    match put.uncut {
+        Some(uncut) => FileNews::NotCut(uncut, why),
+        None => FileNews::NotPut(put.count, count, why),
+    }
+}
+
 /// Why a file was not read to its end: what was wrong with its last part, or how the last read ended.
 fn reason_in(alloc: Global, got: &Got) -> Result<Vec<u8>, AllocError> {
     match got.fault {
@@ -137,4 +156,21 @@ pub(crate) fn print_not_read<O: Write, E: Write>(
     };
     let count = got.octets.len();
     print_news(alloc, object, &FileNews::NotRead(count, &why), out, err)
+}
+
+/// Tells on `err` that a file was not read to its end, and why.
+pub(crate) fn tell_not_read<E: Write>(
+    alloc: Global,
+    object: ObjectIdentifier,
+    got: &Got,
+    err: &mut E,
+) -> Result<(), Status>
+    ensures told { IfErr result IsStop }
+{
+    let Ok(why) = reason_in(alloc, got) else {
+        return Err(no_memory(err));
+    };
+    let count = got.octets.len();
+    tell_news(alloc, object, &FileNews::NotRead(count, &why), err);
+    Ok(())
 }

@@ -5,6 +5,7 @@ ghost use Rattle.bac_files.specs.WholeFiles.{IsFiled};
 ghost use Rattle.bac_npdu.specs.Views.{peer_view};
 
 use crate::backup::{back_up, restore};
+use crate::named_file::{fetch, send};
 use crate::reasons::print_no_whole_file;
 use crate::whole_files::{get, put};
 use bac_asking::{Asking, ClientSockets, asking_of, peer_of, tell_unsent};
@@ -31,12 +32,22 @@ pub enum ChosenFiles<'m, 'a> {
 /// What is done with whole files of a peer.
 #[derive(Clone, Copy)]
 pub enum FileWork<'m, 'a> {
-    /// A file is read, and printed or written to the file at a path.
+    /// A file is read, and its octets are written to the file at a path, or as they are.
+    Fetch {
+        object: &'a str,
+        path: Option<&'a str>,
+    },
+    /// The octets of the file at a path are written into a file of the peer, and it is said how many they are.
+    Send {
+        object: &'a str,
+        path: &'a str,
+    },
+    /// A file is read, and printed as `ask` does or written to the file at a path.
     Get {
         object: &'a str,
         path: Option<&'a str>,
     },
-    /// The octets of the file at a path are written into a file of the peer.
+    /// The octets of the file at a path are written into a file of the peer, and how that ended is printed as `ask` does.
     Put {
         object: &'a str,
         path: &'a str,
@@ -94,7 +105,7 @@ pub fn work_of<'m, 'a>(given: &'m ArgMatches<'a>, asking: &Asking) -> Option<Fil
     whole_work(given.get_strs("WORDS")?, given.get_str("out"))
 }
 
-/// How the arguments of `backup` or `restore` say that a peer is asked: by default the node on this machine at the port of BACnet/IP. None if an address is invalid.
+/// How the arguments of `get`, `put`, `backup` or `restore` say that a peer is asked: by default the node on this machine at the port of BACnet/IP. None if an address is invalid.
 pub fn file_task_of(given: &ArgMatches<'_>, shows_progress: bool) -> Option<FileTask>
     ensures { IfSome result (λ t. IsGiven given.now t.asking × IsPeerGiven given.now (Some BACNET_PORT) (peer_view t.peer)) }
 {
@@ -105,13 +116,30 @@ pub fn file_task_of(given: &ArgMatches<'_>, shows_progress: bool) -> Option<File
 }
 
 /// What the arguments of `backup` ask for. None if they name no folder.
-pub fn backup_of<'m, 'a>(given: &'m ArgMatches<'a>) -> Option<FileWork<'m, 'a>> {
+fn backup_of<'m, 'a>(given: &'m ArgMatches<'a>) -> Option<FileWork<'m, 'a>> {
     let folder = given.get_str("folder")?;
     let chosen = match given.get_strs("OBJECTS") {
         Some(objects) => ChosenFiles::Named(objects),
         None => ChosenFiles::Listed(given.get_one("device").unwrap_or(ANY_DEVICE)),
     };
     Some(FileWork::BackUp { chosen, folder })
+}
+
+/// What the arguments of `get`, `put`, `backup` or `restore` ask for. None if it is another command, or a word is missing.
+pub fn file_work_of<'m, 'a>(command: &str, given: &'m ArgMatches<'a>) -> Option<FileWork<'m, 'a>> {
+    match command {
+        "get" => Some(FileWork::Fetch {
+            object: given.get_str("OBJECT")?,
+            path: given.get_str("out"),
+        }),
+        "put" => Some(FileWork::Send {
+            object: given.get_str("OBJECT")?,
+            path: given.get_str("FILE")?,
+        }),
+        "backup" => backup_of(given),
+        "restore" => Some(FileWork::Restore(given.get_str("folder")?)),
+        _ => None,
+    }
 }
 
 /// The status of what was done, with a fault or without, or of what stopped it.
@@ -134,6 +162,12 @@ pub fn do_with_files<F: OpenFiles, M: ClientSockets, O: Write, E: Write>(
     ensures { IsFiled result }
 {
     let status = match work {
+        FileWork::Fetch { object, path } => {
+            status_of(fetch(environment, task, object, path, out, err))
+        }
+        FileWork::Send { object, path } => {
+            status_of(send(environment, task, object, path, out, err))
+        }
         FileWork::Get { object, path } => {
             status_of(get(environment, task, object, path, out, err))
         }

@@ -18,6 +18,26 @@ use std::io::Write;
 /// The number of the object type file (clause 21).
 const FILE: u16 = 10;
 
+/// The object that a word names. A word that names none: `bad words` on `err`, and which.
+pub(crate) fn object_named_by<E: Write>(
+    alloc: Global,
+    word: &str,
+    err: &mut E,
+) -> Result<ObjectIdentifier, Status>
+    ensures told { IfErr result IsStop }
+{
+    match object_in(word.as_bytes()) {
+        Some(object) => Ok(object),
+        None => {
+            let bad = BadWord {
+                wanted: Wanted::Object,
+                word: Some(word.as_bytes()),
+            };
+            Err(print_bad_name(alloc, bad, err))
+        }
+    }
+}
+
 /// The objects that words name. Words that name none: `bad words` on `err`, and which.
 pub(crate) fn objects_in<E: Write>(
     alloc: Global,
@@ -28,13 +48,7 @@ pub(crate) fn objects_in<E: Write>(
 {
     let mut objects = Vec::new(alloc);
     for word in words {
-        let Some(object) = object_in(word.as_bytes()) else {
-            let bad = BadWord {
-                wanted: Wanted::Object,
-                word: Some(word.as_bytes()),
-            };
-            return Err(print_bad_name(alloc, bad, err));
-        };
+        let object = object_named_by(alloc, *word, err)?;
         if objects.push(object).is_err() {
             return Err(no_memory(err));
         }

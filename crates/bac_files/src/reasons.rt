@@ -53,3 +53,22 @@ pub(crate) fn print_empty_manifest<E: Write>(folder: &str, err: &mut E) {
     // if that fails too, only the status is left
     let _ = writeln!(err, "{folder}/manifest: no files");
 }
+
+/// Tells that no file was saved, and that what is in the folder is as it was, if an earlier backup is there.
+pub(crate) fn print_nothing_saved<E: Write>(folder: &str, has_earlier: bool, err: &mut E) {
+    // if that fails too, only the status is left
+    let _ = if has_earlier {
+        writeln!(
+            err,
+            "nothing was saved: the earlier backup in {folder} is unchanged"
+        )
+    } else {
+        writeln!(err, "nothing was saved in {folder}")
+    };
+}
+
+/// Tells that no file was written back.
+pub(crate) fn print_nothing_restored<E: Write>(err: &mut E) {
+    // if that fails too, only the status is left
+    let _ = err.writeln("nothing was restored");
+}

@@ -18,9 +18,9 @@ use std::io::Write;
 
 /// The file that a whole file is written to.
 #[derive(Drop)]
-struct Target<'e, F> {
-    files: &'e F,
-    path: &'e str,
+pub(crate) struct Target<'e, F> {
+    pub files: &'e F,
+    pub path: &'e str,
 }
 
 /// A client of a task's machine, at the address that its peer sees.
@@ -51,7 +51,7 @@ fn print_asked<M: ClientSockets, O: Write, E: Write>(
 }
 
 /// Writes octets to a file, and says how many. Where they cannot be written, `err` and the status say so.
-fn write_out<F: OpenFiles, O: Write, E: Write>(
+pub(crate) fn write_out<F: OpenFiles, O: Write, E: Write>(
     target: &Target<'_, F>,
     octets: &[u8],
     out: &mut O,
@@ -217,7 +217,7 @@ fn print_put<M: ClientSockets, O: Write, E: Write>(
 }
 
 /// Whether a file has no more octets than were put into it; where it has more, or does not tell, `err` says so.
-fn has_no_more<M: ClientSockets, E: Write>(
+pub(crate) fn has_no_more<M: ClientSockets, E: Write>(
     asking: &Asking,
     client: &mut Client<'_, M>,
     file: &PeerFile<'_>,

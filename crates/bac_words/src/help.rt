@@ -101,6 +101,7 @@ For people:
   read        prints values of a device's objects
   write       writes a value, and reads it back
   points      lists a device's objects, with their values and units
+  get, put    reads a device's file, or writes it
   backup      saves a device's files in a folder
   restore     writes the saved files back
 A device:
@@ -116,10 +117,9 @@ For tests:
   answer      prints what a server sends back for a datagram
 More:
   ask         sends a request, or those of a list
-  help        explains a command: bac help read
   version     prints the version
   completion  prints a script for bash, zsh or fish
-`bac help --all` says more of each; `bac help values` lists names of values.
+`bac help read` explains read; `--all` says more of each, `values` lists names.
 ";
 
 /// Writes all commands.

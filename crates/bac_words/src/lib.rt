@@ -4,6 +4,7 @@
 mod backup_words;
 mod capture_words;
 mod completion;
+mod file_words;
 mod grammar;
 mod help;
 mod help_words;

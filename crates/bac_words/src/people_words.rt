@@ -1,4 +1,6 @@
-//! What `read`, `write` and `points` take: the commands for people.
+//! The commands for people, and what `read`, `write` and `points` take.
+use crate::backup_words::{BACKUP, RESTORE};
+use crate::file_words::{GET, GET_EXAMPLES, PUT, PUT_EXAMPLES};
 use crate::words::Grammar;
 
 /// Examples for `read`.
@@ -70,6 +72,30 @@ const PEOPLE: &[Grammar] = &[
         about: "Lists the objects of a device, one per line, with name, value, units, description and status. The columns are aligned on a terminal; elsewhere tabs stand between them",
         after: POINTS_EXAMPLES,
         words: POINTS,
+    },
+    Grammar {
+        name: "get",
+        about: "Reads a file of a device as a whole, and prints its octets or writes them to a file",
+        after: GET_EXAMPLES,
+        words: GET,
+    },
+    Grammar {
+        name: "put",
+        about: "Writes a file into one of a device, which has these octets then and no others",
+        after: PUT_EXAMPLES,
+        words: PUT,
+    },
+    Grammar {
+        name: "backup",
+        about: "Saves files of a device in a folder, with their digests",
+        after: "Example: bac backup --device 100 --folder saved\nExample: bac backup --to 192.168.1.20 --folder saved file:1 file:2",
+        words: BACKUP,
+    },
+    Grammar {
+        name: "restore",
+        about: "Restores files that `bac backup` saved, reads them back from the device, and compares their digests",
+        after: "Example: bac restore --folder saved\nExample: bac restore --to 192.168.1.20 --folder saved",
+        words: RESTORE,
     },
 ];
 

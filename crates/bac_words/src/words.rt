@@ -4,7 +4,6 @@
 //! FORM is `bare`, `several`, `flag`, `one-of` (one of those that [`names_of`] has for NAME), `text VALUE`, `number VALUE MOST` (from 1), `index VALUE MOST` (from 0)
 //! or `choice VALUE` (one of those names); VALUE is what help calls the text behind the name. NEED is `always`, `never`, `unless WORD`, `beside WORD` or, at the first of
 //! words of which one is required, `one WORD..`. AGAINST is the words that it conflicts with, with spaces between.
-use crate::backup_words::{BACKUP, RESTORE};
 use crate::capture_words::{
     CHECK, CHECK_EXAMPLES, DECODE, DECODE_EXAMPLES, EXPLAIN, EXPLAIN_EXAMPLES,
 };
@@ -328,17 +327,5 @@ pub(crate) const OTHERS: &[Grammar] = &[
         about: "Runs two nodes on free UDP ports: one appends AABBCC to a file of the other, and then reads a value",
         after: "Example: bac pair",
         words: "",
-    },
-    Grammar {
-        name: "backup",
-        about: "Saves files of a device in a folder, with their digests",
-        after: "Example: bac backup --device 100 --folder saved\nExample: bac backup --to 192.168.1.20 --folder saved file:1 file:2",
-        words: BACKUP,
-    },
-    Grammar {
-        name: "restore",
-        about: "Restores files that `bac backup` saved, reads them back from the device, and compares their digests",
-        after: "Example: bac restore --folder saved\nExample: bac restore --to 192.168.1.20 --folder saved",
-        words: RESTORE,
     },
 ];
