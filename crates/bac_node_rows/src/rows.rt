@@ -49,6 +49,29 @@ fn play<R: Net + Clock>(rt: &R, it: Played<'_>, out: &mut Row) {
     }
 }
 
+/// What rows are played on, and the last scene before them.
+#[derive(Drop)]
+struct Rows<'a, R> {
+    rt: &'a R,
+    scene: &'a str,
+}
+
+impl<'a, R: Net + Clock> Rows<'a, R> {
+    /// Plays a row of whatever kind.
+    fn go_on(&mut self, text: &'a str, row: &mut Row) {
+        let (title, lines) = text.split_once('\n').unwrap_or((text, ""));
+        let lines = lines.trim_end_matches('\n');
+        let kind = first(title).0;
+        row.say_line("\n=", title);
+        if kind == "scene" {
+            self.scene = lines;
+        } else {
+            let scene = self.scene;
+            play(self.rt, Played { kind, scene, lines }, row);
+        }
+    }
+}
+
 /// Plays each row of a text, and prints what comes of it: each on the last scene before it, and on links, clocks and sockets of that runtime. An Err is out of
 /// memory.
 pub fn play_all<R: Net + Clock>(
@@ -58,17 +81,9 @@ pub fn play_all<R: Net + Clock>(
     out: &mut Vec<u8>,
 ) -> io::Result<()> {
     let mut row = Row::new(alloc);
-    let mut scene = "";
+    let mut rows = Rows { rt, scene: "" };
     for text in text.split('=').skip(1) {
-        let (title, lines) = text.split_once('\n').unwrap_or((text, ""));
-        let lines = lines.trim_end_matches('\n');
-        let kind = first(title).0;
-        row.say_line("\n=", title);
-        if kind == "scene" {
-            scene = lines;
-        } else {
-            play(rt, Played { kind, scene, lines }, &mut row);
-        }
+        rows.go_on(text, &mut row);
     }
     out.write_all(&row.told)
 }
