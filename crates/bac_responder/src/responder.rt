@@ -1,5 +1,5 @@
 //! The server's end: the calls that bac_node makes. Their contracts are what crates above rest on.
-ghost use Rattle.std.specs.Prelude.{◌≡◌, ◌≢◌, ℕ, ◌<◌, ◌≤◌, ◌↔◌, [], None, Some, count_by, max, IfOk, IsTrue, OnOk};
+ghost use Rattle.std.specs.Prelude.{◌≡◌, ◌≢◌, ℕ, ◌<◌, ◌≤◌, ◌↔◌, [], None, Some, count_by, max, true, IfOk, IsTrue, OnOk};
 ghost use Rattle.std.specs.Option.{option_map};
 ghost use Rattle.bac_apdu.specs.Views.{apdu_view};
 ghost use Rattle.bac_npdu.specs.Peers.{PeerView};
@@ -293,9 +293,8 @@ impl<S: SlotTable<PeerKey, ServerTransaction> + Drop> Responder<S> {
     /// one APDU, where reads are performed anew. Entries that are not live count, but not where the request takes their place. Entries are counted
     /// one by one only where there seems to be no room, and once there was none, not again for 1,000 ms.
     ///
-    /// Where slots are shared, so is memory: the last sixteenth of `memory` is for a request whose IP address holds no live entry but that of its key. So one
-    /// address, whatever the ports, fills at most 15/16, but for a first request that is larger than what it leaves. Keys are looked at only where there seems
-    /// to be no room within 15/16.
+    /// Where slots are shared, so is memory: only a request whose IP address, whatever the port, holds no live entry but that of its own key gets the last
+    /// sixteenth of `memory`. Keys are looked at only where there seems to be no room without it.
     ///
     /// An Err says that an allocation failed. The server's end and the store are then as before, and the same APDU can be handed in again.
     pub fn on(
