@@ -1,5 +1,5 @@
 -- What the entry of its key keeps more or less, all keep.
-use Rattle.std.proofs.Common.{◌≡◌, ◌∙◌, ◌≤◌, ℕ, List, ap, sym, subst}
+use Rattle.std.proofs.Common.{◌∙◌, ◌≤◌, ℕ, List, ap, sym, subst}
 use Rattle.std.specs.Prelude.{IfSome}
 use Rattle.std.specs.Option.{option_map}
 use Rattle.bac_apdu.specs.Views.{apdu_view}
@@ -7,12 +7,10 @@ use Rattle.bac_npdu.specs.Views.{peer_view}
 use Rattle.bac_slots.specs.declared.slot.Slot.{Slot}
 use Rattle.bac_slots.specs.Slots.{value_at}
 use Rattle.bac_protocol.specs.Server.{ServerTransaction}
-use Rattle.bac_transaction.specs.Ends.{ServerEnd}
 use Rattle.bac_transaction.specs.Keys as keys
 use Rattle.bac_transaction.specs.Views.{code_same_key, rules_view, settings_view, slots_view}
 use Rattle.bac_transaction.specs.declared.peer_key.PeerKey.{PeerKey}
 use Rattle.bac_responder.specs.Kept.{holds_another, kept_octets, most_of_one, octets_of}
-use Rattle.bac_responder.specs.Views.{end_of}
 use Rattle.bac_responder.proofs.KeptWithin.{on_moved, on_needs, on_within}
 use Rattle.bac_responder.proofs.Sweeps.{same_end}
 use Rattle.bac_responder.proofs.responder.Responder.on.Goals as goal
