@@ -1,11 +1,12 @@
 //! What a document has in place of what is wanted, in words.
+use crate::consistency::wanted_present;
 use crate::fault::ValueFault;
 use crate::finding::Wrong;
 use crate::form::{Kind, ValueForm};
 use crate::held::{forms, found, member};
 use crate::help::{help_with, name_help};
 use crate::known_keys::unknown_in;
-use crate::names::names_of;
+use crate::names::{has_bits, names_of};
 use crate::problem::{Given, Problem, Wanted};
 use crate::property::{DESCRIPTION, PRESENT_VALUE, values_in};
 use bac_point_text::Enumeration;
@@ -104,7 +105,9 @@ fn value_at_fault<'a>(
     problem: Problem,
 ) -> Option<Faulty<'a>> {
     let (form, value) = found(forms(), table).ok()?;
-    if matches!(problem.given, Given::Kind(_) | Given::Hex) {
+    if matches!(problem.given, Given::Kind(_) | Given::Hex)
+        || problem.wanted == Wanted::NumberedState
+    {
         let key = Some(form.word());
         return Some(Faulty { key, value });
     }
@@ -195,20 +198,41 @@ pub(crate) struct Faulted<'a> {
 }
 
 impl<'a> Faulted<'a> {
-    /// The names of the numbers of the property. Where the type of the object is not known, those that any object has.
-    pub(crate) fn names(self) -> Option<Enumeration> {
-        let property = property_in(self.key.as_bytes())?;
-        names_of(self.kind.unwrap_or(VENDORS), property)
+    /// The number of the property. None for all other keys.
+    fn property(self) -> Option<u32> {
+        property_in(self.key.as_bytes())
     }
 
-    /// Whether the values of the property are Reals.
-    pub(crate) fn is_real(self) -> bool {
-        matches!(self.kind, Some(0..=2)) && property_in(self.key.as_bytes()) == Some(PRESENT_VALUE)
+    /// The names of the numbers of the property. Where the type of the object is not known, those that any object has.
+    pub(crate) fn names(self) -> Option<Enumeration> {
+        names_of(self.kind.unwrap_or(VENDORS), self.property()?)
+    }
+
+    /// Whether the property has bits that the standard names.
+    pub(crate) fn has_bits(self) -> bool {
+        self.property().is_some_and(has_bits)
+    }
+
+    /// What the present-value of the object has to be, if that is the property.
+    pub(crate) fn wanted_present(self) -> Option<Wanted> {
+        if self.property() == Some(PRESENT_VALUE) {
+            wanted_present(self.kind?)
+        } else {
+            None
+        }
+    }
+
+    /// The value that the problem is about, and its key where only that tells what is wrong: one in the table, or the value itself.
+    fn at_fault(self, alloc: Global, value: &'a Value) -> Faulty<'a> {
+        match self.key {
+            "type" | "instance" | "name" => Faulty { key: None, value },
+            _ => at_fault(alloc, self.names(), value, self.problem),
+        }
     }
 
     /// The value that the problem is about: one in the table, or the value itself.
     pub(crate) fn faulty(self, alloc: Global, value: &'a Value) -> &'a Value {
-        at_fault(alloc, self.names(), value, self.problem).value
+        self.at_fault(alloc, value).value
     }
 }
 
@@ -265,7 +289,7 @@ pub(crate) fn found_words(alloc: Global, faulted: Faulted<'_>) -> Result<String,
         Given::Nothing => "nothing",
         Given::Again => "a duplicate",
         _ => match value {
-            Some(value) => return at_fault(alloc, faulted.names(), value, problem).shown(alloc),
+            Some(value) => return faulted.at_fault(alloc, value).shown(alloc),
             None => "something else",
         },
     };

@@ -10,6 +10,9 @@ use std::alloc::Global;
 use std::{fmt, str};
 use toml::Value;
 
+/// What the present-value of an analog object has to be.
+const REAL: Wanted = Wanted::Kind(Kind::Real);
+
 /// What helps with a value that is not allowed.
 #[derive(Debug, Drop)]
 pub enum Help {
@@ -73,7 +76,7 @@ fn plain_key(key: &str) -> Option<&'static str> {
     }
 }
 
-/// What to write for a present-value that is missing.
+/// What to write for a present-value that is wanted.
 fn present_value(wanted: Wanted) -> Option<&'static str> {
     match wanted {
         Wanted::Kind(Kind::Real) => Some("present-value = { real = 21.5 }"),
@@ -81,6 +84,14 @@ fn present_value(wanted: Wanted) -> Option<&'static str> {
         Wanted::MultiState => Some("present-value = { unsigned = 1 }"),
         _ => None,
     }
+}
+
+/// What to write for a property that has a text in place of its table.
+fn no_text(faulted: Faulted<'_>) -> Option<&'static str> {
+    if faulted.has_bits() {
+        return Some("{ bits = \"0000\" }");
+    }
+    present_value(faulted.wanted_present()?)
 }
 
 /// What to write, for example.
@@ -97,7 +108,8 @@ fn example(faulted: Faulted<'_>) -> Option<&'static str> {
         (Wanted::Objects | Wanted::DescribedObjects | Wanted::Table, _) => {
             Some("[[object]] above the keys of each object")
         }
-        (Wanted::Identifier, _) => Some("{ type = \"device\", instance = 8 }"),
+        (Wanted::Value, Given::Text) => no_text(faulted),
+        (Wanted::Identifier, _) => Some("object = { type = \"device\", instance = 8 }"),
         (Wanted::List, _) => Some("one-of = [1, 2, 4]"),
         (Wanted::FilledName, _) => plain_key("name"),
         (Wanted::Kind(Kind::Enumerated), _) => Some("units = \"degrees-celsius\""),
@@ -113,7 +125,7 @@ fn likely_kind(faulted: Faulted<'_>, value: &Value) -> Option<&'static str> {
         Value::String(_) => Some("text"),
         _ if faulted.key == "file" => None,
         Value::Integer(_) if faulted.names().is_some() => Some("enumerated"),
-        Value::Integer(_) if faulted.is_real() => Some("real"),
+        Value::Integer(_) if faulted.wanted_present() == Some(REAL) => Some("real"),
         Value::Integer(number) if *number < 0 => Some("signed"),
         Value::Integer(_) => Some("unsigned"),
         Value::Float(_) => Some("real"),

@@ -9,7 +9,7 @@ use toml::Value;
 
 /// Whether the names of a property are those of bits: acked-transitions, ack-required, event-enable, limit-enable, protocol-object-types-supported,
 /// protocol-services-supported, status-flags, audit-priority-filter and auditable-operations.
-fn has_bits(property: u32) -> bool
+pub(crate) fn has_bits(property: u32) -> bool
     ensures { result ≡ are_bits property }
 {
     matches!(property, 0 | 1 | 35 | 52 | 96 | 97 | 111 | 500 | 501)
