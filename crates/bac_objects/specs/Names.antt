@@ -1,5 +1,5 @@
 -- Names of the standard in place of numbers (clause 21): which ones the values of a property have.
-use Rattle.std.specs.Prelude.{ℕ, nat_le, ◌==◌, ◌||◌, Bool, false, is_some, if◌then◌else◌, Option, Some, None}
+use Rattle.std.specs.Prelude.{ℕ, ◌==◌, ◌||◌, Bool, false, is_some, if◌then◌else◌, Option, Some, None}
 use Rattle.toml.specs.Data.{Data, as_str}
 use Rattle.bac_point_text.specs.Enumerations.{Names}
 use Rattle.bac_point_text.specs.PropertyNames.{enumeration_of}
