@@ -22,8 +22,6 @@ from processes import ASK_SECONDS, LOOPBACK, Server, free_port
 
 DOCUMENT = Path(__file__).resolve().parents[2] / 'docs/plant.toml'
 TURNS = 100000
-UNITS = {29: 'percent-relative-humidity', 53: 'pascals', 62: 'degrees-celsius', 96: 'parts-per-million', 98: 'percent'}
-STATES = ['inactive', 'active']
 
 
 class Checks:
@@ -55,16 +53,17 @@ def object_word(thing):
 def value_text(thing):
     """The present-value of an object of the document as people write it; nothing where it has none."""
     value = thing.get('present-value', {})
+    if isinstance(value, str):
+        return value
     if 'real' in value:
         return repr(float(value['real']))
     if 'enumerated' in value:
-        return STATES[value['enumerated']]
+        return value['enumerated']
     return str(value['unsigned']) if 'unsigned' in value else ''
 
 
 def cells(thing):
-    units = thing.get('units', {}).get('enumerated')
-    return [object_word(thing), thing['name'], value_text(thing), UNITS.get(units, ''), thing.get('description', {}).get('text', '')]
+    return [object_word(thing), thing['name'], value_text(thing), thing.get('units', ''), thing.get('description', {}).get('text', '')]
 
 
 def check_points(checks, things):
