@@ -20,6 +20,8 @@ mod recording;
 mod rota;
 mod rounds;
 mod seconds;
+mod timeout;
+mod unheard;
 mod unsent;
 mod window;
 
@@ -34,4 +36,6 @@ pub use no_answer::tell_no_answer;
 pub use online::{pair, question_in};
 pub use recording::{RecordForm, outcome_of, print_header};
 pub use seconds::{bad_pace, print_bad_pace, read_seconds};
+pub use timeout::{bad_timeout, print_bad_timeout};
+pub use unheard::{is_unheard, tells_unheard};
 pub use unsent::tell_unsent;
