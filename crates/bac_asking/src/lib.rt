@@ -32,7 +32,7 @@ pub use client::Client;
 pub use client_sockets::{ClientSockets, NoPair};
 pub use file_words::ask;
 pub use gathering::gather;
-pub use no_answer::tell_no_answer;
+pub use no_answer::{tell_no_answer, tell_unheard};
 pub use online::{pair, question_in};
 pub use recording::{RecordForm, outcome_of, print_header};
 pub use seconds::{bad_pace, print_bad_pace, read_seconds};

@@ -124,7 +124,7 @@ cut_by own text front Own count is n =
     let same : text ≡ front = is ∙ append-nil front in
     let number : IsNumber 64 text count = subst (λ (t : List ℕ). IsNumber 64 t count) (sym same) n in
     let no_ms : (f : List ℕ) → text ≡ f ++ codes "ms" → ⊥ =
-        λ f e. no_s (f ++ 109 ∷ []) count (subst (λ (t : List ℕ). IsNumber 64 t count) (e ∙ letters f) number) in
+    λ f e. no_s (f ++ 109 ∷ []) count (subst (λ (t : List ℕ). IsNumber 64 t count) (e ∙ letters f) number) in
     let no_seconds : (f : List ℕ) → text ≡ f ++ codes "s" → ⊥ = λ f e. no_s f count (subst (λ (t : List ℕ). IsNumber 64 t count) e number) in
     let no_minutes : (f : List ℕ) → text ≡ f ++ codes "m" → ⊥ = λ f e. no_m f count (subst (λ (t : List ℕ). IsNumber 64 t count) e number) in
     subst (λ (f : List ℕ). IsCutAtUnit own text f own) same (not_cut own text no_ms no_seconds no_minutes)
@@ -132,7 +132,7 @@ cut_by own text front Milliseconds count is n = cut_at_milliseconds own text fro
 cut_by own text front Seconds count is n =
     cut_at_seconds own text front
     (λ f e. no_m f count
-        (subst (λ (t : List ℕ). IsNumber 64 t count) (same_last front (f ++ 109 ∷ []) 115 115 (sym is ∙ e ∙ letters f)).0 n))
+    (subst (λ (t : List ℕ). IsNumber 64 t count) (same_last front (f ++ 109 ∷ []) 115 115 (sym is ∙ e ∙ letters f)).0 n))
     is
 cut_by own text front Minutes count is n =
     cut_at_minutes own text front
@@ -145,8 +145,8 @@ pub same_time : (own : ℕ) (text : List ℕ) (a b : ℕ) → IsTime own text a 
 same_time own text a b one other =
     one.is
     ∙ sym
-        (counted own text one.front (unit_length own one.unit) one.count b (cut_by own text one.front one.unit one.count one.text_is one.number) one.number
-        other)
+    (counted own text one.front (unit_length own one.unit) one.count b (cut_by own text one.front one.unit one.count one.text_is one.number) one.number
+    other)
 
 -- what the product is, if it fits
 pub time_told : (own : ℕ) (text front : List ℕ) (each count : ℕ) (r : Option ℕ) → IsCutAtUnit own text front each → IsNumber 64 front count
