@@ -4,7 +4,7 @@ use Rattle.std.specs.Bool.{MatchBool}
 use Rattle.bac_value.specs.Views.{object_identifier_view}
 use Rattle.bac_npdu.specs.Peers.{PeerView}
 use Rattle.bac_npdu.specs.Views.{peer_view}
-use Rattle.bac_service.specs.Values.{ObjectId}
+use Rattle.bac_value.specs.Value.{ObjectId}
 use Rattle.bac_text.specs.declared.status.Status.{Status}
 use Rattle.bac_commands.specs.Statuses.{ByStatus}
 use Rattle.bac_environment.specs.Sockets.{Clocks, Links}
