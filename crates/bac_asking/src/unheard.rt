@@ -101,6 +101,13 @@ fn is_unlisted_v6<F: OpenFiles>(alloc: Global, files: &F, link: LinkAddress) -> 
     }
 }
 
+/// Whether no socket hears a link.
+fn looks_unheard<F: OpenFiles>(alloc: Global, files: &F, link: LinkAddress) -> bool
+    ensures { result ≡ true → IsUnlisted (OnFile F.is_file F.File.remaining) link }
+{
+    is_unlisted(alloc, files, link) && is_unlisted_v6(alloc, files, link)
+}
+
 /// Whether a node is on this host, without a route, and the system tells that nothing listens at its UDP port. False where the system does not tell.
 pub fn is_unheard<F: OpenFiles>(alloc: Global, files: &F, peer: Peer) -> bool
     ensures { result ≡ true → IsUnheard (OnFile F.is_file F.File.remaining) (peer_view peer) }
@@ -109,7 +116,8 @@ pub fn is_unheard<F: OpenFiles>(alloc: Global, files: &F, peer: Peer) -> bool
     if link[0] != LOOPBACK || peer.route.is_some() {
         return false;
     }
-    is_unlisted(alloc, files, link) && is_unlisted_v6(alloc, files, link)
+    // a long table comes in parts, and lacks a row where other sockets close meanwhile
+    looks_unheard(alloc, files, link) && looks_unheard(alloc, files, link)
 }
 
 /// The same; `err` then says that the node does not answer.
