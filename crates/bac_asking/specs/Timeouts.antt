@@ -4,8 +4,8 @@ use Rattle.bac_environment.specs.Times.{IsNoTime, IsTime}
 use Rattle.bac_asking.specs.Seconds.{AreSeconds}
 
 -- a text is so many milliseconds: a number with its unit, or alone one of seconds; any other text is one of seconds with a point
-abbrev pub IsWait : (text : List ℕ) → (milliseconds : ℕ) → Type 0
-IsWait text milliseconds = IsTime 1000 text milliseconds ⊎ (IsNoTime 1000 text × AreSeconds text milliseconds)
+pub record IsWait (text : List ℕ) (milliseconds : ℕ) : Type 0 where
+  pub by : IsTime 1000 text milliseconds ⊎ (IsNoTime 1000 text × AreSeconds text milliseconds)
 
 abbrev pub IsNoWait : (text : List ℕ) → Type 0
 IsNoWait text = (milliseconds : ℕ) → IsWait text milliseconds → ⊥

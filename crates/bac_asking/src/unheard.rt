@@ -1,7 +1,7 @@
 //! Nodes of this host at whose UDP port nothing listens.
 //!
 //! A client's socket is not connected to a node, so the system does not tell it that a port is closed. The table of sockets tells.
-ghost use Rattle.std.specs.Prelude.{◌≡◌, ⊤, true, codes, IfOk, IfSome};
+ghost use Rattle.std.specs.Prelude.{◌≡◌, ⊤, true, get_or, IfOk, IfSome};
 ghost use Rattle.std.specs.Bool.{MatchBool};
 ghost use Rattle.std.specs.String.{string_bytes};
 ghost use Rattle.bac_npdu.specs.Views.{peer_view};
@@ -28,7 +28,7 @@ const LOOPBACK: u8 = 127;
 
 /// A local address as a row has it, by the octets of the host from the last to the first, and those of the port.
 fn local_end(alloc: Global, host: [u8; 4], port: [u8; 2]) -> Result<String, AllocError>
-    ensures { IfOk result (λ text. string_bytes text ≡ local_end host.now port.now) }
+    ensures { IfOk result (λ text. string_bytes text ≡ local_end host port) }
 {
     let host = hex::encode_upper(alloc, &host)?;
     let port = hex::encode_upper(alloc, &port)?;
@@ -108,16 +108,26 @@ fn looks_unheard<F: OpenFiles>(alloc: Global, files: &F, link: LinkAddress) -> b
     is_unlisted(alloc, files, link) && is_unlisted_v6(alloc, files, link)
 }
 
-/// Whether a node is on this host, without a route, and the system tells that nothing listens at its UDP port. False where the system does not tell.
-pub fn is_unheard<F: OpenFiles>(alloc: Global, files: &F, peer: Peer) -> bool
-    ensures { result ≡ true → IsUnheard (OnFile F.is_file F.File.remaining) (peer_view peer) }
+/// Whether a link is of this host, and no socket hears it.
+fn is_unheard_here<F: OpenFiles>(alloc: Global, files: &F, link: LinkAddress) -> bool
+    ensures here { result ≡ true → get_or link 0 0 ≡ 127 }
+    ensures unlisted { result ≡ true → IsUnlisted (OnFile F.is_file F.File.remaining) link }
 {
-    let link = peer.link;
-    if link[0] != LOOPBACK || peer.route.is_some() {
+    if link[0] != LOOPBACK {
         return false;
     }
     // a long table comes in parts, and lacks a row where other sockets close meanwhile
     looks_unheard(alloc, files, link) && looks_unheard(alloc, files, link)
+}
+
+/// Whether a node is on this host, without a route, and the system tells that nothing listens at its UDP port. False where the system does not tell.
+pub fn is_unheard<F: OpenFiles>(alloc: Global, files: &F, peer: Peer) -> bool
+    ensures { result ≡ true → IsUnheard (OnFile F.is_file F.File.remaining) (peer_view peer) }
+{
+    match peer.route {
+        Some(_) => false,
+        None => is_unheard_here(alloc, files, peer.link),
+    }
 }
 
 /// The same; `err` then says that the node does not answer.
