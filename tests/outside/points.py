@@ -3,7 +3,7 @@
 
 The table of `points` has a line for each object, with the name, value, units and description of the document. Each value is read alone and with names before it,
 as JSON and as CSV. Set-points are written and read back; values beyond the limits, names that are none and objects that are none are refused. A port where nobody
-listens, and a socket that never answers, are told as such.
+listens is told at once, and a socket that never answers once the time is over.
 """
 
 import csv
@@ -123,8 +123,11 @@ def check_silence(checks):
         checks.expect('silent', (done.stdout, done.stderr.splitlines()[:1], done.returncode), ('', [f'no answer from {node} (waited 0.5 s)'], 1))
         checks.expect('seconds', 0.5 <= took < 5, True)
     node = f'{LOOPBACK}:{free_port()}'
+    begun = time.monotonic()
     done = checks.run('points', to=node)
-    checks.expect('nobody', (done.stdout, done.stderr.splitlines()[:1], done.returncode), ('', [f'no answer from {node} (4 requests in 12 s)'], 1))
+    took = time.monotonic() - begun
+    checks.expect('nobody', (done.stdout, done.stderr.splitlines()[:1], done.returncode), ('', [f'no answer from {node} (nothing listens at this port)'], 1))
+    checks.expect('at once', took < 2, True)
 
 
 def main(program):

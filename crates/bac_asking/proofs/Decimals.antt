@@ -130,7 +130,7 @@ one_by true D W d w x y one other = d x y one other
 one_by false D W d w x y one other = w x y one other
 
 -- a text is one time
-one_time : (text : List ℕ) (a b : ℕ) → AreMilliseconds text a → AreMilliseconds text b → a ≡ b
+pub one_time : (text : List ℕ) (a b : ℕ) → AreMilliseconds text a → AreMilliseconds text b → a ≡ b
 one_time text a b one other =
     one_by (has_octet is_point text) (AreDecimal (before_first is_point text) (after_first is_point text)) (AreWhole text)
     (one_decimal (before_first is_point text) (after_first is_point text)) (one_whole text) a b one other

@@ -11,3 +11,4 @@ pub mod Once
 pub mod Gathered
 pub mod GivenPeers
 pub mod Decimals
+pub mod Waits

@@ -1,3 +1,3 @@
 pub mod Statuses
 pub mod Numbers
-mod TimeUnits
+pub mod TimeUnits

@@ -105,12 +105,13 @@ pub fn work_of<'m, 'a>(given: &'m ArgMatches<'a>, asking: &Asking) -> Option<Fil
     whole_work(given.get_strs("WORDS")?, given.get_str("out"))
 }
 
-/// How the arguments of `get`, `put`, `backup` or `restore` say that a peer is asked: by default the node on this machine at the port of BACnet/IP. None if an address is invalid.
+/// How the arguments of `get`, `put`, `backup` or `restore` say that a peer is asked: by default the node on this machine at the port of BACnet/IP. None if an address or the time to
+/// wait is invalid.
 pub fn file_task_of(given: &ArgMatches<'_>, shows_progress: bool) -> Option<FileTask>
     ensures { IfSome result (λ t. IsGiven given.now t.asking × IsPeerGiven given.now (Some BACNET_PORT) (peer_view t.peer)) }
 {
     Some(FileTask {
-        asking: asking_of(given, shows_progress),
+        asking: asking_of(given, shows_progress)?,
         peer: peer_of(given, Some(BACNET_PORT))?,
     })
 }

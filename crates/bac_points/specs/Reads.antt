@@ -57,15 +57,19 @@ pub record ReadsLines (IsOn : Links) (asking : Asking) (lines : List LineQuestio
   pub gathers : Gathers IsOn asking WINDOW lines ends before after
   pub whether : all ≡ are_valued lines ends
 
--- a client at any port asked for the properties that the words name; whether each was answered with a value
-pub record ReadsWords (IsOn : Links) (IsClock : Clocks) (asking : Asking) (peer : PeerView) (words : List (List ℕ)) (all : Bool) : Type 0 where
-  pub lines : List LineQuestion
-  pub are : map question_in lines ≡ map (read_by peer) (targets_of words)
+-- a client at any port asked them
+pub record ReadsByClient (IsOn : Links) (IsClock : Clocks) (asking : Asking) (lines : List LineQuestion) (all : Bool) : Type 0 where
   pub before : Timed
   pub after : Timed
   pub client : IsClient IsOn asking.host before.bound_node
   pub clock : IsClock before.told
   pub reads : ReadsLines IsOn asking lines all before after
+
+-- a client asked for the properties that the words name; whether each was answered with a value
+pub record ReadsWords (IsOn : Links) (IsClock : Clocks) (asking : Asking) (peer : PeerView) (words : List (List ℕ)) (all : Bool) : Type 0 where
+  pub lines : List LineQuestion
+  pub are : map question_in lines ≡ map (read_by peer) (targets_of words)
+  pub reads : ReadsByClient IsOn IsClock asking lines all
 
 -- ---- what is printed of a property
 

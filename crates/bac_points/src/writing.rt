@@ -12,7 +12,8 @@ ghost use Rattle.bac_point_report.specs.Outcomes.{values_of};
 ghost use Rattle.bac_point_report.specs.Targets.{target_view};
 ghost use Rattle.bac_asking.specs.Recording.{outcome_of};
 ghost use Rattle.bac_environment.specs.Sockets.{OnClock, OnPort};
-ghost use Rattle.bac_points.specs.Writes.{AsksKind, FindsKind, IsKindOf, IsOrder, IsWriting, PrintsBack, PrintsFound, PrintsOther, ReadsBack, Writes, WritesAs, WritesByClient, WritesOnce, WritesOrder};
+ghost use Rattle.bac_points.specs.Points.{WritesIfHeard};
+ghost use Rattle.bac_points.specs.Writes.{AsksKind, FindsKind, IsKindOf, IsOrder, IsWriting, PrintsBack, PrintsFound, PrintsOther, ReadsBack, WritesAs, WritesByClient, WritesOnce, WritesOrder};
 ghost use Rattle.bac_points.specs.Writes.{differs_line, lacks_value, name_of_number, order_view, ordered_in, writes_values};
 
 use crate::performing::Desk;
@@ -595,10 +596,13 @@ pub(crate) fn write<M: ClientSockets, O: Write, E: Write>(
     out: &mut O,
     err: &mut E,
 ) -> Result<bool, Status>
-    ensures written { IfOk result (λ done. Writes (OnPort M.is_bound M.Link.failures M.Link.calls) (OnClock M.is_made M.Timer.told) desk.now.asking.now
-        (peer_view desk.now.peer) writing.entry done (O.contents out.old) (O.contents out.new)) }
+    ensures written { IfOk result (λ done. WritesIfHeard desk.now.is_unheard (OnPort M.is_bound M.Link.failures M.Link.calls) (OnClock M.is_made M.Timer.told)
+        desk.now.asking.now (peer_view desk.now.peer) writing.entry done (O.contents out.old) (O.contents out.new)) }
     ensures told { IfErr result IsStop }
 {
     let order = order_of(desk, writing, err)?;
+    if desk.tells_unheard(err) {
+        return Ok(false);
+    }
     write_by_client(desk, &order, out, err)
 }
