@@ -22,6 +22,7 @@ pub mod Holding
 pub mod Resting
 pub mod Answered
 pub mod Pauses
+pub mod Clients
 pub mod Answers
 pub mod AnswersComputed
 pub mod AnswersLogs
