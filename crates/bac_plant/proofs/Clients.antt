@@ -6,7 +6,7 @@ use Rattle.bac_apdu.specs.Apdu.{Limits}
 use Rattle.bac_service.specs.Values.{Request}
 use Rattle.bac_pairs.specs.Pairs.{port_at, share_at, share_end}
 use Rattle.bac_store.specs.Stores.{Store}
-use Rattle.bac_pairs.proofs.Ports.{come_late}
+use Rattle.bac_pairs.proofs.Ports.{comes_late}
 use Rattle.bac_protocol.specs.Pace.{IsTimely, Pace, least, most, period}
 use Rattle.bac_protocol.specs.declared.times.TheConstants.{DEADLINE, KEEP}
 use Rattle.bac_world.specs.ReusingLogs.{Reuses}
@@ -83,23 +83,6 @@ days_are_long grain day keeps one other l far = go (nat_le other (one + 136000 *
         let apart : grain * 135888000 ≤ grain * (day other - day one) = mul-le-mul_left grain (omega (arith, far)) in
         omega (arith, l, gains, apart)
 
--- where two clients of a host have one port, the later one starts that long after the end of the other's share
-late : (h : Host) (one took now : ℕ) → port_at h.key took ≡ port_at h.key one → share_at one ≢ share_at took → one ≤ now → took ≤ now
-    → now ≤ share_end took + 30000000 → share_end one + 165888000 ≤ now
-late h one took now same other past started early = go (nat_le one took) refl
-  where
-    first : (share_at one ≡ share_at took) ⊎ (share_end one + 165888000 ≤ took) → share_end one + 165888000 ≤ now
-    first (inl e) = absurd (other e)
-    first (inr l) = omega (arith, l, started)
-
-    back : (share_at took ≡ share_at one) ⊎ (share_end took + 165888000 ≤ one) → share_end one + 165888000 ≤ now
-    back (inl e) = absurd (other (sym e))
-    back (inr l) = absurd (omega (arith, l, past, early))
-
-    go : (b : Bool) → nat_le one took ≡ b → share_end one + 165888000 ≤ now
-    go true e = let le : one ≤ took = grind (arith, nat_tests) in first (come_late h.key one took le (sym same))
-    go false e = let le : took ≤ one = grind (arith, nat_tests) in back (come_late h.key took one le same)
-
 -- ---- what is known of the ports
 
 -- one of these clients began the latest ask from there, early, and sends for it no longer than a deadline lasts
@@ -119,7 +102,6 @@ AsksSo hosts pace clients p i at = ((p.lives i).sends_until ≤ 0) ⊎ IsAsked h
 record IsKnown (hosts : Hosts) (pace : Pace) (clients : List Client) (p : Plant) : Type 0 where
   paced : p.time.pace ≡ pace
   asked : (i : ℕ) (at : Port) → hosts.port_of i ≡ Some at → AsksSo hosts pace clients p i at
-  took : (c : Client) → IsOneOf c clients → c.took ≤ day_in hosts c.host p
 
 module _ (hosts : Hosts) (pace : Pace) (timely : IsTimely pace) (keep : KeepTime hosts pace) where
   still : (clients : List Client) (old new : Plant) → GoesOn old new → (i : ℕ) (at : Port) → (new.lives i).sends_until ≤ (old.lives i).sends_until
@@ -138,15 +120,7 @@ module _ (hosts : Hosts) (pace : Pace) (timely : IsTimely pace) (keep : KeepTime
 
   known_on : (clients : List Client) (old new : Plant) → GoesOn old new → IsKnown hosts pace clients old
       → ((i : ℕ) (at : Port) → hosts.port_of i ≡ Some at → AsksSo hosts pace clients new i at) → IsKnown hosts pace clients new
-  known_on clients old new goes known asked =
-      record {
-        paced = goes.pace ∙ known.paced;
-        asked = asked;
-        took = λ c has.
-            let before = known.took c has in
-            let later = (keep.days c.host).on old.time.now new.time.now goes.on in
-            omega (arith, before, later);
-      }
+  known_on clients old new goes known asked = record { paced = goes.pace ∙ known.paced; asked = asked }
 
   -- a move in which no station asks another one
   calm : (clients : List Client) (old new : Plant) → GoesOn old new → ((i : ℕ) → (new.lives i).sends_until ≤ (old.lives i).sends_until)
@@ -253,13 +227,11 @@ module _ (hosts : Hosts) (pace : Pace) (timely : IsTimely pace) (keep : KeepTime
       let port : port_at here.key c.took ≡ port_at here.key a.client.took =
       ap (λ (h : ℕ). port_at (hosts.host h).key c.took) (sym host) ∙ ap (λ (at : Port). at.number) a.port in
       let past = s.past in
-      let early = s.early in
-      let apart : share_end a.client.took + 165888000 ≤ day_in hosts a.client.host p =
-      late here a.client.took c.took (day_in hosts a.client.host p) port (s.alone a.client a.one_of (sym host)) (known.took a.client a.one_of)
-      (omega (arith, past, day_is)) (omega (arith, early, day_is)) in
+      let apart : share_end a.client.took + 165888000 ≤ c.took =
+      comes_late here.key a.client.took c.took (s.in_turn a.client a.one_of (sym a.port)) (sym port) in
       let in_time = a.early in
       let long : a.moment + 135008 * pace.grain ≤ p.time.now =
-      days_are_long pace.grain here.day (keep.days a.client.host) a.moment p.time.now a.past (omega (arith, apart, in_time)) in
+      days_are_long pace.grain here.day (keep.days a.client.host) a.moment p.time.now a.past (omega (arith, apart, past, day_is, in_time)) in
       quiet_at p station a.moment known.paced a.until long
 
   more_clients : (clients : List Client) (c : Client) (p : Plant) (i : ℕ) (at : Port) → AsksSo hosts pace clients p i at → AsksSo hosts pace (c ∷ clients) p i at
@@ -276,21 +248,12 @@ module _ (hosts : Hosts) (pace : Pace) (timely : IsTimely pace) (keep : KeepTime
       })
 
   started : (overtake : ℕ) (clients : List Client) (old : Plant) (station exact first_id : ℕ) (store : Option Store) (c : Client) (new : Plant)
-      → PlantStep overtake old (StartsAgain station exact first_id store) new → StartsThere hosts clients old station c → IsKnown hosts pace clients old
-      → IsKnown hosts pace (c ∷ clients) new
-  started overtake clients old station exact first_id store c new s starts known =
-      record { paced = after.paced; asked = λ i at is. more_clients clients c new i at (after.asked i at is); took = took }
+      → PlantStep overtake old (StartsAgain station exact first_id store) new → IsKnown hosts pace clients old → IsKnown hosts pace (c ∷ clients) new
+  started overtake clients old station exact first_id store c new s known =
+      record { paced = after.paced; asked = λ i at is. more_clients clients c new i at (after.asked i at is) }
     where
       after : IsKnown hosts pace clients new
       after = calm_step overtake clients old (StartsAgain station exact first_id store) new s (λ i. refl) known
-
-      took : (d : Client) → IsOneOf d (c ∷ clients) → d.took ≤ day_in hosts d.host new
-      took d (inl e) =
-          let past = starts.past in
-          let later = (keep.days c.host).on old.time.now new.time.now (step_on overtake old (StartsAgain station exact first_id store) new s).on in
-          let own : c.took ≤ day_in hosts c.host new = omega (arith, past, later) in
-          subst (λ (k : Client). k.took ≤ day_in hosts k.host new) (sym e) own
-      took d (inr has) = after.took d has
 
   -- ---- all of them
 
@@ -303,12 +266,12 @@ module _ (hosts : Hosts) (pace : Pace) (timely : IsTimely pace) (keep : KeepTime
   )
   called overtake (StartsClient station exact first_id store c ∷ later) clients p known done = (
     record { there = done.0.there; quiet = quiet_after clients p station c known done.0 (known.asked station (port_taken hosts c) done.0.port) },
-    λ next goes. called overtake later (c ∷ clients) next (started overtake clients p station exact first_id store c next goes done.0 known) (done.1 next goes),
+    λ next goes. called overtake later (c ∷ clients) next (started overtake clients p station exact first_id store c next goes known) (done.1 next goes),
   )
 
 known_first : (hosts : Hosts) (p : Plant) → NoneAsked hosts p → IsKnown hosts p.time.pace [] p
 known_first hosts p none =
-    record { paced = refl; asked = λ i at is. inl (let zero_at = none i at is in omega (arith, zero_at)); took = λ c has. absurd has }
+    record { paced = refl; asked = λ i at is. inl (let zero_at = none i at is in omega (arith, zero_at)) }
 
 pub deeds_are_calls : DeedsAreCalls
 deeds_are_calls hosts overtake p timely keep none deeds done =

@@ -1,5 +1,5 @@
 -- Clients of hosts, as `bac` is one: programs that start one after another, each at the port that the time of day gives it, and ask from there for a while.
-use Rattle.std.specs.Prelude.{◌≡◌, ◌≢◌, ◌⊎◌, ℕ, ◌+◌, ◌-◌, ◌*◌, ◌≤◌, List, [], ◌∷◌, map, Option, Some, IfSome}
+use Rattle.std.specs.Prelude.{◌≡◌, ◌⊎◌, ℕ, ◌+◌, ◌-◌, ◌*◌, ◌<◌, ◌≤◌, List, [], ◌∷◌, map, Option, Some, IfSome}
 use Rattle.bac_pairs.specs.Pairs.{port_at, share_at, share_end}
 use Rattle.bac_store.specs.Stores.{Store}
 use Rattle.bac_protocol.specs.Pace.{IsTimely, Pace, most}
@@ -64,14 +64,13 @@ IsOneOf c (first ∷ others) = (c ≡ first) ⊎ IsOneOf c others
 abbrev pub IsEarly : Hosts → Client → Plant → Type 0
 IsEarly hosts c p = day_in hosts c.host p ≤ share_end c.took + 30000000
 
--- A client starts at a station, after these ones. Its port was its in a share of time in which none of these had one of its host.
+-- A client starts at a station, after these ones. Those of these that had its port took it in earlier shares of time.
 pub record StartsThere (hosts : Hosts) (clients : List Client) (p : Plant) (station : ℕ) (c : Client) : Type 0 where
   pub there : IsThere p station
   pub port : hosts.port_of station ≡ Some (port_taken hosts c)
   pub past : c.took ≤ day_in hosts c.host p
-  pub early : IsEarly hosts c p
-  pub alone : (other : Client) → IsOneOf other clients → other.host ≡ c.host → share_at other.took ≢ share_at c.took
-  -- nothing was asked from there before these clients, for as long as what a client sent before may have to do with others
+  pub in_turn : (other : Client) → IsOneOf other clients → port_taken hosts other ≡ port_taken hosts c → share_at other.took < share_at c.took
+  -- the first one starts no sooner than another program may after a restart
   pub rested : p.time.pace.life + most p.time.pace KEEP + p.time.pace.life ≤ p.time.now
 
 -- one of these clients has that port, and is early
