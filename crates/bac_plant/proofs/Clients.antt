@@ -1,24 +1,24 @@
 -- Clients that start one after another find that all is over that was sent from their ports before.
-use Rattle.std.proofs.Common.{◌≡◌, ◌≢◌, ◌⊎◌, ℕ, ◌+◌, ◌-◌, ◌*◌, ◌/◌, ◌<◌, ◌≤◌, Bool, true, false, List, [], ◌∷◌, map, Option, Some, IfSome, if◌then◌else◌, nat_eq, nat_le, refl, sym, ap, subst, ◌∙◌, inl, inr, arith}
+use Rattle.std.proofs.Common.{◌≡◌, ◌⊎◌, ℕ, ◌+◌, ◌-◌, ◌*◌, ◌/◌, ◌<◌, ◌≤◌, Bool, true, false, List, [], ◌∷◌, map, Option, Some, IfSome, if◌then◌else◌, nat_eq, nat_le, refl, sym, ap, subst, ◌∙◌, inl, inr, arith}
 use Rattle.std.proofs.lemmas.Bool.Decides.{nat_tests}
 use Rattle.std.proofs.Math.Nat.{add-mul, div-mul-le_self, div-one, lt-div-mul-add, lt_of_mul-lt-mul_right, mul-add, mul-le-mul_left, mul-le-mul_right, mul_assoc, mul_comm}
 use Rattle.bac_apdu.specs.Apdu.{Limits}
 use Rattle.bac_service.specs.Values.{Request}
-use Rattle.bac_pairs.specs.Pairs.{port_at, share_at, share_end}
+use Rattle.bac_pairs.specs.Pairs.{port_at, share_end}
 use Rattle.bac_store.specs.Stores.{Store}
 use Rattle.bac_pairs.proofs.Ports.{comes_late}
 use Rattle.bac_protocol.specs.Pace.{IsTimely, Pace, least, most, period}
 use Rattle.bac_protocol.specs.declared.times.TheConstants.{DEADLINE, KEEP}
 use Rattle.bac_world.specs.ReusingLogs.{Reuses}
 use Rattle.bac_world.specs.World.{Life, is_quiet, with_ask}
-use Rattle.bac_plant.specs.Anew.{Anew, HappensAnew, PlantRunIn, Stretch}
-use Rattle.bac_plant.specs.Clients.{AreDone, Client, DaysAreLong, Deed, DeedsAreCalls, DeedsAreRight, DeedsAreSteps, Host, Hosts, IsAskedEarly, IsOneOf, KeepTime, KeepsTime, MayAsk, PausesAreShort}
-use Rattle.bac_plant.specs.Clients.{NoneAsked, Port, StartsThere, day_in, move_of, port_taken}
+use Rattle.bac_plant.specs.Anew.{PlantRunIn, Stretch}
+use Rattle.bac_plant.specs.Clients.{AreDone, Client, DaysAreLong, Deed, DeedsAreCalls, DeedsAreRight, DeedsAreSteps, Hosts, IsAskedEarly, IsOneOf, KeepTime, MayAsk, PausesAreShort}
+use Rattle.bac_plant.specs.Clients.{AreQuiet, Port, StartsThere, day_in, move_of, port_taken}
 use Rattle.bac_plant.specs.Clients.Deed.{Does, StartsClient}
 use Rattle.bac_plant.specs.Composed.{AreCalled}
 use Rattle.bac_plant.specs.Moves.{AreCalledIn, IsReachedIn, Move, Moves}
 use Rattle.bac_plant.specs.Moves.Move.{Goes, StartsAnew}
-use Rattle.bac_plant.specs.Pauses.{asks, pause}
+use Rattle.bac_plant.specs.Pauses.{asks}
 use Rattle.bac_plant.specs.Plants.{Plant, world_of}
 use Rattle.bac_plant.specs.Steps.{PlantStep, Step}
 use Rattle.bac_plant.specs.Steps.Step.{Begins, BeginsAway, Changes, FailsToReceive, Holds, Passes, Restarts, SendsHeld, Starts, StartsAgain, Takes}
@@ -28,10 +28,11 @@ use Rattle.bac_plant.proofs.Pauses.{GoesOn, asks_not, run_on, same_time, starts_
 
 -- ---- times
 
--- what is over in 135,003 ms: so many parts of a clock as fast or slow as any
-enough : (g s d u v w l : ℕ) → 0 < g → s + d ≡ 1000000 → u * s ≤ 1000000 * (60000 * g + (g - 1)) → 1000000 * (60000 * g + (g - 1)) < u * s + s
-    → v * (1000000 + d) ≤ 1000000 * (65000 * g + 1) - 1 → w * s ≤ 1000000 * (65000 * g + (g - 1)) → u + l ≤ v → u + 1 + l + w + l ≤ 135003 * g
-enough g s d u v w l some whole low high keep kept keeps =
+-- what is over in 165,007 ms, by clocks as fast or slow as any
+enough : (g s d u v w h l : ℕ) → 0 < g → s + d ≡ 1000000 → u * s ≤ 1000000 * (60000 * g + (g - 1)) → 1000000 * (60000 * g + (g - 1)) < u * s + s
+    → v * (1000000 + d) ≤ 1000000 * (65000 * g + 1) - 1 → w * s ≤ 1000000 * (65000 * g + (g - 1)) → h * s ≤ 1000000 * (30000 * g + (g - 1)) → u + l ≤ v
+    → h + (u + 1 + l + w + l) ≤ 165007 * g
+enough g s d u v w h l some whole low high keep kept asked keeps =
     let split : u * (s + d) ≡ u * s + u * d = mul-add u s d in
     let same : u * (s + d) ≡ u * 1000000 = ap (λ (n : ℕ). u * n) whole in
     let other : v * (1000000 + d) ≡ v * 1000000 + v * d = mul-add v 1000000 d in
@@ -42,7 +43,11 @@ enough g s d u v w l some whole low high keep kept keeps =
     let right : (13 * u + 13) * s ≡ 13 * u * s + 13 * s = add-mul (13 * u) 13 s in
     let inner : 13 * u * s ≡ 13 * (u * s) = mul_assoc 13 u s in
     let less : 12 * w < 13 * u + 13 = lt_of_mul-lt-mul_right s (omega (arith, some, left, right, inner, kept, high)) in
-    omega (arith, some, both, one, less, keeps)
+    let half_left : 20000 * h * s ≡ 20000 * (h * s) = mul_assoc 20000 h s in
+    let half_right : (10001 * u + 10001) * s ≡ 10001 * u * s + 10001 * s = add-mul (10001 * u) 10001 s in
+    let half_inner : 10001 * u * s ≡ 10001 * (u * s) = mul_assoc 10001 u s in
+    let half : 20000 * h < 10001 * u + 10001 = lt_of_mul-lt-mul_right s (omega (arith, some, half_left, half_right, half_inner, asked, high)) in
+    omega (arith, some, both, one, less, half, keeps)
 
 whole_millis : (g ms t : ℕ) → t ≡ 1 → g * t * (ms / t) ≡ ms * g
 whole_millis g ms t e =
@@ -60,28 +65,38 @@ pauses_are_short p ticks t =
     let parts_is : (ms : ℕ) → period p * (ms / p.tick) + (period p - 1) ≡ ms * p.grain + (p.grain - 1) = λ ms.
     let first = whole_millis p.grain ms p.tick ticks in omega (arith, first, period_is) in
     let asked : ℕ = 1000000 * (period p * (60000 / p.tick) + (period p - 1)) in
+    let soon : ℕ = 1000000 * (period p * (30000 / p.tick) + (period p - 1)) in
     let kept : ℕ = 1000000 * (period p * (65000 / p.tick) + (period p - 1)) in
     let keeps : ℕ = 1000000 * (period p * (65000 / p.tick) + 1) - 1 in
     let asked_is = parts_is 60000 in
     let kept_is = parts_is 65000 in
+    let soon_is = parts_is 30000 in
     let keeps_is = whole_millis p.grain 65000 p.tick ticks in
     let low : asked / s * s ≤ asked = div-mul-le_self asked s in
     let high : asked < asked / s * s + s = lt-div-mul-add (omega (arith, slow)) in
     let keep : keeps / (1000000 + p.drift) * (1000000 + p.drift) ≤ keeps = div-mul-le_self keeps (1000000 + p.drift) in
     let keep_most : kept / s * s ≤ kept = div-mul-le_self kept s in
-    enough p.grain s p.drift (most p DEADLINE) (least p KEEP) (most p KEEP) p.life t.some (omega (arith, slow))
-    (omega (arith, low, asked_is)) (omega (arith, high, asked_is)) (omega (arith, keep, keeps_is)) (omega (arith, keep_most, kept_is)) t.keeps
+    let soon_most : soon / s * s ≤ soon = div-mul-le_self soon s in
+    enough p.grain s p.drift (most p DEADLINE) (least p KEEP) (most p KEEP) (most p 30000) p.life t.some (omega (arith, slow))
+    (omega (arith, low, asked_is)) (omega (arith, high, asked_is)) (omega (arith, keep, keeps_is)) (omega (arith, keep_most, kept_is)) (omega (arith, soon_most, soon_is)) t.keeps
 
 pub days_are_long : DaysAreLong
-days_are_long grain day keeps one other l far = go (nat_le other (one + 136000 * grain)) refl
+days_are_long grain day keeps one other far = before (nat_le one other) refl
   where
-    go : (b : Bool) → nat_le other (one + 136000 * grain) ≡ b → one + 135008 * grain ≤ other
-    go false e = let beyond : one + 136000 * grain < other = grind (arith, nat_tests) in omega (arith, beyond)
-    go true e =
-        let within : other ≤ one + 136000 * grain = grind (arith, nat_tests) in
+    after : one ≤ other → (b : Bool) → nat_le other (one + 166000 * grain) ≡ b → one + 165008 * grain ≤ other
+    after l false e = let beyond : one + 166000 * grain < other = grind (arith, nat_tests) in omega (arith, beyond)
+    after l true e =
+        let within : other ≤ one + 166000 * grain = grind (arith, nat_tests) in
         let gains = keeps.gains one other l within in
-        let apart : grain * 135888000 ≤ grain * (day other - day one) = mul-le-mul_left grain (omega (arith, far)) in
+        let apart : grain * 165888000 ≤ grain * (day other - day one) = mul-le-mul_left grain (omega (arith, far)) in
         omega (arith, l, gains, apart)
+
+    before : (b : Bool) → nat_le one other ≡ b → one + 165008 * grain ≤ other
+    before true e = let l : one ≤ other = grind (arith, nat_tests) in after l (nat_le other (one + 166000 * grain)) refl
+    before false e =
+        let back : other ≤ one = grind (arith, nat_tests) in
+        let less = keeps.on other one back in
+        absurd (omega (arith, far, less))
 
 -- ---- what is known of the ports
 
@@ -91,13 +106,12 @@ record IsAsked (hosts : Hosts) (pace : Pace) (clients : List Client) (p : Plant)
   one_of : IsOneOf client clients
   port : at ≡ port_taken hosts client
   moment : ℕ
-  past : moment ≤ p.time.now
-  early : (hosts.host client.host).day moment ≤ share_end client.took + 30000000
-  until : (p.lives i).sends_until ≤ moment + most pace DEADLINE + 1
+  in_share : (hosts.host client.host).day moment ≤ share_end client.took
+  until : (p.lives i).sends_until ≤ moment + most pace 30000 + most pace DEADLINE + 1
 
--- or none did
+-- or all is over there
 abbrev AsksSo : Hosts → Pace → List Client → Plant → (i : ℕ) → Port → Type 0
-AsksSo hosts pace clients p i at = ((p.lives i).sends_until ≤ 0) ⊎ IsAsked hosts pace clients p i at
+AsksSo hosts pace clients p i at = ((p.lives i).sends_until + pace.life + most pace KEEP + pace.life ≤ p.time.now) ⊎ IsAsked hosts pace clients p i at
 
 record IsKnown (hosts : Hosts) (pace : Pace) (clients : List Client) (p : Plant) : Type 0 where
   paced : p.time.pace ≡ pace
@@ -106,15 +120,14 @@ record IsKnown (hosts : Hosts) (pace : Pace) (clients : List Client) (p : Plant)
 module _ (hosts : Hosts) (pace : Pace) (timely : IsTimely pace) (keep : KeepTime hosts pace) where
   still : (clients : List Client) (old new : Plant) → GoesOn old new → (i : ℕ) (at : Port) → (new.lives i).sends_until ≤ (old.lives i).sends_until
       → AsksSo hosts pace clients old i at → AsksSo hosts pace clients new i at
-  still clients old new goes i at less (inl none) = inl (omega (arith, less, none))
+  still clients old new goes i at less (inl over) = inl (let on = goes.on in omega (arith, less, over, on))
   still clients old new goes i at less (inr a) =
       inr (record {
         client = a.client;
         one_of = a.one_of;
         port = a.port;
         moment = a.moment;
-        past = let past = a.past in let on = goes.on in omega (arith, past, on);
-        early = a.early;
+        in_share = a.in_share;
         until = let until = a.until in omega (arith, less, until);
       })
 
@@ -141,14 +154,14 @@ module _ (hosts : Hosts) (pace : Pace) (timely : IsTimely pace) (keep : KeepTime
       asks_now old j i same in
       let is : (new.lives i).sends_until ≡ (with_ask old.time old.lives j i).sends_until = ap (λ (l : ℕ → Life). (l i).sends_until) lives in
       let pace_is : most old.time.pace DEADLINE ≡ most pace DEADLINE = ap (λ (q : Pace). most q DEADLINE) paced in
+      let asking_is : most old.time.pace 30000 ≡ most pace 30000 = ap (λ (q : Pace). most q 30000) paced in
       inr (record {
         client = a.client;
         one_of = a.one_of;
         port = a.port;
-        moment = old.time.now;
-        past = goes.on;
-        early = a.early;
-        until = omega (arith, own, is, pace_is);
+        moment = a.early.moment;
+        in_share = a.early.in_share;
+        until = let soon = a.early.soon in omega (arith, own, is, pace_is, asking_is, soon);
       })
     where
       asks_now : (p : Plant) (j i : ℕ) → j ≡ i → (with_ask p.time p.lives j i).sends_until ≡ p.time.now + most p.time.pace DEADLINE + 1
@@ -204,22 +217,21 @@ module _ (hosts : Hosts) (pace : Pace) (timely : IsTimely pace) (keep : KeepTime
 
   -- ---- a client that starts
 
-  quiet_at : (p : Plant) (i moment : ℕ) → p.time.pace ≡ pace → (p.lives i).sends_until ≤ moment + most pace DEADLINE + 1
-      → moment + 135008 * pace.grain ≤ p.time.now → is_quiet (world_of p) i ≡ true
-  quiet_at p i moment paced until long =
-      let fits = pauses_are_short pace keep.ticks timely in
-      let life : p.time.pace.life ≡ pace.life = ap (λ (q : Pace). q.life) paced in
-      let kept : most p.time.pace KEEP ≡ most pace KEEP = ap (λ (q : Pace). most q KEEP) paced in
+  quiet_when : (p : Plant) (i : ℕ) → p.time.pace ≡ pace → (p.lives i).sends_until + pace.life + most pace KEEP + pace.life ≤ p.time.now
+      → is_quiet (world_of p) i ≡ true
+  quiet_when p i paced over =
       let all : (p.lives i).sends_until + p.time.pace.life + most p.time.pace KEEP + p.time.pace.life ≤ p.time.now =
-      omega (arith, fits, life, kept, until, long) in
+      subst (λ (q : Pace). (p.lives i).sends_until + q.life + most q KEEP + q.life ≤ p.time.now) (sym paced) over in
       grind (arith, nat_tests)
+
+  quiet_at : (p : Plant) (i moment : ℕ) → p.time.pace ≡ pace → (p.lives i).sends_until ≤ moment + most pace 30000 + most pace DEADLINE + 1
+      → moment + 165008 * pace.grain ≤ p.time.now → is_quiet (world_of p) i ≡ true
+  quiet_at p i moment paced until long =
+      let fits = pauses_are_short pace keep.ticks timely in quiet_when p i paced (omega (arith, fits, until, long))
 
   quiet_after : (clients : List Client) (p : Plant) (station : ℕ) (c : Client) → IsKnown hosts pace clients p → StartsThere hosts clients p station c
       → AsksSo hosts pace clients p station (port_taken hosts c) → is_quiet (world_of p) station ≡ true
-  quiet_after clients p station c known s (inl none) =
-      let rested = s.rested in
-      let all : (p.lives station).sends_until + p.time.pace.life + most p.time.pace KEEP + p.time.pace.life ≤ p.time.now = omega (arith, none, rested) in
-      grind (arith, nat_tests)
+  quiet_after clients p station c known s (inl over) = quiet_when p station known.paced over
   quiet_after clients p station c known s (inr a) =
       let host : c.host ≡ a.client.host = ap (λ (at : Port). at.host) a.port in
       let here = hosts.host a.client.host in
@@ -229,21 +241,20 @@ module _ (hosts : Hosts) (pace : Pace) (timely : IsTimely pace) (keep : KeepTime
       let past = s.past in
       let apart : share_end a.client.took + 165888000 ≤ c.took =
       comes_late here.key a.client.took c.took (s.in_turn a.client a.one_of (sym a.port)) (sym port) in
-      let in_time = a.early in
-      let long : a.moment + 135008 * pace.grain ≤ p.time.now =
-      days_are_long pace.grain here.day (keep.days a.client.host) a.moment p.time.now a.past (omega (arith, apart, past, day_is, in_time)) in
+      let in_share = a.in_share in
+      let long : a.moment + 165008 * pace.grain ≤ p.time.now =
+      days_are_long pace.grain here.day (keep.days a.client.host) a.moment p.time.now (omega (arith, apart, past, day_is, in_share)) in
       quiet_at p station a.moment known.paced a.until long
 
   more_clients : (clients : List Client) (c : Client) (p : Plant) (i : ℕ) (at : Port) → AsksSo hosts pace clients p i at → AsksSo hosts pace (c ∷ clients) p i at
-  more_clients clients c p i at (inl none) = inl none
+  more_clients clients c p i at (inl over) = inl over
   more_clients clients c p i at (inr a) =
       inr (record {
         client = a.client;
         one_of = inr a.one_of;
         port = a.port;
         moment = a.moment;
-        past = a.past;
-        early = a.early;
+        in_share = a.in_share;
         until = a.until;
       })
 
@@ -269,9 +280,15 @@ module _ (hosts : Hosts) (pace : Pace) (timely : IsTimely pace) (keep : KeepTime
     λ next goes. called overtake later (c ∷ clients) next (started overtake clients p station exact first_id store c next goes known) (done.1 next goes),
   )
 
-known_first : (hosts : Hosts) (p : Plant) → NoneAsked hosts p → IsKnown hosts p.time.pace [] p
-known_first hosts p none =
-    record { paced = refl; asked = λ i at is. inl (let zero_at = none i at is in omega (arith, zero_at)) }
+known_first : (hosts : Hosts) (p : Plant) → AreQuiet hosts p → IsKnown hosts p.time.pace [] p
+known_first hosts p quiet =
+    record {
+      paced = refl;
+      asked = λ i at is.
+          let over : is_quiet (world_of p) i ≡ true = quiet i at is in
+          let all : (p.lives i).sends_until + p.time.pace.life + most p.time.pace KEEP + p.time.pace.life ≤ p.time.now = grind (arith, nat_tests) in
+          inl all;
+    }
 
 pub deeds_are_calls : DeedsAreCalls
 deeds_are_calls hosts overtake p timely keep none deeds done =

@@ -1,6 +1,6 @@
 -- The two clients are computed.
-use Rattle.std.proofs.Common.{◌≡◌, ◌⊎◌, ℕ, ◌+◌, ◌-◌, ◌*◌, ◌<◌, ◌≤◌, List, [], ◌∷◌, Option, Some, None, if◌then◌else◌, nat_eq, refl, sym, ap, inl, inr, arith}
-use Rattle.bac_pairs.specs.Pairs.{port_at, share_at, share_end}
+use Rattle.std.proofs.Common.{◌≡◌, ℕ, ◌+◌, ◌-◌, ◌*◌, ◌<◌, ◌≤◌, List, [], ◌∷◌, Some, refl, ap, inl, inr, arith}
+use Rattle.bac_pairs.specs.Pairs.{share_at, share_end}
 use Rattle.bac_protocol.specs.Pace.{most}
 use Rattle.bac_plant.specs.Clients.{Client, IsAskedEarly, IsOneOf, KeepsTime, Port, StartsThere, port_taken}
 use Rattle.bac_plant.specs.ClientsExample.{AT, HOSTS, ONE, OTHER, PORT, TwoClients}
@@ -14,14 +14,16 @@ module _ (key : List ℕ) where
   same_some a b e = cc
 
   no_more : IsAskedEarly (HOSTS key) (ONE ∷ []) (AT 110007) (PORT key) → ⊥
+  unfolding most
   no_more a = go a.one_of
     where
       go : IsOneOf a.client (ONE ∷ []) → ⊥
       go (inl e) =
           let took : a.client.took ≡ 80000000 = ap (λ (c : Client). c.took) e in
           let end : share_end a.client.took ≡ 80006400 = ap (λ (t : ℕ). share_end t) took in
-          let early = a.early in
-          omega (arith, end, early)
+          let in_share = a.early.in_share in
+          let soon : 110007 ≤ a.early.moment + 30000 = a.early.soon in
+          omega (arith, end, in_share, soon)
       go (inr none) = none
 
   in_turn : (c : Client) → IsOneOf c (ONE ∷ []) → share_at c.took < share_at OTHER.took
@@ -40,16 +42,15 @@ module _ (key : List ℕ) where
   two_clients =
       record {
         keep = record { ticks = refl; days = λ host. keeps_time };
-        none = λ station at is. refl;
+        quiet = λ station at is. refl;
         starts =
             record {
               there = record { before = _; at = refl };
               port = refl;
               past = omega arith;
               in_turn = λ other has. absurd has;
-              rested = omega arith;
             };
-        asks = record { client = ONE; one_of = inl refl; port = refl; early = omega arith };
+        asks = record { client = ONE; one_of = inl refl; port = refl; early = record { moment = 80006; in_share = omega arith; soon = omega arith } };
         asks_no_more = no_more;
         starts_again =
             record {
@@ -57,7 +58,6 @@ module _ (key : List ℕ) where
               port = refl;
               past = omega arith;
               in_turn = λ other has same. in_turn other has;
-              rested = omega arith;
             };
         too_early = too_early;
       }

@@ -1,27 +1,27 @@
 -- Clients of hosts, as `bac` is one: programs that start one after another, each at the port that the time of day gives it, and ask from there for a while.
-use Rattle.std.specs.Prelude.{◌≡◌, ◌⊎◌, ℕ, ◌+◌, ◌-◌, ◌*◌, ◌<◌, ◌≤◌, List, [], ◌∷◌, map, Option, Some, IfSome}
+use Rattle.std.specs.Prelude.{◌≡◌, ◌⊎◌, ℕ, ◌+◌, ◌-◌, ◌*◌, ◌<◌, ◌≤◌, true, List, [], ◌∷◌, map, Option, Some, IfSome}
 use Rattle.bac_pairs.specs.Pairs.{port_at, share_at, share_end}
 use Rattle.bac_store.specs.Stores.{Store}
 use Rattle.bac_protocol.specs.Pace.{IsTimely, Pace, most}
-use Rattle.bac_protocol.specs.declared.times.TheConstants.{KEEP}
 use Rattle.bac_world.specs.Once.{IsOnce}
 use Rattle.bac_world.specs.ReusingLogs.{IsOnceSo, NoneReuses, Reuses}
+use Rattle.bac_world.specs.World.{is_quiet}
 use Rattle.bac_plant.specs.Composed.{AreCalled, IsThere}
 use Rattle.bac_plant.specs.Moves.{AreCalledIn, IsCalledIn, IsReachedIn, MayStart, Move, MoveRun, Moves}
 use Rattle.bac_plant.specs.Moves.Move.{Goes}
 use Rattle.bac_plant.specs.Pauses.{pause}
-use Rattle.bac_plant.specs.Plants.{Plant}
+use Rattle.bac_plant.specs.Plants.{Plant, world_of}
 use Rattle.bac_plant.specs.Runs.{stores_in}
 use Rattle.bac_plant.specs.Steps.{Step}
 use Rattle.bac_plant.specs.Steps.Step.{Begins, StartsAgain}
 
 -- ---- hosts
 
--- The time of day, in microseconds, at the moments of real time, of which so many are a millisecond. It is not set back. In 136 seconds it gains at most 0.88
+-- The time of day, in microseconds, at the moments of real time, of which so many are a millisecond. It is not set back. In 166 seconds it gains at most 0.88
 -- seconds on real time, whether it runs fast or is set forward.
 pub record KeepsTime (grain : ℕ) (day : (moment : ℕ) → ℕ) : Type 0 where
   pub on : (one other : ℕ) → one ≤ other → day one ≤ day other
-  pub gains : (one other : ℕ) → one ≤ other → other ≤ one + 136000 * grain → grain * (day other - day one) ≤ 1000 * (other - one) + 880000 * grain
+  pub gains : (one other : ℕ) → one ≤ other → other ≤ one + 166000 * grain → grain * (day other - day one) ≤ 1000 * (other - one) + 880000 * grain
 
 -- what the programs of a host share: a key, and the time of day
 pub record Host : Type 0 where
@@ -60,9 +60,11 @@ abbrev pub IsOneOf : Client → List Client → Type 0
 IsOneOf c [] = ⊥
 IsOneOf c (first ∷ others) = (c ≡ first) ⊎ IsOneOf c others
 
--- no more than 30 seconds have passed since the end of the share in which it took its port
-abbrev pub IsEarly : Hosts → Client → Plant → Type 0
-IsEarly hosts c p = day_in hosts c.host p ≤ share_end c.took + 30000000
+-- its clock has gone on by no more than 30,000 ms since a moment at which the share was not over in which it took its port
+pub record IsEarly (hosts : Hosts) (c : Client) (p : Plant) : Type 0 where
+  pub moment : ℕ
+  pub in_share : (hosts.host c.host).day moment ≤ share_end c.took
+  pub soon : p.time.now ≤ moment + most p.time.pace 30000
 
 -- A client starts at a station, after these ones. Those of these that had its port took it in earlier shares of time.
 pub record StartsThere (hosts : Hosts) (clients : List Client) (p : Plant) (station : ℕ) (c : Client) : Type 0 where
@@ -70,8 +72,6 @@ pub record StartsThere (hosts : Hosts) (clients : List Client) (p : Plant) (stat
   pub port : hosts.port_of station ≡ Some (port_taken hosts c)
   pub past : c.took ≤ day_in hosts c.host p
   pub in_turn : (other : Client) → IsOneOf other clients → port_taken hosts other ≡ port_taken hosts c → share_at other.took < share_at c.took
-  -- the first one starts no sooner than another program may after a restart
-  pub rested : p.time.pace.life + most p.time.pace KEEP + p.time.pace.life ≤ p.time.now
 
 -- one of these clients has that port, and is early
 pub record IsAskedEarly (hosts : Hosts) (clients : List Client) (p : Plant) (at : Port) : Type 0 where
@@ -114,32 +114,31 @@ AreDone hosts overtake clients (deed ∷ later) p =
     IsDone hosts overtake clients p deed
     × ((next : Plant) → Moves overtake p (move_of deed) next → AreDone hosts overtake (with_client deed clients) later next)
 
--- no station at such a port asked another one so far
-abbrev pub NoneAsked : Hosts → Plant → Type 0
-NoneAsked hosts p = (station : ℕ) (at : Port) → hosts.port_of station ≡ Some at → (p.lives station).sends_until ≡ 0
+-- at these ports all is over that was sent before, as where nothing was asked for the time of `pause`
+abbrev pub AreQuiet : Hosts → Plant → Type 0
+AreQuiet hosts p = (station : ℕ) (at : Port) → hosts.port_of station ≡ Some at → is_quiet (world_of p) station ≡ true
 
 -- ---- laws
 
--- 135.888 seconds by the time of day are 135.008 seconds at the least, in parts of which so many are a millisecond
+-- 165.888 seconds by the time of day are 165.008 seconds at the least
 abbrev pub DaysAreLong : Type 0
 DaysAreLong =
-    (grain : ℕ) (day : (moment : ℕ) → ℕ) → KeepsTime grain day → (one other : ℕ) → one ≤ other → day one + 135888000 ≤ day other
-    → one + 135008 * grain ≤ other
+    (grain : ℕ) (day : (moment : ℕ) → ℕ) → KeepsTime grain day → (one other : ℕ) → day one + 165888000 ≤ day other → one + 165008 * grain ≤ other
 
--- and a pause is no longer than 135.003 seconds
+-- and what a client asks in the 30 seconds after its share is over 165.007 seconds after that at the latest
 abbrev pub PausesAreShort : Type 0
-PausesAreShort = (p : Pace) → p.tick ≡ 1 → IsTimely p → pause p ≤ 135003 * p.grain
+PausesAreShort = (p : Pace) → p.tick ≡ 1 → IsTimely p → most p 30000 + pause p ≤ 165007 * p.grain
 
 -- each client finds that all is over that was sent from its port before; so such deeds are calls as `calls_compose_with_other_settings` takes them
 abbrev pub DeedsAreCalls : Type 0
 DeedsAreCalls =
-    (hosts : Hosts) (overtake : ℕ) (p : Plant) → IsTimely p.time.pace → KeepTime hosts p.time.pace → NoneAsked hosts p → (deeds : List Deed)
+    (hosts : Hosts) (overtake : ℕ) (p : Plant) → IsTimely p.time.pace → KeepTime hosts p.time.pace → AreQuiet hosts p → (deeds : List Deed)
     → AreDone hosts overtake [] deeds p → AreCalledIn overtake (map move_of deeds) p
 
 -- and where no station starts with other settings, as `calls_compose` takes them
 abbrev pub DeedsAreSteps : Type 0
 DeedsAreSteps =
-    (hosts : Hosts) (overtake : ℕ) (p : Plant) → IsTimely p.time.pace → KeepTime hosts p.time.pace → NoneAsked hosts p → (deeds : List Deed)
+    (hosts : Hosts) (overtake : ℕ) (p : Plant) → IsTimely p.time.pace → KeepTime hosts p.time.pace → AreQuiet hosts p → (deeds : List Deed)
     → AreDone hosts overtake [] deeds p → (steps : List Step) → map move_of deeds ≡ map Goes steps → AreCalled overtake steps p
 
 -- a plant to which they lead from p, whose log is right
@@ -153,5 +152,5 @@ pub record IsRightAfter (W overtake : ℕ) (ever : Reuses) (first p : Plant) (de
 -- so they are moves, one after the other, and the headline holds after them
 abbrev pub DeedsAreRight : Type 0
 DeedsAreRight =
-    (hosts : Hosts) (W overtake : ℕ) (ever : Reuses) (first p : Plant) → IsReachedIn W overtake ever first p → KeepTime hosts p.time.pace → NoneAsked hosts p
+    (hosts : Hosts) (W overtake : ℕ) (ever : Reuses) (first p : Plant) → IsReachedIn W overtake ever first p → KeepTime hosts p.time.pace → AreQuiet hosts p
     → (deeds : List Deed) → MayStart W ever (map move_of deeds) → AreDone hosts overtake [] deeds p → IsRightAfter W overtake ever first p deeds

@@ -1,7 +1,7 @@
 -- Two clients of a host at one port, and how early the second one may start: computed, whatever the host's key is.
-use Rattle.std.specs.Prelude.{ℕ, ◌*◌, List, [], ◌∷◌, Option, Some, None, if◌then◌else◌, nat_eq}
+use Rattle.std.specs.Prelude.{ℕ, ◌*◌, List, [], ◌∷◌, Some, None, if◌then◌else◌, nat_eq}
 use Rattle.bac_pairs.specs.Pairs.{port_at}
-use Rattle.bac_plant.specs.Clients.{Client, Host, Hosts, IsAskedEarly, KeepTime, NoneAsked, Port, StartsThere}
+use Rattle.bac_plant.specs.Clients.{AreQuiet, Client, Hosts, IsAskedEarly, KeepTime, Port, StartsThere}
 use Rattle.bac_plant.specs.Example.{OPENING}
 use Rattle.bac_plant.specs.Plants.{Plant}
 
@@ -25,9 +25,9 @@ AT moment = record OPENING { time = record OPENING.time { now = moment } }
 
 pub record TwoClients (key : List ℕ) : Type 0 where
   pub keep : KeepTime (HOSTS key) OPENING.time.pace
-  pub none : NoneAsked (HOSTS key) OPENING
+  pub quiet : AreQuiet (HOSTS key) (AT 80000)
   pub starts : StartsThere (HOSTS key) [] (AT 80000) 0 ONE
-  -- it may ask for 30 seconds after its share of 6.4 milliseconds
+  -- it may ask until its clock has gone on by 30,000 ms since a moment of its share, which lasts 6.4 milliseconds
   pub asks : IsAskedEarly (HOSTS key) (ONE ∷ []) (AT 110006) (PORT key)
   pub asks_no_more : IsAskedEarly (HOSTS key) (ONE ∷ []) (AT 110007) (PORT key) → ⊥
   -- 135.889 seconds after that ask the other one may start
