@@ -21,14 +21,14 @@ pub asks_free : (IsOn : Links) (host : Octets) (asking : Asking) (q : Question) 
     → IsRenewed IsOn host spent fresh → AsksFrom asking q how fresh after → ends_spent how ≡ false
 asks_free IsOn host asking q (end.Ended how) spent fresh after renewed asks = refl
 asks_free IsOn host asking q (end.Refused why) spent fresh after renewed asks =
-    never_spent q why _ after renewed.client.first_id renewed.client.at.at.address renewed.client.at.at.node asks.ends
+    never_spent q why fresh after fresh.told.last renewed.client.first_id renewed.client.at.at.address renewed.client.at.at.node asks.ends
 asks_free IsOn host asking q end.NoEnding spent fresh after renewed asks = refl
 
 pub begins_free : (IsOn : Links) (host : Octets) (asking : Asking) (q : Question) (b : Begun) (spent fresh after : Timed)
     → IsRenewed IsOn host spent fresh → BeginsAsk asking q b fresh after → begins_spent b ≡ false
 begins_free IsOn host asking q (begun.Accepted ticket wait_limit) spent fresh after renewed begins = refl
 begins_free IsOn host asking q (begun.Refused why) spent fresh after renewed begins =
-    never_spent q why _ after renewed.client.first_id renewed.client.at.at.address renewed.client.at.at.node begins.begun
+    never_spent q why fresh after fresh.told.last renewed.client.first_id renewed.client.at.at.address renewed.client.at.at.node begins.begun
 
 -- the next node is ready, from the moment on at which the clock was looked at
 pub ready_anew : (IsOn : Links) (host : Octets) (start : ℕ) (before after : Timed) (told : Told) → told ≡ with_moment before.told start

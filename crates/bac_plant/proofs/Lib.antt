@@ -22,6 +22,8 @@ pub mod Holding
 pub mod Resting
 pub mod Answered
 pub mod Pauses
+pub mod Clients
+pub mod ClientsComputed
 pub mod Answers
 pub mod AnswersComputed
 pub mod AnswersLogs

@@ -17,7 +17,7 @@ use Rattle.bac_ask_report.specs.Records.{Outcome}
 use Rattle.std.specs.Io.KnownBytes.{Appends}
 use Rattle.bac_point_report.specs.Targets.{Target, targets_of}
 use Rattle.bac_asking.specs.Gathering.{Gathers}
-use Rattle.bac_asking.specs.Online.{IsClient}
+use Rattle.bac_asking.specs.Online.{HasLooked, IsClient}
 use Rattle.bac_asking.specs.Recording.{outcome_of}
 use Rattle.bac_asking.specs.declared.asking.Asking.{Asking}
 use Rattle.bac_environment.specs.Sockets.{Clocks, Links}
@@ -61,8 +61,8 @@ pub record ReadsLines (IsOn : Links) (asking : Asking) (lines : List LineQuestio
 pub record ReadsByClient (IsOn : Links) (IsClock : Clocks) (asking : Asking) (lines : List LineQuestion) (all : Bool) : Type 0 where
   pub before : Timed
   pub after : Timed
-  pub client : IsClient IsOn asking.host before.bound_node
-  pub clock : IsClock before.told
+  pub client : IsClient IsOn asking.host before
+  pub clock : HasLooked IsClock before.told
   pub reads : ReadsLines IsOn asking lines all before after
 
 -- a client asked for the properties that the words name; whether each was answered with a value

@@ -1,7 +1,8 @@
 //! Doing what `read`, `write` and `points` ask for.
 ghost use Rattle.std.specs.Prelude.{◌≡◌, false, true, IfErr, IfOk, MatchOption};
+ghost use Rattle.bac_driver.specs.Runs.{timed};
 ghost use Rattle.bac_text.specs.Statuses.{IsFailure};
-ghost use Rattle.bac_asking.specs.Online.{IsClient};
+ghost use Rattle.bac_asking.specs.Online.{HasLooked, IsClient};
 ghost use Rattle.bac_npdu.specs.Views.{peer_view};
 ghost use Rattle.bac_environment.specs.Files.{OnFile};
 ghost use Rattle.bac_environment.specs.Sockets.{OnClock, OnPort};
@@ -50,8 +51,9 @@ fn first_silent(ends: &[AskEnd]) -> Option<&AskEnd>
 impl<'e, M: ClientSockets> Desk<'e, M> {
     /// A client that has asked nothing. Where there is none, `err` and the status say so.
     pub(crate) fn client<E: Write>(&self, err: &mut E) -> Result<Client<'e, M>, Status>
-        ensures node { IfOk result (λ c. IsClient (OnPort M.is_bound M.Link.failures M.Link.calls) self.now.asking.now.host c.station.bound_node) }
-        ensures clock { IfOk result (λ c. OnClock M.is_made M.Timer.told (M.Timer.told c.station.clock)) }
+        ensures node { IfOk result (λ c. IsClient (OnPort M.is_bound M.Link.failures M.Link.calls) self.now.asking.now.host
+            (timed c.station.bound_node (M.Timer.told c.station.clock))) }
+        ensures clock { IfOk result (λ c. HasLooked (OnClock M.is_made M.Timer.told) (M.Timer.told c.station.clock)) }
         ensures failed { IfErr result IsFailure }
     {
         Client::new(self.alloc, self.machine, self.asking.host, err)

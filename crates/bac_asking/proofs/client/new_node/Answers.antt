@@ -1,4 +1,4 @@
--- The node is on a link that was bound, and that is another one than the node that asks now has.
+-- The node is on a link that was bound, and that is another one than the node that asks now has. It begins at the moment of the clock.
 use Rattle.std.proofs.Common.{◌≢◌, ℕ, IfSome, List, sym, ap, subst}
 use Rattle.bac_world.specs.Node.{Node}
 use Rattle.bac_asking.proofs.client.new_node.Goals as goal
@@ -29,5 +29,5 @@ returns-clause-node g c =
 
 pub returns-clause-apart : goal.returns-clause-apart
 returns-clause-apart g c =
-    subst (λ (l : List ℕ). IfSome c.args.at.1 (λ own. l ≢ own)) (sym (ap (λ (n : Node). n.link) c.in-Ok-bound_client.ensures.node))
+    subst (λ (l : List ℕ). IfSome c.args.wanted.held (λ own. l ≢ own)) (sym (ap (λ (n : Node). n.link) c.in-Ok-bound_client.ensures.node))
     c.in-Ok.ensures.other

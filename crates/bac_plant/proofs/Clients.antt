@@ -1,0 +1,329 @@
+-- Clients that start one after another find that all is over that was sent from their ports before.
+use Rattle.std.proofs.Common.{◌≡◌, ◌⊎◌, ℕ, ◌+◌, ◌-◌, ◌*◌, ◌/◌, ◌<◌, ◌≤◌, Bool, true, false, List, [], ◌∷◌, map, Option, Some, IfSome, if◌then◌else◌, nat_eq, nat_le, refl, sym, ap, subst, ◌∙◌, inl, inr, arith}
+use Rattle.std.proofs.lemmas.Bool.Decides.{nat_tests}
+use Rattle.std.proofs.Math.Nat.{add-mul, div-mul-le_self, div-one, lt-div-mul-add, lt_of_mul-lt-mul_right, mul-add, mul-le-mul_left, mul-le-mul_right, mul_assoc, mul_comm}
+use Rattle.bac_apdu.specs.Apdu.{Limits}
+use Rattle.bac_service.specs.Values.{Request}
+use Rattle.bac_pairs.specs.Pairs.{port_at, share_end}
+use Rattle.bac_store.specs.Stores.{Store}
+use Rattle.bac_pairs.proofs.Ports.{comes_late}
+use Rattle.bac_protocol.specs.Pace.{IsTimely, Pace, least, most, period}
+use Rattle.bac_protocol.specs.declared.times.TheConstants.{DEADLINE, KEEP}
+use Rattle.bac_world.specs.ReusingLogs.{Reuses}
+use Rattle.bac_world.specs.World.{Life, is_quiet, with_ask}
+use Rattle.bac_plant.specs.Anew.{PlantRunIn, Stretch}
+use Rattle.bac_plant.specs.Clients.{AreDone, Client, DaysAreLong, Deed, DeedsAreCalls, DeedsAreRight, DeedsAreSteps, Hosts, IsAskedEarly, IsOneOf, KeepTime, MayAsk, PausesAreShort}
+use Rattle.bac_plant.specs.Clients.{AreQuiet, Port, StartsThere, day_in, move_of, port_taken}
+use Rattle.bac_plant.specs.Clients.Deed.{Does, StartsClient}
+use Rattle.bac_plant.specs.Composed.{AreCalled}
+use Rattle.bac_plant.specs.Moves.{AreCalledIn, IsReachedIn, Move, Moves}
+use Rattle.bac_plant.specs.Moves.Move.{Goes, StartsAnew}
+use Rattle.bac_plant.specs.Pauses.{asks}
+use Rattle.bac_plant.specs.Plants.{Plant, world_of}
+use Rattle.bac_plant.specs.Steps.{PlantStep, Step}
+use Rattle.bac_plant.specs.Steps.Step.{Begins, BeginsAway, Changes, FailsToReceive, Holds, Passes, Restarts, SendsHeld, Starts, StartsAgain, Takes}
+use Rattle.bac_plant.proofs.Anew.{once_anew, once_ever_anew}
+use Rattle.bac_plant.proofs.Composed.{composed_in}
+use Rattle.bac_plant.proofs.Pauses.{GoesOn, asks_not, run_on, same_time, starts_not, starts_on, step_on, then_on}
+
+-- ---- times
+
+-- what is over in 165,007 ms, by clocks as fast or slow as any
+enough : (g s d u v w h l : ℕ) → 0 < g → s + d ≡ 1000000 → u * s ≤ 1000000 * (60000 * g + (g - 1)) → 1000000 * (60000 * g + (g - 1)) < u * s + s
+    → v * (1000000 + d) ≤ 1000000 * (65000 * g + 1) - 1 → w * s ≤ 1000000 * (65000 * g + (g - 1)) → h * s ≤ 1000000 * (30000 * g + (g - 1)) → u + l ≤ v
+    → h + (u + 1 + l + w + l) ≤ 165007 * g
+enough g s d u v w h l some whole low high keep kept asked keeps =
+    let split : u * (s + d) ≡ u * s + u * d = mul-add u s d in
+    let same : u * (s + d) ≡ u * 1000000 = ap (λ (n : ℕ). u * n) whole in
+    let other : v * (1000000 + d) ≡ v * 1000000 + v * d = mul-add v 1000000 d in
+    let more : u * d ≤ v * d = mul-le-mul_right d (omega (arith, keeps)) in
+    let both : u + v ≤ 125001 * g = omega (arith, some, split, same, low, other, keep, more) in
+    let one : v ≤ 65000 * g = omega (arith, other, keep) in
+    let left : 12 * w * s ≡ 12 * (w * s) = mul_assoc 12 w s in
+    let right : (13 * u + 13) * s ≡ 13 * u * s + 13 * s = add-mul (13 * u) 13 s in
+    let inner : 13 * u * s ≡ 13 * (u * s) = mul_assoc 13 u s in
+    let less : 12 * w < 13 * u + 13 = lt_of_mul-lt-mul_right s (omega (arith, some, left, right, inner, kept, high)) in
+    let half_left : 20000 * h * s ≡ 20000 * (h * s) = mul_assoc 20000 h s in
+    let half_right : (10001 * u + 10001) * s ≡ 10001 * u * s + 10001 * s = add-mul (10001 * u) 10001 s in
+    let half_inner : 10001 * u * s ≡ 10001 * (u * s) = mul_assoc 10001 u s in
+    let half : 20000 * h < 10001 * u + 10001 = lt_of_mul-lt-mul_right s (omega (arith, some, half_left, half_right, half_inner, asked, high)) in
+    omega (arith, some, both, one, less, half, keeps)
+
+whole_millis : (g ms t : ℕ) → t ≡ 1 → g * t * (ms / t) ≡ ms * g
+whole_millis g ms t e =
+    let at_one : g * t * (ms / t) ≡ g * 1 * (ms / 1) = ap (λ (x : ℕ). g * x * (ms / x)) e in
+    let times : g * 1 * (ms / 1) ≡ g * 1 * ms = ap (λ (x : ℕ). g * 1 * x) (div-one ms) in
+    let unit : g * 1 * ms ≡ g * ms = ap (λ (x : ℕ). x * ms) (omega arith) in
+    at_one ∙ times ∙ unit ∙ mul_comm g ms
+
+pub pauses_are_short : PausesAreShort
+unfolding most least
+pauses_are_short p ticks t =
+    let s = 1000000 - p.drift in
+    let slow = t.slow in
+    let period_is : period p ≡ p.grain = ap (λ (x : ℕ). p.grain * x) ticks ∙ omega arith in
+    let parts_is : (ms : ℕ) → period p * (ms / p.tick) + (period p - 1) ≡ ms * p.grain + (p.grain - 1) = λ ms.
+    let first = whole_millis p.grain ms p.tick ticks in omega (arith, first, period_is) in
+    let asked : ℕ = 1000000 * (period p * (60000 / p.tick) + (period p - 1)) in
+    let soon : ℕ = 1000000 * (period p * (30000 / p.tick) + (period p - 1)) in
+    let kept : ℕ = 1000000 * (period p * (65000 / p.tick) + (period p - 1)) in
+    let keeps : ℕ = 1000000 * (period p * (65000 / p.tick) + 1) - 1 in
+    let asked_is = parts_is 60000 in
+    let kept_is = parts_is 65000 in
+    let soon_is = parts_is 30000 in
+    let keeps_is = whole_millis p.grain 65000 p.tick ticks in
+    let low : asked / s * s ≤ asked = div-mul-le_self asked s in
+    let high : asked < asked / s * s + s = lt-div-mul-add (omega (arith, slow)) in
+    let keep : keeps / (1000000 + p.drift) * (1000000 + p.drift) ≤ keeps = div-mul-le_self keeps (1000000 + p.drift) in
+    let keep_most : kept / s * s ≤ kept = div-mul-le_self kept s in
+    let soon_most : soon / s * s ≤ soon = div-mul-le_self soon s in
+    enough p.grain s p.drift (most p DEADLINE) (least p KEEP) (most p KEEP) (most p 30000) p.life t.some (omega (arith, slow))
+    (omega (arith, low, asked_is)) (omega (arith, high, asked_is)) (omega (arith, keep, keeps_is)) (omega (arith, keep_most, kept_is)) (omega (arith, soon_most, soon_is)) t.keeps
+
+pub days_are_long : DaysAreLong
+days_are_long grain day keeps one other far = before (nat_le one other) refl
+  where
+    after : one ≤ other → (b : Bool) → nat_le other (one + 166000 * grain) ≡ b → one + 165008 * grain ≤ other
+    after l false e = let beyond : one + 166000 * grain < other = grind (arith, nat_tests) in omega (arith, beyond)
+    after l true e =
+        let within : other ≤ one + 166000 * grain = grind (arith, nat_tests) in
+        let gains = keeps.gains one other l within in
+        let apart : grain * 165888000 ≤ grain * (day other - day one) = mul-le-mul_left grain (omega (arith, far)) in
+        omega (arith, l, gains, apart)
+
+    before : (b : Bool) → nat_le one other ≡ b → one + 165008 * grain ≤ other
+    before true e = let l : one ≤ other = grind (arith, nat_tests) in after l (nat_le other (one + 166000 * grain)) refl
+    before false e =
+        let back : other ≤ one = grind (arith, nat_tests) in
+        let less = keeps.on other one back in
+        absurd (omega (arith, far, less))
+
+-- ---- what is known of the ports
+
+-- one of these clients began the latest ask from there, early, and sends for it no longer than a deadline lasts
+record IsAsked (hosts : Hosts) (pace : Pace) (clients : List Client) (p : Plant) (i : ℕ) (at : Port) : Type 0 where
+  client : Client
+  one_of : IsOneOf client clients
+  port : at ≡ port_taken hosts client
+  moment : ℕ
+  in_share : (hosts.host client.host).day moment ≤ share_end client.took
+  until : (p.lives i).sends_until ≤ moment + most pace 30000 + most pace DEADLINE + 1
+
+-- or all is over there
+abbrev AsksSo : Hosts → Pace → List Client → Plant → (i : ℕ) → Port → Type 0
+AsksSo hosts pace clients p i at = ((p.lives i).sends_until + pace.life + most pace KEEP + pace.life ≤ p.time.now) ⊎ IsAsked hosts pace clients p i at
+
+record IsKnown (hosts : Hosts) (pace : Pace) (clients : List Client) (p : Plant) : Type 0 where
+  paced : p.time.pace ≡ pace
+  asked : (i : ℕ) (at : Port) → hosts.port_of i ≡ Some at → AsksSo hosts pace clients p i at
+
+module _ (hosts : Hosts) (pace : Pace) (timely : IsTimely pace) (keep : KeepTime hosts pace) where
+  still : (clients : List Client) (old new : Plant) → GoesOn old new → (i : ℕ) (at : Port) → (new.lives i).sends_until ≤ (old.lives i).sends_until
+      → AsksSo hosts pace clients old i at → AsksSo hosts pace clients new i at
+  still clients old new goes i at less (inl over) = inl (let on = goes.on in omega (arith, less, over, on))
+  still clients old new goes i at less (inr a) =
+      inr (record {
+        client = a.client;
+        one_of = a.one_of;
+        port = a.port;
+        moment = a.moment;
+        in_share = a.in_share;
+        until = let until = a.until in omega (arith, less, until);
+      })
+
+  known_on : (clients : List Client) (old new : Plant) → GoesOn old new → IsKnown hosts pace clients old
+      → ((i : ℕ) (at : Port) → hosts.port_of i ≡ Some at → AsksSo hosts pace clients new i at) → IsKnown hosts pace clients new
+  known_on clients old new goes known asked = record { paced = goes.pace ∙ known.paced; asked = asked }
+
+  -- a move in which no station asks another one
+  calm : (clients : List Client) (old new : Plant) → GoesOn old new → ((i : ℕ) → (new.lives i).sends_until ≤ (old.lives i).sends_until)
+      → IsKnown hosts pace clients old → IsKnown hosts pace clients new
+  calm clients old new goes less known = known_on clients old new goes known (λ i at is. still clients old new goes i at (less i) (known.asked i at is))
+
+  calm_step : (overtake : ℕ) (clients : List Client) (old : Plant) (step : Step) (new : Plant) → PlantStep overtake old step new
+      → ((i : ℕ) → asks i step ≡ false) → IsKnown hosts pace clients old → IsKnown hosts pace clients new
+  calm_step overtake clients old step new s none known =
+      calm clients old new (step_on overtake old step new s) (λ i. asks_not i overtake old step new s (none i)) known
+
+  -- an ask
+  asked_early : (clients : List Client) (old new : Plant) → GoesOn old new → (j : ℕ) → old.time.pace ≡ pace
+      → new.lives ≡ with_ask old.time old.lives j → (i : ℕ) → j ≡ i → (at : Port) → IsAskedEarly hosts clients old at
+      → AsksSo hosts pace clients new i at
+  asked_early clients old new goes j paced lives i same at a =
+      let own : (with_ask old.time old.lives j i).sends_until ≡ old.time.now + most old.time.pace DEADLINE + 1 =
+      asks_now old j i same in
+      let is : (new.lives i).sends_until ≡ (with_ask old.time old.lives j i).sends_until = ap (λ (l : ℕ → Life). (l i).sends_until) lives in
+      let pace_is : most old.time.pace DEADLINE ≡ most pace DEADLINE = ap (λ (q : Pace). most q DEADLINE) paced in
+      let asking_is : most old.time.pace 30000 ≡ most pace 30000 = ap (λ (q : Pace). most q 30000) paced in
+      inr (record {
+        client = a.client;
+        one_of = a.one_of;
+        port = a.port;
+        moment = a.early.moment;
+        in_share = a.early.in_share;
+        until = let soon = a.early.soon in omega (arith, own, is, pace_is, asking_is, soon);
+      })
+    where
+      asks_now : (p : Plant) (j i : ℕ) → j ≡ i → (with_ask p.time p.lives j i).sends_until ≡ p.time.now + most p.time.pace DEADLINE + 1
+      asks_now p j i e = go (nat_eq i j) refl
+        where
+          go : (b : Bool) → nat_eq i j ≡ b
+              → (if b then record { active = true; sends_until = p.time.now + most p.time.pace DEADLINE + 1 } else p.lives i).sends_until
+              ≡ p.time.now + most p.time.pace DEADLINE + 1
+          go true f = refl
+          go false f = absurd (grind (arith, nat_tests))
+
+  asks_on : (overtake : ℕ) (clients : List Client) (old new : Plant) (j server : ℕ) (limits : Limits) (r : Request)
+      → PlantStep overtake old (Begins j server limits r) new → IfSome (hosts.port_of j) (λ at. IsAskedEarly hosts clients old at)
+      → IsKnown hosts pace clients old → IsKnown hosts pace clients new
+  asks_on overtake clients old new j server limits r s may known = known_on clients old new goes known asked
+    where
+      goes : GoesOn old new
+      goes = step_on overtake old (Begins j server limits r) new s
+
+      asked : (i : ℕ) (at : Port) → hosts.port_of i ≡ Some at → AsksSo hosts pace clients new i at
+      asked i at is = go (nat_eq i j) refl
+        where
+          go : (b : Bool) → nat_eq i j ≡ b → AsksSo hosts pace clients new i at
+          go false e = still clients old new goes i at (asks_not i overtake old (Begins j server limits r) new s e) (known.asked i at is)
+          go true e =
+              let same : j ≡ i = grind (arith, nat_tests) in
+              let there : hosts.port_of j ≡ Some at = ap (λ (k : ℕ). hosts.port_of k) same ∙ is in
+              let early : IsAskedEarly hosts clients old at =
+              subst (λ (o : Option Port). IfSome o (λ x. IsAskedEarly hosts clients old x)) there may in
+              asked_early clients old new goes j known.paced (ap (λ (p : Plant). p.lives) s.is) i same at early
+
+  step_known : (overtake : ℕ) (clients : List Client) (old : Plant) (step : Step) (new : Plant) → PlantStep overtake old step new
+      → MayAsk hosts clients old (Goes step) → IsKnown hosts pace clients old → IsKnown hosts pace clients new
+  step_known overtake clients old (Begins j server limits r) new s may known = asks_on overtake clients old new j server limits r s may known
+  step_known overtake clients old (Passes by own) new s may known = calm_step overtake clients old (Passes by own) new s (λ i. refl) known
+  step_known overtake clients old (Takes j source turn) new s may known = calm_step overtake clients old (Takes j source turn) new s (λ i. refl) known
+  step_known overtake clients old (FailsToReceive j) new s may known = calm_step overtake clients old (FailsToReceive j) new s (λ i. refl) known
+  step_known overtake clients old (BeginsAway j peer limits r) new s may known =
+      calm_step overtake clients old (BeginsAway j peer limits r) new s (λ i. refl) known
+  step_known overtake clients old (Changes j c) new s may known = calm_step overtake clients old (Changes j c) new s (λ i. refl) known
+  step_known overtake clients old (Restarts j exact store) new s may known = calm_step overtake clients old (Restarts j exact store) new s (λ i. refl) known
+  step_known overtake clients old (Starts j exact) new s may known = calm_step overtake clients old (Starts j exact) new s (λ i. refl) known
+  step_known overtake clients old (StartsAgain j exact first_id store) new s may known =
+      calm_step overtake clients old (StartsAgain j exact first_id store) new s (λ i. refl) known
+  step_known overtake clients old (Holds j source turn) new s may known = calm_step overtake clients old (Holds j source turn) new s (λ i. refl) known
+  step_known overtake clients old (SendsHeld j turns) new s may known = calm_step overtake clients old (SendsHeld j turns) new s (λ i. refl) known
+
+  move_known : (overtake : ℕ) (clients : List Client) (old : Plant) (move : Move) (new : Plant) → Moves overtake old move new
+      → MayAsk hosts clients old move → IsKnown hosts pace clients old → IsKnown hosts pace clients new
+  move_known overtake clients old (Goes step) new s may known = step_known overtake clients old step new s may known
+  move_known overtake clients old (StartsAnew anew) new s may known =
+      calm clients old new (starts_on old anew new s) (λ i. starts_not i old anew new s) known
+
+  -- ---- a client that starts
+
+  quiet_when : (p : Plant) (i : ℕ) → p.time.pace ≡ pace → (p.lives i).sends_until + pace.life + most pace KEEP + pace.life ≤ p.time.now
+      → is_quiet (world_of p) i ≡ true
+  quiet_when p i paced over =
+      let all : (p.lives i).sends_until + p.time.pace.life + most p.time.pace KEEP + p.time.pace.life ≤ p.time.now =
+      subst (λ (q : Pace). (p.lives i).sends_until + q.life + most q KEEP + q.life ≤ p.time.now) (sym paced) over in
+      grind (arith, nat_tests)
+
+  quiet_at : (p : Plant) (i moment : ℕ) → p.time.pace ≡ pace → (p.lives i).sends_until ≤ moment + most pace 30000 + most pace DEADLINE + 1
+      → moment + 165008 * pace.grain ≤ p.time.now → is_quiet (world_of p) i ≡ true
+  quiet_at p i moment paced until long =
+      let fits = pauses_are_short pace keep.ticks timely in quiet_when p i paced (omega (arith, fits, until, long))
+
+  quiet_after : (clients : List Client) (p : Plant) (station : ℕ) (c : Client) → IsKnown hosts pace clients p → StartsThere hosts clients p station c
+      → AsksSo hosts pace clients p station (port_taken hosts c) → is_quiet (world_of p) station ≡ true
+  quiet_after clients p station c known s (inl over) = quiet_when p station known.paced over
+  quiet_after clients p station c known s (inr a) =
+      let host : c.host ≡ a.client.host = ap (λ (at : Port). at.host) a.port in
+      let here = hosts.host a.client.host in
+      let day_is : day_in hosts c.host p ≡ day_in hosts a.client.host p = ap (λ (h : ℕ). day_in hosts h p) host in
+      let port : port_at here.key c.took ≡ port_at here.key a.client.took =
+      ap (λ (h : ℕ). port_at (hosts.host h).key c.took) (sym host) ∙ ap (λ (at : Port). at.number) a.port in
+      let past = s.past in
+      let apart : share_end a.client.took + 165888000 ≤ c.took =
+      comes_late here.key a.client.took c.took (s.in_turn a.client a.one_of (sym a.port)) (sym port) in
+      let in_share = a.in_share in
+      let long : a.moment + 165008 * pace.grain ≤ p.time.now =
+      days_are_long pace.grain here.day (keep.days a.client.host) a.moment p.time.now (omega (arith, apart, past, day_is, in_share)) in
+      quiet_at p station a.moment known.paced a.until long
+
+  more_clients : (clients : List Client) (c : Client) (p : Plant) (i : ℕ) (at : Port) → AsksSo hosts pace clients p i at → AsksSo hosts pace (c ∷ clients) p i at
+  more_clients clients c p i at (inl over) = inl over
+  more_clients clients c p i at (inr a) =
+      inr (record {
+        client = a.client;
+        one_of = inr a.one_of;
+        port = a.port;
+        moment = a.moment;
+        in_share = a.in_share;
+        until = a.until;
+      })
+
+  started : (overtake : ℕ) (clients : List Client) (old : Plant) (station exact first_id : ℕ) (store : Option Store) (c : Client) (new : Plant)
+      → PlantStep overtake old (StartsAgain station exact first_id store) new → IsKnown hosts pace clients old → IsKnown hosts pace (c ∷ clients) new
+  started overtake clients old station exact first_id store c new s known =
+      record { paced = after.paced; asked = λ i at is. more_clients clients c new i at (after.asked i at is) }
+    where
+      after : IsKnown hosts pace clients new
+      after = calm_step overtake clients old (StartsAgain station exact first_id store) new s (λ i. refl) known
+
+  -- ---- all of them
+
+  called : (overtake : ℕ) (deeds : List Deed) (clients : List Client) (p : Plant) → IsKnown hosts pace clients p → AreDone hosts overtake clients deeds p
+      → AreCalledIn overtake (map move_of deeds) p
+  called overtake [] clients p known done = tt
+  called overtake (Does move ∷ later) clients p known done = (
+    done.0.0,
+    λ next goes. called overtake later clients next (move_known overtake clients p move next goes done.0.1 known) (done.1 next goes),
+  )
+  called overtake (StartsClient station exact first_id store c ∷ later) clients p known done = (
+    record { there = done.0.there; quiet = quiet_after clients p station c known done.0 (known.asked station (port_taken hosts c) done.0.port) },
+    λ next goes. called overtake later (c ∷ clients) next (started overtake clients p station exact first_id store c next goes known) (done.1 next goes),
+  )
+
+known_first : (hosts : Hosts) (p : Plant) → AreQuiet hosts p → IsKnown hosts p.time.pace [] p
+known_first hosts p quiet =
+    record {
+      paced = refl;
+      asked = λ i at is.
+          let over : is_quiet (world_of p) i ≡ true = quiet i at is in
+          let all : (p.lives i).sends_until + p.time.pace.life + most p.time.pace KEEP + p.time.pace.life ≤ p.time.now = grind (arith, nat_tests) in
+          inl all;
+    }
+
+pub deeds_are_calls : DeedsAreCalls
+deeds_are_calls hosts overtake p timely keep none deeds done =
+    called hosts p.time.pace timely keep overtake deeds [] p (known_first hosts p none) done
+
+as_steps : (overtake : ℕ) (steps : List Step) (p : Plant) → AreCalledIn overtake (map Goes steps) p → AreCalled overtake steps p
+as_steps overtake [] p calls = tt
+as_steps overtake (step ∷ later) p calls = (calls.0, λ next goes. as_steps overtake later next (calls.1 next goes))
+
+pub deeds_are_steps : DeedsAreSteps
+deeds_are_steps hosts overtake p timely keep none deeds done steps are =
+    as_steps overtake steps p (subst (λ (moves : List Move). AreCalledIn overtake moves p) are (deeds_are_calls hosts overtake p timely keep none deeds done))
+
+-- ---- after each run
+
+stretches_on : (overtake : ℕ) (ss : List Stretch) (p new : Plant) → PlantRunIn overtake p ss new → GoesOn p new
+stretches_on overtake [] p new run = same_time p new (ap (λ (q : Plant). q.time) run)
+stretches_on overtake (s ∷ ss) p new run =
+    then_on p run.0 new (starts_on p s.anew run.0 run.2)
+    (then_on run.0 run.1 new (run_on overtake s.steps run.0 run.1 run.3) (stretches_on overtake ss run.1 new run.4))
+
+reached_timely : (W overtake : ℕ) (ever : Reuses) (first p : Plant) → IsReachedIn W overtake ever first p → IsTimely p.time.pace
+reached_timely W overtake ever first p r =
+    let led = r.led in
+    let goes = then_on first led.middle p (run_on overtake led.steps first led.middle led.run) (stretches_on overtake led.stretches led.middle p led.later) in
+    subst IsTimely (sym goes.pace) r.timely
+
+pub deeds_are_right : DeedsAreRight
+deeds_are_right hosts W overtake ever first p r keep none deeds may done =
+    let calls = deeds_are_calls hosts overtake p (reached_timely W overtake ever first p r) keep none deeds done in
+    let c = composed_in W overtake ever first p r (map move_of deeds) may calls in
+    record {
+      last = c.last;
+      run = c.run;
+      reached = c.reached;
+      once = once_anew W overtake ever first c.last c.reached;
+      once_without_reuse = λ never. once_ever_anew W overtake ever first c.last c.reached never;
+    }

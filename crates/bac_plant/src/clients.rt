@@ -1,0 +1,25 @@
+//! Clients of hosts that start one after another at ports that come again.
+
+ghost use Rattle.bac_plant.specs.Clients.{DaysAreLong, DeedsAreCalls, DeedsAreRight, DeedsAreSteps, PausesAreShort};
+
+/// A time of day is not set back, and gains at most 0.88 seconds in 166 seconds. While 165.888 seconds pass by it, 165.008 seconds pass at least. All is over by
+/// then that a client sent which began asks until 30,000 ms after its share of time, by its own clock, whatever the pace of clocks is.
+pub fn days_are_long()
+    ensures days { DaysAreLong }
+    ensures pauses { PausesAreShort }
+{}
+
+/// Clients of hosts start one after another, each at the port that the time of day gave it, as `bac` does: those that had the port before took it in earlier
+/// shares of time. Each begins asks until 30,000 ms after its share, by its own clock. Then all is over that was sent from that port before, whoever was asked, and
+/// whatever the other stations do meanwhile. So another program may start there, and what they all do is calls as `calls_compose` and
+/// `calls_compose_with_other_settings` take them.
+pub fn clients_find_quiet()
+    ensures calls { DeedsAreCalls }
+    ensures steps { DeedsAreSteps }
+{}
+
+/// So the headline holds of what such clients ask, also among stations that start again with other settings: each accepted ask is performed at most once, and
+/// exactly once if it ended with a service answer.
+pub fn clients_are_right()
+    ensures { DeedsAreRight }
+{}
