@@ -1,7 +1,9 @@
 -- Why a start from a document and a database is refused.
-use Rattle.std.specs.Prelude.{◌≡◌, ◌≤◌, ◌⊎◌, false, ℕ, List, [], ◌∷◌, ⊤}
+use Rattle.std.specs.Prelude.{◌≡◌, ◌<◌, ◌≤◌, ◌⊎◌, false, true, ℕ, List, [], ◌∷◌, IfSome, ⊤}
 use Rattle.bac_value.specs.Views.{object_identifier_view}
+use Rattle.bac_value.specs.Value.{ObjectId}
 use Rattle.bac_store.specs.Stores.{Store}
+use Rattle.bac_store.specs.Writes.{listed_at}
 use Rattle.sqlite_value.specs.Order.{Row}
 use Rattle.sqlite_trees.specs.View.{View}
 use Rattle.sqlite_trees.specs.declared.store.Shape.TheVariants.{Table}
@@ -49,6 +51,10 @@ abbrev pub IsUnput : (failed : Type 0) → KeepFault → Type 0
 IsUnput failed (fault.Database e) = (e ≡ OutOfMemory) ⊎ failed
 IsUnput failed fault.NoMemory = ⊤
 IsUnput failed _ = ⊥
+
+-- a property that the network may write has a number that a place has room for
+abbrev pub HasRoom : Store → ObjectId → (number : ℕ) → Type 0
+HasRoom store id number = IfSome (listed_at store id number) (λ p. p.writable ≡ true → number < NUMBERS)
 
 -- why the values of the property with this number are not noted
 abbrev pub IsUnnotedValue : (number : ℕ) → (failed : Type 0) → KeepFault → Type 0
