@@ -1,7 +1,7 @@
 -- The node that goes on has an invoke ID and a slot for what is asked first.
 use Rattle.std.proofs.Common.{◌≡◌, ℕ, Bool, true, false, Option, Some, None, Result, Ok, Err, refl, sym, inl, inr, subst}
 use Rattle.std.specs.Prelude.{IfOk}
-use Rattle.bac_protocol.specs.Service.{Octets}
+use Rattle.bac_driver.specs.Nodes.{Octets}
 use Rattle.bac_text.specs.declared.status.Status.{Status}
 use Rattle.bac_driver.specs.Asking.{Question}
 use Rattle.bac_driver.specs.Moments.{Told, with_moment}

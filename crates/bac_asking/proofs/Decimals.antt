@@ -7,8 +7,8 @@ use Rattle.std.specs.List.{after_first, before_first}
 use Rattle.std.specs.Prelude.{MatchOption}
 use Rattle.std.specs.Char.{digit_value}
 use Rattle.std.specs.Str.Parse.{IsNumeral, digits_value, without_leading_plus}
-use Rattle.bac_lists.proofs.Numerals.{one_number}
-use Rattle.bac_lists.specs.Addresses.{IsCut, IsNoNumber, IsNumber, has_octet}
+use Rattle.bac_environment.proofs.Numerals.{one_number}
+use Rattle.bac_environment.specs.Addresses.{IsCut, IsNoNumber, IsNumber, has_octet}
 use Rattle.bac_asking.specs.Seconds.{AreDecimal, AreDigits, AreMilliseconds, AreNoSeconds, AreSeconds, AreWhole, GivesTime, is_point}
 
 -- ---- digits alone

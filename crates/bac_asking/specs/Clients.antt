@@ -1,6 +1,6 @@
 -- A client whose node has no invoke ID or no slot left, or has asked for 30 seconds, and the next node.
 use Rattle.std.specs.Prelude.{◌≡◌, ◌≢◌, ◌⊎◌, ℕ, Bool, true, false}
-use Rattle.bac_protocol.specs.Service.{Octets}
+use Rattle.bac_driver.specs.Nodes.{Octets}
 use Rattle.bac_driver.specs.Asking.{AskingEnds, Question}
 use Rattle.bac_driver.specs.Moments.{with_moment}
 use Rattle.bac_driver.specs.Runs.{Timed, timed}

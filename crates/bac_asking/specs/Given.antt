@@ -7,7 +7,7 @@ use Rattle.bac_commands.specs.declared.online.output_format.OutputFormat.{Output
 use Rattle.bac_commands.specs.declared.online.output_format.Style.{Style}
 use Rattle.bac_commands.specs.declared.online.output_format.Style.TheVariants as style
 use Rattle.bac_driver.specs.Udp.{LOCAL_HOST}
-use Rattle.bac_lists.specs.Addresses.{IsLink, IsRoute, link_of}
+use Rattle.bac_environment.specs.Addresses.{IsLink, IsRoute, link_of}
 use Rattle.bac_npdu.specs.Peers.{PeerView, RouteView}
 use Rattle.bac_environment.specs.Given.{IsFlag, IsNumber, words_text}
 use Rattle.bac_asking.specs.Seconds.{AreSeconds}

@@ -1,9 +1,7 @@
 -- What `ask` and `pair` print, and their statuses: over links that the machine bound to the address of the command, and beside a clock that it made,
 -- bac_commands' promise holds.
 use Rattle.std.specs.Prelude.{◌≡◌, ℕ, Bool, true, false, List, Option, Some}
-use Rattle.bac_protocol.specs.Service.{Octets}
-use Rattle.bac_transaction.specs.Given.{STRICTLY}
-use Rattle.bac_transaction.specs.declared.rules.Rules.{Rules}
+use Rattle.bac_driver.specs.Nodes.{Octets, STRICTLY, Rules}
 use Rattle.bac_driver.specs.Udp.{LOCAL_HOST}
 use Rattle.bac_text.specs.declared.status.Status.{Status}
 use Rattle.bac_driver.specs.Moments.{Told, with_moment}

@@ -9,16 +9,15 @@ ghost use Rattle.bac_asking.specs.Given.{AreRecordsOf, AreRoundsOf, IsGiven, IsL
 ghost use Rattle.bac_asking.specs.Rounds.{next_from};
 ghost use Rattle.bac_environment.specs.Limits.{turns_of};
 
-use crate::client_sockets::ClientSockets;
 use crate::recording::RecordForm;
 use crate::seconds::{bad_pace, read_seconds};
 use crate::timeout::{bad_timeout, timeout_of};
 use bac_ask_report::CellText;
 use bac_commands::{OutputFormat, Style};
 use bac_driver::WaitLimit;
-use bac_environment::{flag_of, number_of};
-use bac_lists::{
-    EVERY_HOST, LOCAL_HOST, LineQuestion, have_names, host_towards, link_at, read_link, read_route,
+use bac_environment::{
+    ClientSockets, EVERY_HOST, LOCAL_HOST, LineQuestion, flag_of, have_names, host_towards,
+    link_at, number_of, read_link, read_route,
 };
 use bac_npdu::{LinkAddress, Peer, Route};
 use clap::ArgMatches;

@@ -2,7 +2,7 @@
 ghost use Rattle.std.specs.Prelude.{◌≡◌, ◌≢◌, ◌-◌, false, max, nat_le, IfErr, IfOk, IfSome};
 ghost use Rattle.bac_driver.specs.Runs.{timed};
 ghost use Rattle.bac_driver.specs.Views.{question_view};
-ghost use Rattle.bac_lists.specs.QuestionLines.{no_line};
+ghost use Rattle.bac_environment.specs.QuestionLines.{no_line};
 ghost use Rattle.bac_text.specs.Statuses.{IsFailure};
 ghost use Rattle.bac_asking.specs.Clients.{IsRenewed};
 ghost use Rattle.bac_asking.specs.Online.{HasLooked, IsClient, LooksOnce};
@@ -10,15 +10,12 @@ ghost use Rattle.bac_asking.specs.Recording.{PrintsAsk};
 ghost use Rattle.bac_environment.specs.Sockets.{OnClock, OnPort};
 
 use crate::asking::Asking;
-use crate::client_sockets::{ClientSockets, NoPair};
 use crate::pace::print_overdue;
 use crate::past_ports::PastPorts;
 use crate::recording::{Printer, Stamp, print_ask};
 use bac_commands::{bound_client, clock_unread, link_fault};
 use bac_driver::{AskEnd, BoundNode, Clock, Question};
-use bac_environment::{Station, print_no_link};
-use bac_guard::Guard;
-use bac_lists::NO_LINE;
+use bac_environment::{ClientSockets, Guard, NO_LINE, NoPair, Station, print_no_link};
 use bac_npdu::LinkAddress;
 use bac_pairs::ClientPair;
 use bac_text::{Status, no_memory};

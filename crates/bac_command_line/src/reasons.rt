@@ -3,9 +3,9 @@ ghost use Rattle.std.specs.Prelude.{◌≡◌};
 ghost use Rattle.bac_text.specs.declared.status.Status.TheVariants as status;
 
 use bac_asking::{bad_pace, bad_timeout, print_bad_pace, print_bad_timeout};
+use bac_environment::{EVERY_HOST, is_of_node, read_end, read_host, read_link, read_route};
 use bac_forms::FORM_NAMES;
 use bac_guard::SourcesFault;
-use bac_lists::{EVERY_HOST, is_of_node, read_end, read_host, read_link, read_route};
 use bac_reading::{MOST_SLOWER, read_slower};
 use bac_serving::{bad_peers, read_memory, remembers_in_vain};
 use bac_text::{Status, complain};

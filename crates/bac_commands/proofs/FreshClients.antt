@@ -12,7 +12,7 @@ use Rattle.bac_service.specs.Values.{Request, choice_of}
 use Rattle.bac_transaction.specs.Ends.{Accepted, AskOutcome, AskRefusal, ClientEnd, accepts, asks_by_way, asks_for, asks_with_id, free_id, is_id_taken, least_not}
 use Rattle.bac_requester.specs.declared.ask_fault.AskFault.{AskFault}
 use Rattle.bac_requester.specs.declared.ask_fault.AskFault.TheVariants as fault
-use Rattle.bac_world.specs.Node.{Node, NodeRefuses, Refusal}
+use Rattle.bac_driver.specs.Nodes.{Node, NodeRefuses, Refusal}
 use Rattle.bac_driver.specs.Asking.{IsRefused, Question}
 use Rattle.bac_driver.specs.Runs.{Timed}
 use Rattle.bac_commands.specs.Houses.{client_node}

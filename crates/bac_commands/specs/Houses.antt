@@ -4,8 +4,7 @@ use Rattle.bac_apdu.specs.Apdu.{Limits}
 use Rattle.bac_protocol.specs.Service.{Octets}
 use Rattle.bac_store.specs.House.{house}
 use Rattle.bac_store.specs.Stores.{Store}
-use Rattle.bac_node.specs.Fresh.{with_first_id}
-use Rattle.bac_world.specs.Node.{Node, begun_again, restarted}
+use Rattle.bac_driver.specs.Nodes.{with_first_id, Node, begun_again, restarted}
 
 -- APDUs of 1,476 octets (code 5 of clause 20.1.2.5), and any number of segments (code 7 of clause 20.1.2.4)
 abbrev pub most_limits : Limits

@@ -3,8 +3,8 @@ use Rattle.std.proofs.Common.{◌≡◌, ◌∙◌, ℕ, ◌<◌, ◌^◌, ◌*�
 use Rattle.std.specs.Prelude.{MatchOption, SomeIff}
 use Rattle.std.specs.Char.{digit_value}
 use Rattle.std.specs.Str.Parse.{AllDigits, IsNumeral, without_leading_plus}
-use Rattle.bac_lists.proofs.Numerals.{decimal_is_number, one_number}
-use Rattle.bac_lists.specs.Addresses.{IsNoNumber, IsNumber}
+use Rattle.bac_environment.proofs.Numerals.{decimal_is_number, one_number}
+use Rattle.bac_environment.specs.Addresses.{IsNoNumber, IsNumber}
 use Rattle.std.proofs.lemmas.List.{append-nil}
 use Rattle.bac_environment.specs.Times.{IsCutAtUnit, IsNoTime, IsTime, TimeUnit, Own, Milliseconds, Seconds, Minutes, unit_length, unit_text}
 

@@ -10,7 +10,7 @@ use Rattle.bac_driver.specs.Asking.{Question}
 use Rattle.bac_driver.specs.Runs.{Timed}
 use Rattle.bac_driver.specs.declared.question.AskEnd.{AskEnd}
 use Rattle.bac_commands.specs.Questions.{question_for}
-use Rattle.bac_lists.specs.declared.question_lines.LineQuestion.{LineQuestion}
+use Rattle.bac_environment.specs.declared.question_lines.LineQuestion.{LineQuestion}
 use Rattle.bac_point_report.specs.Listing.{AreObjectsOf, IsNoNumberOf, IsNumberOf, IsStep}
 use Rattle.bac_point_report.specs.Outcomes.{has_values, is_silent}
 use Rattle.bac_point_report.specs.Points.{is_absent, point_references}

@@ -9,7 +9,7 @@ use Rattle.bac_driver.specs.Runs.{Timed}
 use Rattle.bac_driver.specs.Views.{question_view}
 use Rattle.bac_driver.specs.declared.question.AskEnd.{AskEnd}
 use Rattle.bac_commands.specs.Questions.{question_for, question_of}
-use Rattle.bac_lists.specs.declared.question_lines.LineQuestion.{LineQuestion}
+use Rattle.bac_environment.specs.declared.question_lines.LineQuestion.{LineQuestion}
 use Rattle.bac_point_report.specs.Outcomes.{has_values, values_of}
 use Rattle.bac_point_report.specs.Lines.{value_line}
 use Rattle.bac_point_report.specs.Shown.{IsShown}

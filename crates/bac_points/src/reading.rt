@@ -13,9 +13,9 @@ use crate::performing::Desk;
 use crate::questions::{WINDOW, lines_in};
 use crate::silence::tell_next;
 use bac_ask_report::Outcome;
-use bac_asking::{Client, ClientSockets, gather, outcome_of, print_header};
+use bac_asking::{Client, gather, outcome_of, print_header};
 use bac_driver::AskEnd;
-use bac_lists::LineQuestion;
+use bac_environment::{ClientSockets, LineQuestion};
 use bac_point_report::{
     failure_lines, has_values, is_silent, shown, targets_in, value_line, values_of,
 };

@@ -1,8 +1,8 @@
 //! What the arguments of `read`, `write` and `points` ask for.
 
-use bac_asking::{Asking, ClientSockets, asking_of, peer_of};
+use bac_asking::{Asking, asking_of, peer_of};
 use bac_commands::{OutputFormat, Style};
-use bac_lists::BACNET_PORT;
+use bac_environment::{BACNET_PORT, ClientSockets};
 use bac_npdu::Peer;
 use bac_service::Priority;
 use bac_value::ObjectIdentifier;

@@ -20,8 +20,9 @@ use crate::performing::Desk;
 use crate::questions::{question_by, question_for};
 use crate::silence::{tell_next, tell_no_null};
 use crate::task::Writing;
-use bac_asking::{Client, ClientSockets, ask_on, outcome_of};
+use bac_asking::{Client, ask_on, outcome_of};
 use bac_driver::{AskEnd, Question};
+use bac_environment::ClientSockets;
 use bac_point_report::{
     Target, failure_lines, is_done, kind_in, kind_named, shown, value_line, values_of,
     written_values,

@@ -1,12 +1,11 @@
 //! The node of each command, on its link.
 ghost use Rattle.std.specs.Prelude.{◌≡◌, false, IfOk, IsErrOf, Some};
 ghost use Rattle.bac_transaction.specs.Given.{STRICTLY};
-ghost use Rattle.bac_node.specs.Fresh.{large_slots_fit};
+ghost use Rattle.bac_driver.specs.Nodes.{large_slots_fit};
 ghost use Rattle.bac_commands.specs.Houses.{client_node, house_node, server_node};
 
 use crate::fresh_node::{asking_node, node_with, server_node};
-use bac_driver::{BoundNode, Link};
-use bac_node::{MEMORY, NewNodeFault};
+use bac_driver::{BoundNode, Link, MEMORY, NewNodeFault};
 use bac_npdu::LinkAddress;
 use bac_store::{Store, house};
 use bac_transaction::Rules;

@@ -1,6 +1,6 @@
 -- The node is on a link that was bound, and that is another one than the node that asks now has. It begins at the moment of the clock.
 use Rattle.std.proofs.Common.{◌≢◌, ℕ, IfSome, List, sym, ap, subst}
-use Rattle.bac_world.specs.Node.{Node}
+use Rattle.bac_driver.specs.Nodes.{Node}
 use Rattle.bac_asking.proofs.client.new_node.Goals as goal
 
 pub returns-clause-node : goal.returns-clause-node

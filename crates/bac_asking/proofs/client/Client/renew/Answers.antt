@@ -2,7 +2,7 @@
 use Rattle.std.proofs.Common.{refl, sym, ap, subst, ◌∙◌}
 use Rattle.bac_driver.specs.BoundNodes.{BoundNode}
 use Rattle.bac_driver.specs.Runs.{timed}
-use Rattle.bac_world.specs.Node.{Node}
+use Rattle.bac_driver.specs.Nodes.{Node}
 use Rattle.bac_asking.specs.Clients.{IsRenewed}
 use Rattle.bac_environment.specs.Sockets.{OnPort}
 use Rattle.bac_asking.proofs.client.Client.renew.Goals as goal
