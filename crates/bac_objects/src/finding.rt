@@ -84,26 +84,9 @@ impl Finding {
 impl fmt::Display for Wrong {
     fn fmt<W: fmt::Write>(&self, f: &mut fmt::Formatter<W>) -> fmt::Result {
         match self {
-            Wrong::UnknownKey { key, .. } if key.as_str() == "described" => {
-                f.write_str("described = true must come before the first table")
+            Wrong::UnknownKey { key, near, example } => {
+                write_unknown_key(f, key, *near, *example)
             }
-            Wrong::UnknownKey {
-                key,
-                near: Some(near),
-                ..
-            } if key.as_str() == *near => {
-                write!(f, "key \"{key}\" requires described = true at the top")
-            }
-            Wrong::UnknownKey {
-                key,
-                near: Some(near),
-                ..
-            } => write!(f, "unknown key \"{key}\"; did you mean {near}?"),
-            Wrong::UnknownKey {
-                key,
-                near: None,
-                example,
-            } => write_unknown_key(f, key, *example),
             Wrong::Value {
                 wanted,
                 found,
@@ -142,16 +125,23 @@ fn write_same_name<W: fmt::Write>(
     }
 }
 
-/// Prints a key that has no meaning there, and an example of what has, where there is one.
+/// Prints a key that has no meaning there, and the one that is like it, or an example of what has a meaning, where there is one.
 fn write_unknown_key<W: fmt::Write>(
     f: &mut fmt::Formatter<W>,
     key: &str,
+    near: Option<&str>,
     example: Option<&str>,
 ) -> fmt::Result {
-    write!(f, "unknown key \"{key}\"")?;
-    match example {
-        Some(example) => write!(f, "; write {example}"),
-        None => Ok(()),
+    if key == "described" {
+        return f.write_str("described = true must come before the first table");
+    }
+    match (near, example) {
+        (Some(near), _) if near == key => {
+            write!(f, "key \"{key}\" requires described = true at the top")
+        }
+        (Some(near), _) => write!(f, "unknown key \"{key}\"; did you mean {near}?"),
+        (None, Some(example)) => write!(f, "unknown key \"{key}\"; write {example}"),
+        (None, None) => write!(f, "unknown key \"{key}\""),
     }
 }
 
