@@ -9,17 +9,21 @@ use Rattle.bac_environment.specs.Files.{OfFile}
 abbrev pub local_end : (host port : List ℕ) → List ℕ
 local_end host port = encode_upper host ++ codes ":" ++ encode_upper port ++ codes " "
 
+-- the octets of a link's host, from the last to the first, and those of its port (clause J.1.2)
+abbrev pub host_back : (link : List ℕ) → List ℕ
+host_back link = get_or link 3 0 ∷ get_or link 2 0 ∷ get_or link 1 0 ∷ get_or link 0 0 ∷ []
+
+abbrev pub port_octets : (link : List ℕ) → List ℕ
+port_octets link = get_or link 4 0 ∷ get_or link 5 0 ∷ []
+
 -- a text does not occur in another
-abbrev pub Lacks : (table text : List ℕ) → Type 0
-Lacks table text = (at : ℕ) → at ≤ length table → LacksTextAt text table at
+pub record Lacks (table text : List ℕ) : Type 0 where
+  pub nowhere : (at : ℕ) → at ≤ length table → LacksTextAt text table at
 
 -- no row is of a socket at that host and port, or at that port of every host
-abbrev pub IsUnheardIn : (table link : List ℕ) → Type 0
-IsUnheardIn table (a ∷ b ∷ c ∷ d ∷ port) = Lacks table (local_end (d ∷ c ∷ b ∷ a ∷ []) port) × Lacks table (local_end (0 ∷ 0 ∷ 0 ∷ 0 ∷ []) port)
-IsUnheardIn table [] = ⊥
-IsUnheardIn table (a ∷ []) = ⊥
-IsUnheardIn table (a ∷ b ∷ []) = ⊥
-IsUnheardIn table (a ∷ b ∷ c ∷ []) = ⊥
+pub record IsUnheardIn (table link : List ℕ) : Type 0 where
+  pub own : Lacks table (local_end (host_back link) (port_octets link))
+  pub every : Lacks table (local_end (0 ∷ 0 ∷ 0 ∷ 0 ∷ []) (port_octets link))
 
 -- it is so in the table of UDP over IPv4, where that is known
 abbrev pub IsUnlisted : (IsAt : (path : List ℕ) → (content : Option (List ℕ)) → Type 0) → (link : List ℕ) → Type 0

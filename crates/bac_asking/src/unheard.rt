@@ -1,8 +1,7 @@
 //! Nodes of this host at whose UDP port nothing listens.
 //!
 //! A client's socket is not connected to a node, so the system does not tell it that a port is closed. The table of sockets tells.
-ghost use Rattle.std.specs.Prelude.{◌≡◌, ⊤, true, get_or, IfOk, IfSome};
-ghost use Rattle.std.specs.Bool.{MatchBool};
+ghost use Rattle.std.specs.Prelude.{◌≡◌, true, get_or, IfOk, IfSome};
 ghost use Rattle.std.specs.String.{string_bytes};
 ghost use Rattle.bac_npdu.specs.Views.{peer_view};
 ghost use Rattle.bac_environment.specs.Files.{OfFile, OnFile};
@@ -32,30 +31,39 @@ fn local_end(alloc: Global, host: [u8; 4], port: [u8; 2]) -> Result<String, Allo
 {
     let host = hex::encode_upper(alloc, &host)?;
     let port = hex::encode_upper(alloc, &port)?;
-    format!(in alloc; "{host}:{port} ")
+    let text = format!(in alloc; "{host}:{port} ")?;
+    Ok(text)
 }
 
-/// Whether a text occurs in a table.
-fn has(table: &str, text: &str) -> bool
-    ensures { MatchBool result ⊤ (Lacks table.now text.now) }
+/// Whether a text does not occur in a table.
+fn lacks(table: &str, text: &str) -> bool
+    ensures { result ≡ true → Lacks table.now text.now }
 {
-    table.contains(text)
+    !table.contains(text)
+}
+
+/// Whether no row of a table has that local address; false where memory is refused.
+fn lacks_end(alloc: Global, table: &str, host: [u8; 4], port: [u8; 2]) -> bool
+    ensures { result ≡ true → Lacks table.now (local_end host port) }
+{
+    match local_end(alloc, host, port) {
+        Ok(end) => lacks(table, &end),
+        Err(_) => false,
+    }
 }
 
 /// Whether no row of a table is of a socket that hears a link: one at its host and port, or at its port of every host. False where it is no table.
 ///
 /// A row over IPv6 ends its local address with the octets of one over IPv4, or with zeros for every host.
-fn is_unheard_in(alloc: Global, table: &str, link: LinkAddress) -> Result<bool, AllocError>
-    ensures { IfOk result (λ unheard. unheard ≡ true → IsUnheardIn table.now link) }
+fn is_unheard_in(alloc: Global, table: &str, link: LinkAddress) -> bool
+    ensures { result ≡ true → IsUnheardIn table.now link }
 {
-    let [a, b, c, d, high, low] = link;
-    let port = [high, low];
-    let own = local_end(alloc, [d, c, b, a], port)?;
-    let every = local_end(alloc, [0, 0, 0, 0], port)?;
-    if !has(table, HEAD) || has(table, &own) || has(table, &every) {
-        return Ok(false);
+    if lacks(table, HEAD) {
+        return false;
     }
-    Ok(true)
+    let host = [link[3], link[2], link[1], link[0]];
+    let port = [link[4], link[5]];
+    lacks_end(alloc, table, host, port) && lacks_end(alloc, table, [0, 0, 0, 0], port)
 }
 
 /// The octets of an open file. None where it cannot be read.
@@ -78,7 +86,7 @@ fn is_unheard_by<F: Read + Drop>(alloc: Global, file: F, link: LinkAddress) -> b
         return false;
     };
     match std::str::from_utf8(&octets) {
-        Ok(table) => is_unheard_in(alloc, table, link).unwrap_or(false),
+        Ok(table) => is_unheard_in(alloc, table, link),
         Err(_) => false,
     }
 }

@@ -96,9 +96,10 @@ fn priority_in(given: &ArgMatches<'_>) -> Option<Option<Priority>> {
 
 /// How a node is asked. None if the time to wait is invalid.
 fn asking_in(given: &ArgMatches<'_>) -> Option<Asking> {
+    let asking = asking_of(given, false)?;
     Some(Asking {
         output_format: FORMAT,
-        ..asking_of(given, false)?
+        ..asking
     })
 }
 
