@@ -56,6 +56,10 @@ pub record HasFound (document : Store) (old : View) (store : Store) (new : View)
   pub noted : store_over document new.trees ≡ store
   pub found : store ≡ store_over document old.committed
 
+-- that, unless a wrong answer of the disk was taken as true
+abbrev pub FindsStore : Store → View → Store → View → Type 0
+FindsStore document old store new = IsClean new → HasFound document old store new
+
 -- these cells wait for a commit, in place of those that were there; the last commit is as it was
 pub record HasCells (old : View) (cells : Cells) (new : View) : Type 0 where
   pub ready : IsReady new

@@ -1,16 +1,15 @@
 //! A keeper over the table of a database.
-ghost use Rattle.std.specs.Prelude.{◌≡◌, ◌≤◌, IsTrue, IfErr, IfOk, OnOk};
+ghost use Rattle.std.specs.Prelude.{◌≡◌, IfErr, IfOk, OnOk};
 ghost use Rattle.sqlite_disk.specs.Disk.{MoreFaults};
-ghost use Rattle.sqlite_trees.specs.Tree.{Trees};
-ghost use Rattle.sqlite_trees.specs.View.{IsClean, doubt};
+ghost use Rattle.sqlite_trees.specs.View.{IsClean};
 ghost use Rattle.bac_store.specs.Stores.{Store as Overlaid};
 ghost use Rattle.bac_keep.specs.Causes.{IsUnnoted};
 ghost use Rattle.bac_keep.specs.Made.{made_view};
 ghost use Rattle.bac_keep.specs.Overlay.{overlay};
-ghost use Rattle.bac_keep_file.specs.Refused.{IsRefused, IsUnready};
+ghost use Rattle.bac_keep_file.specs.Refused.{IsUnready, RefusesStart};
 ghost use Rattle.bac_keep_file.specs.Rows.{cells_of};
 ghost use Rattle.bac_keep_file.specs.Settling.{MayFind, settles};
-ghost use Rattle.bac_keep_file.specs.Steps.{CommitsNothing, HasFound, HasNoted, IsMadeOver, IsReady, IsReadyIfClean, NoMore, StaysCommitted};
+ghost use Rattle.bac_keep_file.specs.Steps.{CommitsNothing, FindsStore, HasNoted, IsMadeOver, IsReady, IsReadyIfClean, StaysCommitted};
 
 use crate::fault::keep_fault;
 use crate::noting::{note_octets, note_values};
@@ -107,10 +106,9 @@ fn found_store<S: Store>(
     document: &Objects,
 ) -> Result<Objects, KeepFault>
     ensures quiet { CommitsNothing S.view S.faults S.recovers database.old database.new }
-    ensures found { IfOk result (λ s. IsClean (S.view database.new) → HasFound document.now (S.view database.old) s (S.view database.new)) }
+    ensures found { IfOk result (λ s. FindsStore document.now (S.view database.old) s (S.view database.new)) }
     ensures committed { StaysCommitted (S.view database.old) (S.view database.new) }
-    ensures refused { IfErr result (λ e. IsClean (S.view database.new) → IsRefused document.now (S.view database.old) (S.view database.new)
-        (MoreFaults (S.faults database.old) (S.faults database.new)) e) }
+    ensures refused { IfErr result (RefusesStart S.view S.faults document.now database.old database.new) }
 {
     make_ready(database)?;
     let cells = read_cells(alloc, database)?;
@@ -130,19 +128,12 @@ impl<S: Store + Drop> CellKeeper<S> {
         document: Objects,
         mut database: S,
     ) -> Result<(CellKeeper<S>, Objects), (KeepFault, S)>
-        ensures honest { IfOk result (λ r. doubt (S.view database).is_clean ≤ doubt (S.view r.0.database).is_clean) }
-        ensures open { IfOk result (λ r. IsClean (S.view r.0.database) → IsReady (S.view r.0.database)) }
+        ensures quiet { IfOk result (λ r. CommitsNothing S.view S.faults S.recovers database r.0.database) }
         ensures document { IfOk result (λ r. r.0.document ≡ document) }
-        ensures kept { IfOk result (λ r. IsClean (S.view r.0.database) → overlay (cells_of (S.view r.0.database).committed) document ≡ r.1) }
-        ensures noted { IfOk result (λ r. IsClean (S.view r.0.database) → overlay (cells_of (S.view r.0.database).trees) document ≡ r.1) }
-        ensures found { IfOk result (λ r. IsClean (S.view r.0.database) → r.1 ≡ overlay (cells_of (S.view database).committed) document) }
-        ensures crash { IfOk result (λ r. NoMore S.recovers database r.0.database) }
-        ensures refused { IfErr result (λ e. IsClean (S.view e.1) → IsRefused document (S.view database) (S.view e.1)
-            (MoreFaults (S.faults database) (S.faults e.1)) e.0) }
-        ensures refused_honest { IfErr result (λ e. doubt (S.view database).is_clean ≤ doubt (S.view e.1).is_clean) }
-        ensures refused_kept { IfErr result (λ e. IsClean (S.view e.1) → IsTrue (S.view e.1).is_open
-            → (S.view e.1).committed ≡ (S.view database).committed) }
-        ensures refused_crash { IfErr result (λ e. NoMore S.recovers database e.1) }
+        ensures found { IfOk result (λ r. FindsStore document (S.view database) r.1 (S.view r.0.database)) }
+        ensures refused { IfErr result (λ e. RefusesStart S.view S.faults document database e.1 e.0) }
+        ensures refused_quiet { IfErr result (λ e. CommitsNothing S.view S.faults S.recovers database e.1) }
+        ensures refused_kept { IfErr result (λ e. StaysCommitted (S.view database) (S.view e.1)) }
     {
         match found_store(alloc, &mut database, &document) {
             Ok(store) => {
