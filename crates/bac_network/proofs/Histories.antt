@@ -6,7 +6,7 @@ use Rattle.bac_store.specs.Stores.{Store}
 use Rattle.bac_requester.specs.declared.ask_fault.AskFault.{AskFault}
 use Rattle.bac_world.specs.Once.{Fact, Stores, IsOnce, HasRequestsAlone}
 use Rattle.bac_world.specs.World.{World, Event, MakeNoStray, WorldStep, IsFresh, IsBounded, MakeRequestsAlone, link_at, stores_of}
-use Rattle.bac_world.proofs.Claims.{among_nodes, by_requests_alone, performed_once}
+use Rattle.bac_world.proofs.Claims.{among_nodes, by_requests_alone, ended_so, performed_once, permitted_so, replayed_so}
 use Rattle.bac_world.proofs.Quiet.{alone_after_step}
 use Rattle.bac_world.proofs.Headline.{apart_in_run, run_over_so, rules_of, rules_bounded, fresh_over, headline, headline_so}
 use Rattle.bac_world.proofs.Settings.{always}
@@ -29,7 +29,7 @@ use Rattle.bac_network.specs.declared.event.Event as code
 use Rattle.bac_network.specs.declared.fault.WorldFault.{WorldFault}
 use Rattle.bac_network.specs.declared.network.Network.{Network}
 use Rattle.bac_network.proofs.AsksAlone.{asks_alone, no_stranger_after, of_asks, requests_of}
-use Rattle.bac_network.proofs.ReusingClaims.{ended_so, permitted_so, replayed_so}
+use Rattle.bac_network.proofs.Happening.{by_rules}
 use Rattle.bac_network.proofs.Strictly.{step_strictly}
 
 -- Runs.
@@ -165,3 +165,13 @@ module _ (window overtake : ℕ) (opening : List Store) (reuses : List Bool) (m 
   -- where the world is the same
   pub kept_same : world_of n ≡ world_of m → IsKept window n.journal.links (view_of overtake opening reuses n)
   kept_same same = kept_more k.history.events (subst (WorldRunSo overtake (reuses_by reuses) k.history.first k.history.events) (sym same) k.history.run)
+
+-- after an event by the same rules
+pub kept_by_rules : (window overtake : ℕ) (opening : List Store) (same reuses : List Bool) (m n : Network) (t : Instant) (e : code.Event)
+    (result : Result (Option AskFault) WorldFault) → same ≡ reuses → n.journal.links ≡ m.journal.links
+    → IsKept window m.journal.links (view_of overtake opening reuses m)
+    → HappensTellingSo overtake (reuses_by same) (world_of m) (event_view t e) result (world_of n)
+    → IsKept window n.journal.links (view_of overtake opening reuses n)
+kept_by_rules window overtake opening same reuses m n t e result is links kept happens =
+    kept_after window overtake opening reuses m n links kept t e result
+    (by_rules overtake same reuses (world_of m) (world_of n) (event_view t e) result is happens)
