@@ -12,3 +12,4 @@ pub mod Gathered
 pub mod GivenPeers
 pub mod Decimals
 pub mod Waits
+pub mod Tables

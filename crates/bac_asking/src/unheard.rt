@@ -36,6 +36,7 @@ fn local_end(alloc: Global, host: [u8; 4], port: [u8; 2]) -> Result<String, Allo
 }
 
 /// Whether a text does not occur in a table.
+#[tactic(auto, using(crate::proofs::Tables::lacks_so))]
 fn lacks(table: &str, text: &str) -> bool
     ensures { result ≡ true → Lacks table.now text.now }
 {
@@ -43,6 +44,7 @@ fn lacks(table: &str, text: &str) -> bool
 }
 
 /// Whether no row of a table has that local address; false where memory is refused.
+#[tactic(auto, using(crate::proofs::Tables::lacks_same))]
 fn lacks_end(alloc: Global, table: &str, host: [u8; 4], port: [u8; 2]) -> bool
     ensures { result ≡ true → Lacks table.now (local_end host port) }
 {

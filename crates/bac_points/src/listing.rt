@@ -191,6 +191,7 @@ fn list_by_client<M: ClientSockets, O: Write, E: Write>(
 }
 
 /// Prints the objects of a device, by its instance: a table with a line for each. Answers whether the list came, and each property that the objects have.
+#[tactic(auto, using(crate::proofs::Hearing::unasked))]
 pub(crate) fn list<M: ClientSockets, O: Write, E: Write>(
     desk: &Desk<'_, M>,
     listing: Listing,

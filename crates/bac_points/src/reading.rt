@@ -169,6 +169,7 @@ fn read_by_client<M: ClientSockets, O: Write, E: Write>(
 }
 
 /// Reads the properties that words name, and prints their values. Answers whether each was answered with a value.
+#[tactic(auto, using(crate::proofs::Hearing::unasked))]
 pub(crate) fn read<M: ClientSockets, O: Write, E: Write>(
     desk: &Desk<'_, M>,
     words: &[&str],

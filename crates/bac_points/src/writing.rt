@@ -591,6 +591,7 @@ fn write_by_client<M: ClientSockets, O: Write, E: Write>(
 }
 
 /// Writes a property, and reads it back. Answers whether it was written.
+#[tactic(auto, using(crate::proofs::Hearing::unasked))]
 pub(crate) fn write<M: ClientSockets, O: Write, E: Write>(
     desk: &Desk<'_, M>,
     writing: Writing<'_, '_>,
