@@ -97,7 +97,7 @@ fn work_at<M: ClientSockets, O: Write, E: Write>(
     err: &mut E,
 ) -> Status
     ensures { IsWork (OnPort M.is_bound M.Link.failures M.Link.calls) (OnClock M.is_made M.Timer.told) desk.now.asking.now (peer_view desk.now.peer)
-        desk.now.is_unheard work result (O.contents out.old) (O.contents out.new) }
+        desk.now.is_unheard work.entry result (O.contents out.old) (O.contents out.new) }
 {
     let done = match work {
         PointWork::Read(words) => read(desk, words, out, err),
