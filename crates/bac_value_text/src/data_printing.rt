@@ -31,8 +31,8 @@ fn closing_text(alloc: Global, number: u8) -> Result<Vec<u8>, AllocError>
     Ok(text.into_bytes())
 }
 
-/// The text of an element that is no value: with a context tag `context N HEX`, with an opening or closing tag `opening N` or `closing N`.
-pub fn tagged_text(alloc: Global, element: Element<&[u8]>) -> Result<Vec<u8>, AllocError>
+/// The text of an element with a context tag.
+fn tagged_text(alloc: Global, element: Element<&[u8]>) -> Result<Vec<u8>, AllocError>
     ensures { IfOk result (λ t. t.items ≡ tagged_text element.entry.tag.form element.entry.tag.number element.entry.contents.now) }
 {
     match element.tag.form {
@@ -86,8 +86,7 @@ fn joined_behind(alloc: Global, first: &[u8], more: &[Vec<u8>]) -> Result<Vec<u8
     Ok(text)
 }
 
-/// The texts of elements, separated by a comma and a space; `no values` if there are none.
-pub fn joined_texts(alloc: Global, texts: &[Vec<u8>]) -> Result<Vec<u8>, AllocError>
+fn joined(alloc: Global, texts: &[Vec<u8>]) -> Result<Vec<u8>, AllocError>
     ensures { IfOk result (λ t. t.items ≡ joined_texts (map (λ u. u.items) texts.now)) }
 {
     match texts.split_first() {
@@ -102,5 +101,5 @@ pub fn data_text(alloc: Global, values: Data<'_>) -> Result<Vec<u8>, NoMemory>
     ensures { IfOk result (λ t. IsDataText values.entry.octets.now t.items) }
 {
     let texts = element_texts(alloc, values)?;
-    Ok(joined_texts(alloc, texts.as_slice())?)
+    Ok(joined(alloc, texts.as_slice())?)
 }

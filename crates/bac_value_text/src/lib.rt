@@ -29,7 +29,7 @@ mod value_reading;
 pub use abort_reasons::abort_reason_name;
 pub use body_printing::{object_text, property_text};
 pub use body_reading::{object_in, property_in};
-pub use data_printing::{data_text, joined_texts, tagged_text};
+pub use data_printing::data_text;
 pub use error_classes::error_class_name;
 pub use error_codes::error_code_name;
 pub use laws::printed_values_are_read;
