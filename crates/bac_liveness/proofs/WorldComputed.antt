@@ -40,22 +40,22 @@ EXPIRES = record { sends = []; performed = None; ended = record { ticket = 0; ho
 
 -- the world after the ask, at another time
 abbrev waiting : Time → (ℕ → Life) → World
-waiting time lives = record (SECOND) { time = time; lives = lives }
+waiting time lived = record (SECOND) { time = time; lives = lived }
 
 -- the ask has expired
 abbrev expired : Time → (ℕ → Life) → World
-expired time lives =
+expired time lived =
     record {
       nodes = ticked_node 60001 ∷ node 1 ∷ [];
       time = time;
-      lives = with_act lives 0;
+      lives = with_act lived 0;
       copies = SECOND.copies;
       log = Ended 0 Expired ∷ ASKED;
       notes = NOTES;
     }
 
-expires : (time : Time) (lives : ℕ → Life) → 60001 ≡ told (waiting time lives) 0 → Ticks (waiting time lives) 0 (expired time lives)
-expires time lives late = record {
+expires : (time : Time) (lived : ℕ → Life) → 60001 ≡ told (waiting time lived) 0 → Ticks (waiting time lived) 0 (expired time lived)
+expires time lived late = record {
   before = ASKED_NODE;
   at = refl;
   after = ticked_node 60001;
