@@ -26,12 +26,26 @@ use Rattle.bac_plant.proofs.Anew.{once_anew, once_ever_anew}
 use Rattle.bac_plant.proofs.Composed.{composed_in}
 use Rattle.bac_plant.proofs.Pauses.{GoesOn, asks_not, run_on, same_time, starts_not, starts_on, step_on, then_on}
 
+-- ---- tests
+
+le_of : (a b : ℕ) → nat_le a b ≡ true → a ≤ b
+le_of a b e = grind (arith, nat_tests)
+
+above_of : (a b : ℕ) → nat_le a b ≡ false → b < a
+above_of a b e = grind (arith, nat_tests)
+
+le_so : (a b : ℕ) → a ≤ b → nat_le a b ≡ true
+le_so a b l = grind (arith, nat_tests)
+
+same_of : (i j : ℕ) → nat_eq i j ≡ true → j ≡ i
+same_of i j e = grind (arith, nat_tests)
+
 -- ---- times
 
--- what is over in 165,007 ms, by clocks as fast or slow as any
+-- what is over in 165,080 ms, by clocks as fast or slow as any
 enough : (g s d u v w h l : ℕ) → 0 < g → s + d ≡ 1000000 → u * s ≤ 1000000 * (60000 * g + (g - 1)) → 1000000 * (60000 * g + (g - 1)) < u * s + s
     → v * (1000000 + d) ≤ 1000000 * (65000 * g + 1) - 1 → w * s ≤ 1000000 * (65000 * g + (g - 1)) → h * s ≤ 1000000 * (30000 * g + (g - 1)) → u + l ≤ v
-    → h + (u + 1 + l + w + l) ≤ 165007 * g
+    → h + (u + 1 + l + w + l) ≤ 165080 * g
 enough g s d u v w h l some whole low high keep kept asked keeps =
     let split : u * (s + d) ≡ u * s + u * d = mul-add u s d in
     let same : u * (s + d) ≡ u * 1000000 = ap (λ (n : ℕ). u * n) whole in
@@ -43,10 +57,10 @@ enough g s d u v w h l some whole low high keep kept asked keeps =
     let right : (13 * u + 13) * s ≡ 13 * u * s + 13 * s = add-mul (13 * u) 13 s in
     let inner : 13 * u * s ≡ 13 * (u * s) = mul_assoc 13 u s in
     let less : 12 * w < 13 * u + 13 = lt_of_mul-lt-mul_right s (omega (arith, some, left, right, inner, kept, high)) in
-    let half_left : 20000 * h * s ≡ 20000 * (h * s) = mul_assoc 20000 h s in
-    let half_right : (10001 * u + 10001) * s ≡ 10001 * u * s + 10001 * s = add-mul (10001 * u) 10001 s in
-    let half_inner : 10001 * u * s ≡ 10001 * (u * s) = mul_assoc 10001 u s in
-    let half : 20000 * h < 10001 * u + 10001 = lt_of_mul-lt-mul_right s (omega (arith, some, half_left, half_right, half_inner, asked, high)) in
+    let half_left : 800 * h * s ≡ 800 * (h * s) = mul_assoc 800 h s in
+    let half_right : (401 * u + 401) * s ≡ 401 * u * s + 401 * s = add-mul (401 * u) 401 s in
+    let half_inner : 401 * u * s ≡ 401 * (u * s) = mul_assoc 401 u s in
+    let half : 800 * h < 401 * u + 401 = lt_of_mul-lt-mul_right s (omega (arith, some, half_left, half_right, half_inner, asked, high)) in
     omega (arith, some, both, one, less, half, keeps)
 
 whole_millis : (g ms t : ℕ) → t ≡ 1 → g * t * (ms / t) ≡ ms * g
@@ -83,19 +97,18 @@ pauses_are_short p ticks t =
 pub days_are_long : DaysAreLong
 days_are_long grain day keeps one other far = before (nat_le one other) refl
   where
-    after : one ≤ other → (b : Bool) → nat_le other (one + 166000 * grain) ≡ b → one + 165008 * grain ≤ other
-    after l false e = let beyond : one + 166000 * grain < other = grind (arith, nat_tests) in omega (arith, beyond)
+    after : one ≤ other → (b : Bool) → nat_le other (one + 166000 * grain) ≡ b → one + 165088 * grain ≤ other
+    after l false e = let beyond = above_of other (one + 166000 * grain) e in omega (arith, beyond)
     after l true e =
-        let within : other ≤ one + 166000 * grain = grind (arith, nat_tests) in
-        let gains = keeps.gains one other l within in
+        let gains = keeps.gains one other l (le_of other (one + 166000 * grain) e) in
         let apart : grain * 165888000 ≤ grain * (day other - day one) = mul-le-mul_left grain (omega (arith, far)) in
         omega (arith, l, gains, apart)
 
-    before : (b : Bool) → nat_le one other ≡ b → one + 165008 * grain ≤ other
-    before true e = let l : one ≤ other = grind (arith, nat_tests) in after l (nat_le other (one + 166000 * grain)) refl
+    before : (b : Bool) → nat_le one other ≡ b → one + 165088 * grain ≤ other
+    before true e = after (le_of one other e) (nat_le other (one + 166000 * grain)) refl
     before false e =
-        let back : other ≤ one = grind (arith, nat_tests) in
-        let less = keeps.on other one back in
+        let back = above_of one other e in
+        let less = keeps.on other one (omega (arith, back)) in
         absurd (omega (arith, far, less))
 
 -- ---- what is known of the ports
@@ -146,32 +159,23 @@ module _ (hosts : Hosts) (pace : Pace) (timely : IsTimely pace) (keep : KeepTime
       calm clients old new (step_on overtake old step new s) (λ i. asks_not i overtake old step new s (none i)) known
 
   -- an ask
-  asked_early : (clients : List Client) (old new : Plant) → GoesOn old new → (j : ℕ) → old.time.pace ≡ pace
-      → new.lives ≡ with_ask old.time old.lives j → (i : ℕ) → j ≡ i → (at : Port) → IsAskedEarly hosts clients old at
-      → AsksSo hosts pace clients new i at
-  asked_early clients old new goes j paced lives i same at a =
-      let own : (with_ask old.time old.lives j i).sends_until ≡ old.time.now + most old.time.pace DEADLINE + 1 =
-      asks_now old j i same in
+  asked_early : (clients : List Client) (old new : Plant) (i j : ℕ) → old.time.pace ≡ pace → new.lives ≡ with_ask old.time old.lives j → nat_eq i j ≡ true
+      → (at : Port) → IsAskedEarly hosts clients old at → AsksSo hosts pace clients new i at
+  asked_early clients old new i j paced lives e at a =
       let is : (new.lives i).sends_until ≡ (with_ask old.time old.lives j i).sends_until = ap (λ (l : ℕ → Life). (l i).sends_until) lives in
+      let here : (with_ask old.time old.lives j i).sends_until ≡ old.time.now + most old.time.pace DEADLINE + 1 =
+      ap (λ (b : Bool). (if b then record { active = true; sends_until = old.time.now + most old.time.pace DEADLINE + 1 } else old.lives i).sends_until) e in
       let pace_is : most old.time.pace DEADLINE ≡ most pace DEADLINE = ap (λ (q : Pace). most q DEADLINE) paced in
       let asking_is : most old.time.pace 30000 ≡ most pace 30000 = ap (λ (q : Pace). most q 30000) paced in
+      let soon = a.early.soon in
       inr (record {
         client = a.client;
         one_of = a.one_of;
         port = a.port;
         moment = a.early.moment;
         in_share = a.early.in_share;
-        until = let soon = a.early.soon in omega (arith, own, is, pace_is, asking_is, soon);
+        until = omega (arith, is, here, pace_is, asking_is, soon);
       })
-    where
-      asks_now : (p : Plant) (j i : ℕ) → j ≡ i → (with_ask p.time p.lives j i).sends_until ≡ p.time.now + most p.time.pace DEADLINE + 1
-      asks_now p j i e = go (nat_eq i j) refl
-        where
-          go : (b : Bool) → nat_eq i j ≡ b
-              → (if b then record { active = true; sends_until = p.time.now + most p.time.pace DEADLINE + 1 } else p.lives i).sends_until
-              ≡ p.time.now + most p.time.pace DEADLINE + 1
-          go true f = refl
-          go false f = absurd (grind (arith, nat_tests))
 
   asks_on : (overtake : ℕ) (clients : List Client) (old new : Plant) (j server : ℕ) (limits : Limits) (r : Request)
       → PlantStep overtake old (Begins j server limits r) new → IfSome (hosts.port_of j) (λ at. IsAskedEarly hosts clients old at)
@@ -187,11 +191,10 @@ module _ (hosts : Hosts) (pace : Pace) (timely : IsTimely pace) (keep : KeepTime
           go : (b : Bool) → nat_eq i j ≡ b → AsksSo hosts pace clients new i at
           go false e = still clients old new goes i at (asks_not i overtake old (Begins j server limits r) new s e) (known.asked i at is)
           go true e =
-              let same : j ≡ i = grind (arith, nat_tests) in
-              let there : hosts.port_of j ≡ Some at = ap (λ (k : ℕ). hosts.port_of k) same ∙ is in
+              let there : hosts.port_of j ≡ Some at = ap (λ (k : ℕ). hosts.port_of k) (same_of i j e) ∙ is in
               let early : IsAskedEarly hosts clients old at =
               subst (λ (o : Option Port). IfSome o (λ x. IsAskedEarly hosts clients old x)) there may in
-              asked_early clients old new goes j known.paced (ap (λ (p : Plant). p.lives) s.is) i same at early
+              asked_early clients old new i j known.paced (ap (λ (p : Plant). p.lives) s.is) e at early
 
   step_known : (overtake : ℕ) (clients : List Client) (old : Plant) (step : Step) (new : Plant) → PlantStep overtake old step new
       → MayAsk hosts clients old (Goes step) → IsKnown hosts pace clients old → IsKnown hosts pace clients new
@@ -220,12 +223,11 @@ module _ (hosts : Hosts) (pace : Pace) (timely : IsTimely pace) (keep : KeepTime
   quiet_when : (p : Plant) (i : ℕ) → p.time.pace ≡ pace → (p.lives i).sends_until + pace.life + most pace KEEP + pace.life ≤ p.time.now
       → is_quiet (world_of p) i ≡ true
   quiet_when p i paced over =
-      let all : (p.lives i).sends_until + p.time.pace.life + most p.time.pace KEEP + p.time.pace.life ≤ p.time.now =
-      subst (λ (q : Pace). (p.lives i).sends_until + q.life + most q KEEP + q.life ≤ p.time.now) (sym paced) over in
-      grind (arith, nat_tests)
+      le_so ((p.lives i).sends_until + p.time.pace.life + most p.time.pace KEEP + p.time.pace.life) p.time.now
+      (subst (λ (q : Pace). (p.lives i).sends_until + q.life + most q KEEP + q.life ≤ p.time.now) (sym paced) over)
 
   quiet_at : (p : Plant) (i moment : ℕ) → p.time.pace ≡ pace → (p.lives i).sends_until ≤ moment + most pace 30000 + most pace DEADLINE + 1
-      → moment + 165008 * pace.grain ≤ p.time.now → is_quiet (world_of p) i ≡ true
+      → moment + 165088 * pace.grain ≤ p.time.now → is_quiet (world_of p) i ≡ true
   quiet_at p i moment paced until long =
       let fits = pauses_are_short pace keep.ticks timely in quiet_when p i paced (omega (arith, fits, until, long))
 
@@ -242,7 +244,7 @@ module _ (hosts : Hosts) (pace : Pace) (timely : IsTimely pace) (keep : KeepTime
       let apart : share_end a.client.took + 165888000 ≤ c.took =
       comes_late here.key a.client.took c.took (s.in_turn a.client a.one_of (sym a.port)) (sym port) in
       let in_share = a.in_share in
-      let long : a.moment + 165008 * pace.grain ≤ p.time.now =
+      let long : a.moment + 165088 * pace.grain ≤ p.time.now =
       days_are_long pace.grain here.day (keep.days a.client.host) a.moment p.time.now (omega (arith, apart, past, day_is, in_share)) in
       quiet_at p station a.moment known.paced a.until long
 
@@ -285,9 +287,7 @@ known_first hosts p quiet =
     record {
       paced = refl;
       asked = λ i at is.
-          let over : is_quiet (world_of p) i ≡ true = quiet i at is in
-          let all : (p.lives i).sends_until + p.time.pace.life + most p.time.pace KEEP + p.time.pace.life ≤ p.time.now = grind (arith, nat_tests) in
-          inl all;
+          inl (le_of ((p.lives i).sends_until + p.time.pace.life + most p.time.pace KEEP + p.time.pace.life) p.time.now (quiet i at is));
     }
 
 pub deeds_are_calls : DeedsAreCalls

@@ -17,11 +17,11 @@ use Rattle.bac_plant.specs.Steps.Step.{Begins, StartsAgain}
 
 -- ---- hosts
 
--- The time of day, in microseconds, at the moments of real time, of which so many are a millisecond. It is not set back. In 166 seconds it gains at most 0.88
+-- The time of day, in microseconds, at the moments of real time, of which so many are a millisecond. It is not set back. In 166 seconds it gains at most 0.8
 -- seconds on real time, whether it runs fast or is set forward.
 pub record KeepsTime (grain : ℕ) (day : (moment : ℕ) → ℕ) : Type 0 where
   pub on : (one other : ℕ) → one ≤ other → day one ≤ day other
-  pub gains : (one other : ℕ) → one ≤ other → other ≤ one + 166000 * grain → grain * (day other - day one) ≤ 1000 * (other - one) + 880000 * grain
+  pub gains : (one other : ℕ) → one ≤ other → other ≤ one + 166000 * grain → grain * (day other - day one) ≤ 1000 * (other - one) + 800000 * grain
 
 -- what the programs of a host share: a key, and the time of day
 pub record Host : Type 0 where
@@ -120,14 +120,14 @@ AreQuiet hosts p = (station : ℕ) (at : Port) → hosts.port_of station ≡ Som
 
 -- ---- laws
 
--- 165.888 seconds by the time of day are 165.008 seconds at the least
+-- 165.888 seconds by the time of day are 165.088 seconds at the least
 abbrev pub DaysAreLong : Type 0
 DaysAreLong =
-    (grain : ℕ) (day : (moment : ℕ) → ℕ) → KeepsTime grain day → (one other : ℕ) → day one + 165888000 ≤ day other → one + 165008 * grain ≤ other
+    (grain : ℕ) (day : (moment : ℕ) → ℕ) → KeepsTime grain day → (one other : ℕ) → day one + 165888000 ≤ day other → one + 165088 * grain ≤ other
 
--- and what a client asks in the 30 seconds after its share is over 165.007 seconds after that at the latest
+-- and what a client asks in the 30 seconds after its share is over 165.08 seconds after that at the latest
 abbrev pub PausesAreShort : Type 0
-PausesAreShort = (p : Pace) → p.tick ≡ 1 → IsTimely p → most p 30000 + pause p ≤ 165007 * p.grain
+PausesAreShort = (p : Pace) → p.tick ≡ 1 → IsTimely p → most p 30000 + pause p ≤ 165080 * p.grain
 
 -- each client finds that all is over that was sent from its port before; so such deeds are calls as `calls_compose_with_other_settings` takes them
 abbrev pub DeedsAreCalls : Type 0

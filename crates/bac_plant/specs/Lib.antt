@@ -24,4 +24,3 @@ pub mod LongStretches
 pub mod Runs
 pub mod CutRuns
 pub mod Clients
-pub mod ClientsExample

@@ -1,6 +1,8 @@
 -- The node is on a link that was bound, and that is another one than the node that asks now has. It begins at the moment of the clock.
-use Rattle.std.proofs.Common.{◌≢◌, ℕ, IfSome, List, sym, ap, subst}
+use Rattle.std.proofs.Common.{◌≡◌, ◌≢◌, ℕ, IfSome, List, sym, ap, subst}
+use Rattle.bac_driver.specs.Moments.{Told}
 use Rattle.bac_driver.specs.Nodes.{Node}
+use Rattle.bac_commands.specs.Houses.{client_node}
 use Rattle.bac_asking.proofs.client.new_node.Goals as goal
 
 pub returns-clause-node : goal.returns-clause-node
@@ -14,7 +16,9 @@ returns-clause-node g c =
             at =
                 record {
                   address = bound.address;
-                  node = c.in-Ok-bound_client.ensures.node;
+                  node =
+                      subst (λ (m : ℕ). c.in-Ok-bound_client.bound_node.node ≡ client_node m bound.pair.first_id bound.address)
+                      (sym (ap (λ (t : Told). t.last) c.now-now.ensures.tells)) c.in-Ok-bound_client.ensures.node;
                   rules_are = c.in-Ok-bound_client.ensures.rules;
                   on =
                       record {
@@ -26,6 +30,9 @@ returns-clause-node g c =
                 };
           };
     }
+
+pub returns-clause-looked : goal.returns-clause-looked
+returns-clause-looked g c = record { moment = _; is = c.now-now.ensures.tells }
 
 pub returns-clause-apart : goal.returns-clause-apart
 returns-clause-apart g c =

@@ -1,5 +1,5 @@
--- The next node is at another link, beside the same clock.
-use Rattle.std.proofs.Common.{refl, sym, ap, subst, ◌∙◌}
+-- The next node is at another link, beside the same clock, and begins at a moment of that.
+use Rattle.std.proofs.Common.{sym, ap, subst, ◌∙◌}
 use Rattle.bac_driver.specs.BoundNodes.{BoundNode}
 use Rattle.bac_driver.specs.Runs.{timed}
 use Rattle.bac_driver.specs.Nodes.{Node}
@@ -13,10 +13,10 @@ returns-clause-renewed g c =
     subst
     (λ (b : BoundNode).
     IsRenewed (OnPort g.M.Sockets.is_bound g.M.Link.Link.failures g.M.Link.Link.calls) c.args.host (timed c.args.self.now.station.bound_node told)
-    (timed b told))
+    (timed b _))
     (sym c.replace.ensures.after)
     (record {
       client = c.in-Ok.ensures.node;
       apart = λ same. c.in-Ok.ensures.apart (same ∙ sym (c.link-own.ensures ∙ ap (λ (n : Node). n.link) c.node-node.ensures));
-      told = refl;
+      told = c.in-Ok.ensures.looked;
     })

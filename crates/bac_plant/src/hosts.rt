@@ -2,7 +2,7 @@
 
 ghost use Rattle.bac_plant.specs.Clients.{DaysAreLong, DeedsAreCalls, DeedsAreRight, DeedsAreSteps, PausesAreShort};
 
-/// A time of day is not set back, and gains at most 0.88 seconds in 166 seconds. While 165.888 seconds pass by it, 165.008 seconds pass at least. All is over by
+/// A time of day is not set back, and gains at most 0.8 seconds in 166 seconds. While 165.888 seconds pass by it, 165.088 seconds pass at least. All is over by
 /// then that a client sent which began asks until 30,000 ms after its share of time, by its own clock, whatever the pace of clocks is.
 pub fn days_are_long()
     ensures days { DaysAreLong }

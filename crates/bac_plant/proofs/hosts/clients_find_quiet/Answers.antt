@@ -1,6 +1,6 @@
 -- By what is known of the ports after each deed.
 use Rattle.bac_plant.proofs.Clients.{deeds_are_calls, deeds_are_steps}
-use Rattle.bac_plant.proofs.clients.clients_find_quiet.Goals as goal
+use Rattle.bac_plant.proofs.hosts.clients_find_quiet.Goals as goal
 
 pub returns-clause-calls : goal.returns-clause-calls
 returns-clause-calls c = deeds_are_calls

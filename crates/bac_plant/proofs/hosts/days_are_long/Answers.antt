@@ -1,6 +1,6 @@
 -- By how much the time of day gains.
 use Rattle.bac_plant.proofs.Clients.{days_are_long, pauses_are_short}
-use Rattle.bac_plant.proofs.clients.days_are_long.Goals as goal
+use Rattle.bac_plant.proofs.hosts.days_are_long.Goals as goal
 
 pub returns-clause-days : goal.returns-clause-days
 returns-clause-days c = days_are_long
