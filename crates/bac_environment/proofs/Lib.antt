@@ -6,5 +6,5 @@ pub mod LineWords
 mod LineNames
 pub mod Lists
 pub mod Statuses
-pub mod Numbers
+pub mod DecimalNumbers
 pub mod TimeUnits
