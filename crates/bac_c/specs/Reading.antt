@@ -84,12 +84,6 @@ pub record IsValuesFault {X : Type 0} (r : service.Reference) (s : Store) (resul
   pub memory : IsErrOf result fault.NoMemory → OfValues (λ octets. 1 ≤ length octets) r s
   pub others : IsStoreFault result
 
--- what it says of a file that a store has
-pub record IsFileFault {X : Type 0} (id : ObjectId) (s : Store) (result : Result X Fault) : Type 0 where
-  pub object : IsErrOf result fault.NoSuchObject ↔ LacksFile id s
-  pub memory : IsErrOf result fault.NoMemory → OfFile (λ octets. 1 ≤ length octets) id s
-  pub others : IsStoreFault result
-
 -- what it says of a device, where values are read
 pub record IsReadFault {X : Type 0} (r : Reference) (d : Device) (result : Result X Fault) : Type 0 where
   pub idle : IsErrOf result fault.NotStarted ↔ IsIdle d

@@ -1,10 +1,10 @@
 //! What the node's own store holds.
-ghost use Rattle.std.specs.Prelude.{◌≡◌, ◌≢◌, IfOk, IsTrue, OnErr};
+ghost use Rattle.std.specs.Prelude.{◌≡◌, ◌≢◌, ◌↔◌, ◌≤◌, length, IfOk, IsErrOf, IsTrue, OnErr};
 ghost use Rattle.bac_service.specs.Views.{property_reference_view};
 ghost use Rattle.bac_value.specs.Views.{object_identifier_view};
 ghost use Rattle.bac_c.specs.Devices.{Holds};
-ghost use Rattle.bac_c.specs.Reading.{Finds, FindsFile, OfFile, OfValues};
-ghost use Rattle.bac_c.specs.Reading.{IsFileFault, IsFileReadFault, IsFileReadStatus, IsReadFault, IsReadStatus, IsValuesFault};
+ghost use Rattle.bac_c.specs.Reading.{Finds, FindsFile, LacksFile, OfFile, OfValues};
+ghost use Rattle.bac_c.specs.Reading.{IsFileReadFault, IsFileReadStatus, IsReadFault, IsReadStatus, IsStoreFault, IsValuesFault};
 ghost use Rattle.bac_c.specs.Results.{IsCopied};
 ghost use Rattle.bac_c.specs.Statuses.{is_one_of, status_of, DONE, FILE_READING, READING};
 
@@ -54,7 +54,9 @@ fn file_out(
     out: &mut [u8],
 ) -> Result<usize, Fault>
     ensures read { IfOk result (λ len. OfFile (λ octets. IsCopied octets out.old len out.new) (object_identifier_view file) store.now) }
-    ensures fault { IsFileFault (object_identifier_view file) store.now result }
+    ensures object { IsErrOf result Fault.NoSuchObject ↔ LacksFile (object_identifier_view file) store.now }
+    ensures memory { IsErrOf result Fault.NoMemory → OfFile (λ octets. 1 ≤ length octets) (object_identifier_view file) store.now }
+    ensures others { IsStoreFault result }
     ensures kept { OnErr result (out.new ≡ out.old) }
     ensures few { IsTrue (is_one_of FILE_READING (status_of result)) }
 {
