@@ -1,5 +1,5 @@
 -- The two clients are computed.
-use Rattle.std.proofs.Common.{◌≡◌, ℕ, ◌+◌, ◌-◌, ◌*◌, ◌%◌, ◌<◌, ◌≤◌, List, [], ◌∷◌, Some, refl, sym, ap, ◌∙◌, inl, inr, arith}
+use Rattle.std.proofs.Common.{◌≡◌, ℕ, ◌+◌, ◌*◌, ◌%◌, ◌<◌, ◌≤◌, List, [], ◌∷◌, Some, refl, sym, ap, ◌∙◌, inl, inr, arith}
 use Rattle.bac_pairs.specs.Keys.{keyed, shuffled}
 use Rattle.bac_pairs.specs.Pairs.{port_at, port_by, share_at, share_end}
 use Rattle.bac_protocol.specs.Pace.{most}
