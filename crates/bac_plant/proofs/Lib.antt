@@ -23,6 +23,7 @@ pub mod Resting
 pub mod Answered
 pub mod Pauses
 pub mod Clients
+pub mod ClientsComputed
 pub mod Answers
 pub mod AnswersComputed
 pub mod AnswersLogs

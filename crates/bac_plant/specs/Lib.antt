@@ -24,3 +24,4 @@ pub mod LongStretches
 pub mod Runs
 pub mod CutRuns
 pub mod Clients
+pub mod ClientsExample

@@ -1,8 +1,7 @@
 -- The node is on a link that was bound, and that is another one than the node that asks now has. It begins at the moment of the clock.
-use Rattle.std.proofs.Common.{◌≡◌, ◌≢◌, ℕ, IfSome, List, sym, ap, subst}
-use Rattle.bac_driver.specs.Moments.{Told}
+use Rattle.std.proofs.Common.{◌≢◌, ℕ, IfSome, List, sym, ap, subst}
 use Rattle.bac_driver.specs.Nodes.{Node}
-use Rattle.bac_commands.specs.Houses.{client_node}
+use Rattle.bac_asking.proofs.Clients.{begun_last}
 use Rattle.bac_asking.proofs.client.new_node.Goals as goal
 
 pub returns-clause-node : goal.returns-clause-node
@@ -16,9 +15,7 @@ returns-clause-node g c =
             at =
                 record {
                   address = bound.address;
-                  node =
-                      subst (λ (m : ℕ). c.in-Ok-bound_client.bound_node.node ≡ client_node m bound.pair.first_id bound.address)
-                      (sym (ap (λ (t : Told). t.last) c.now-now.ensures.tells)) c.in-Ok-bound_client.ensures.node;
+                  node = begun_last _ _ _ _ _ _ c.now-now.ensures.tells c.in-Ok-bound_client.ensures.node;
                   rules_are = c.in-Ok-bound_client.ensures.rules;
                   on =
                       record {
