@@ -15,7 +15,7 @@ returns-clause-node g c =
             at =
                 record {
                   address = bound.address;
-                  node = begun_last _ _ _ _ _ _ c.now-now.ensures.tells c.in-Ok-bound_client.ensures.node;
+                  node = begun_last (g.M.Timer.Clock.told c.args.clock.now) _ _ _ _ _ c.now-now.ensures.tells c.in-Ok-bound_client.ensures.node;
                   rules_are = c.in-Ok-bound_client.ensures.rules;
                   on =
                       record {
