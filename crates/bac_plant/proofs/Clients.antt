@@ -12,18 +12,19 @@ use Rattle.bac_protocol.specs.declared.times.TheConstants.{DEADLINE, KEEP}
 use Rattle.bac_world.specs.ReusingLogs.{Reuses}
 use Rattle.bac_world.specs.World.{Life, is_quiet, with_ask}
 use Rattle.bac_plant.specs.Anew.{PlantRunIn, Stretch}
-use Rattle.bac_plant.specs.Clients.{AreDone, Client, DaysAreLong, Deed, DeedsAreCalls, DeedsAreRight, DeedsAreSteps, Hosts, IsAskedEarly, IsOneOf, KeepTime, MayAsk, PausesAreShort}
-use Rattle.bac_plant.specs.Clients.{AreQuiet, Port, StartsThere, day_in, move_of, port_taken}
+use Rattle.bac_plant.specs.Clients.{AreDone, BootsGoOn, Client, DaysAreLong, Deed, DeedsAreCalls, DeedsAreRight, DeedsAreSteps, IsAskedEarly, KeepTime, PausesAreShort}
+use Rattle.bac_plant.specs.Clients.{AsksSo, Host, Hosts, IsAsked, IsDone, IsDoneSo, IsKnown, IsOneOf, MayAsk, Port, QuietIsKnown, StartsThere, day_in, elsewhere}
+use Rattle.bac_plant.specs.Clients.{move_of, port_taken, with_client, with_clients, with_host}
 use Rattle.bac_plant.specs.Clients.Deed.{Does, StartsClient}
 use Rattle.bac_plant.specs.Composed.{AreCalled}
-use Rattle.bac_plant.specs.Moves.{AreCalledIn, IsReachedIn, Move, Moves}
+use Rattle.bac_plant.specs.Moves.{AreCalledIn, IsCalledIn, IsLeftSoIn, IsReachedIn, MayStart, Move, MoveRun, Moves}
 use Rattle.bac_plant.specs.Moves.Move.{Goes, StartsAnew}
 use Rattle.bac_plant.specs.Pauses.{asks}
 use Rattle.bac_plant.specs.Plants.{Plant, world_of}
 use Rattle.bac_plant.specs.Steps.{PlantStep, Step}
 use Rattle.bac_plant.specs.Steps.Step.{Begins, BeginsAway, Changes, FailsToReceive, Holds, Passes, Restarts, SendsHeld, Starts, StartsAgain, Takes}
 use Rattle.bac_plant.proofs.Anew.{once_anew, once_ever_anew}
-use Rattle.bac_plant.proofs.Composed.{composed_in}
+use Rattle.bac_plant.proofs.Composed.{moved}
 use Rattle.bac_plant.proofs.Pauses.{GoesOn, asks_not, run_on, same_time, starts_not, starts_on, step_on, then_on}
 
 -- ---- tests
@@ -112,23 +113,6 @@ days_are_long grain day keeps one other far = before (nat_le one other) refl
         absurd (omega (arith, far, less))
 
 -- ---- what is known of the ports
-
--- one of these clients began the latest ask from there, early, and sends for it no longer than a deadline lasts
-record IsAsked (hosts : Hosts) (pace : Pace) (clients : List Client) (p : Plant) (i : ℕ) (at : Port) : Type 0 where
-  client : Client
-  one_of : IsOneOf client clients
-  port : at ≡ port_taken hosts client
-  moment : ℕ
-  in_share : (hosts.host client.host).day moment ≤ share_end client.took
-  until : (p.lives i).sends_until ≤ moment + most pace 30000 + most pace DEADLINE + 1
-
--- or all is over there
-abbrev AsksSo : Hosts → Pace → List Client → Plant → (i : ℕ) → Port → Type 0
-AsksSo hosts pace clients p i at = ((p.lives i).sends_until + pace.life + most pace KEEP + pace.life ≤ p.time.now) ⊎ IsAsked hosts pace clients p i at
-
-record IsKnown (hosts : Hosts) (pace : Pace) (clients : List Client) (p : Plant) : Type 0 where
-  paced : p.time.pace ≡ pace
-  asked : (i : ℕ) (at : Port) → hosts.port_of i ≡ Some at → AsksSo hosts pace clients p i at
 
 module _ (hosts : Hosts) (pace : Pace) (timely : IsTimely pace) (keep : KeepTime hosts pace) where
   still : (clients : List Client) (old new : Plant) → GoesOn old new → (i : ℕ) (at : Port) → (new.lives i).sends_until ≤ (old.lives i).sends_until
@@ -270,20 +254,58 @@ module _ (hosts : Hosts) (pace : Pace) (timely : IsTimely pace) (keep : KeepTime
 
   -- ---- all of them
 
+  -- the call that a deed stands for
+  call_of : (overtake : ℕ) (clients : List Client) (p : Plant) → IsKnown hosts pace clients p → (deed : Deed) → IsDone hosts overtake clients p deed
+      → IsCalledIn overtake p (move_of deed)
+  call_of overtake clients p known (Does move) done = done.0
+  call_of overtake clients p known (StartsClient station exact first_id store c) done = record {
+    started = done.0;
+    quiet = quiet_after clients p station c known done.1 (known.asked station (port_taken hosts c) done.1.port);
+  }
+
+  left_so : (overtake : ℕ) (clients : List Client) (p : Plant) (known : IsKnown hosts pace clients p) (deed : Deed) (done : IsDone hosts overtake clients p deed)
+      (next : Plant) → IsLeftSoIn overtake p (move_of deed) (call_of overtake clients p known deed done) next → IsDoneSo hosts overtake clients p deed done next
+  unfolding call_of
+  left_so overtake clients p known (Does move) done next left = left
+  left_so overtake clients p known (StartsClient station exact first_id store c) done next left = left
+
+  deed_known : (overtake : ℕ) (clients : List Client) (p : Plant) (deed : Deed) → IsDone hosts overtake clients p deed → (next : Plant)
+      → Moves overtake p (move_of deed) next → IsKnown hosts pace clients p → IsKnown hosts pace (with_client deed clients) next
+  deed_known overtake clients p (Does move) done next goes known = move_known overtake clients p move next goes done.1 known
+  deed_known overtake clients p (StartsClient station exact first_id store c) done next goes known =
+      started overtake clients p station exact first_id store c next goes known
+
   called : (overtake : ℕ) (deeds : List Deed) (clients : List Client) (p : Plant) → IsKnown hosts pace clients p → AreDone hosts overtake clients deeds p
       → AreCalledIn overtake (map move_of deeds) p
   called overtake [] clients p known done = tt
-  called overtake (Does move ∷ later) clients p known done = (
-    done.0.0,
-    λ next goes. called overtake later clients next (move_known overtake clients p move next goes done.0.1 known) (done.1 next goes),
-  )
-  called overtake (StartsClient station exact first_id store c ∷ later) clients p known done = (
-    record { there = done.0.there; quiet = quiet_after clients p station c known done.0 (known.asked station (port_taken hosts c) done.0.port) },
-    λ next goes. called overtake later (c ∷ clients) next (started overtake clients p station exact first_id store c next goes known) (done.1 next goes),
+  called overtake (deed ∷ later) clients p known done = (
+    call_of overtake clients p known deed done.0,
+    λ next goes left.
+        called overtake later (with_client deed clients) next (deed_known overtake clients p deed done.0 next goes known)
+        (done.1 next goes (left_so overtake clients p known deed done.0 next left)),
   )
 
-known_first : (hosts : Hosts) (p : Plant) → AreQuiet hosts p → IsKnown hosts p.time.pace [] p
-known_first hosts p quiet =
+  -- a plant to which they lead
+  record Last (W overtake : ℕ) (ever : Reuses) (clients : List Client) (first p : Plant) (deeds : List Deed) : Type 0 where
+    last : Plant
+    run : MoveRun overtake p (map move_of deeds) last
+    reached : IsReachedIn W overtake ever first last
+    known : IsKnown hosts pace (with_clients deeds clients) last
+
+  done_all : (W overtake : ℕ) (ever : Reuses) (first : Plant) (deeds : List Deed) (clients : List Client) (p : Plant) → IsReachedIn W overtake ever first p
+      → MayStart W ever (map move_of deeds) → IsKnown hosts pace clients p → AreDone hosts overtake clients deeds p
+      → Last W overtake ever clients first p deeds
+  done_all W overtake ever first [] clients p r may known done = record { last = p; run = refl; reached = r; known = known }
+  done_all W overtake ever first (deed ∷ later) clients p r may known done =
+      let next =
+      moved W overtake ever first p r (move_of deed) (map move_of later) may (call_of overtake clients p known deed done.0) in
+      let rest =
+      done_all W overtake ever first later (with_client deed clients) next.0 next.3 next.4
+      (deed_known overtake clients p deed done.0 next.0 next.1 known) (done.1 next.0 next.1 (left_so overtake clients p known deed done.0 next.0 next.2)) in
+      record { last = rest.last; run = (next.0, next.1, rest.run); reached = rest.reached; known = rest.known }
+
+pub quiet_is_known : QuietIsKnown
+quiet_is_known hosts p quiet =
     record {
       paced = refl;
       asked = λ i at is.
@@ -291,16 +313,17 @@ known_first hosts p quiet =
     }
 
 pub deeds_are_calls : DeedsAreCalls
-deeds_are_calls hosts overtake p timely keep none deeds done =
-    called hosts p.time.pace timely keep overtake deeds [] p (known_first hosts p none) done
+deeds_are_calls hosts overtake clients p timely keep known deeds done =
+    called hosts p.time.pace timely keep overtake deeds clients p known done
 
 as_steps : (overtake : ℕ) (steps : List Step) (p : Plant) → AreCalledIn overtake (map Goes steps) p → AreCalled overtake steps p
 as_steps overtake [] p calls = tt
-as_steps overtake (step ∷ later) p calls = (calls.0, λ next goes. as_steps overtake later next (calls.1 next goes))
+as_steps overtake (step ∷ later) p calls = (calls.0, λ next goes left. as_steps overtake later next (calls.1 next goes left))
 
 pub deeds_are_steps : DeedsAreSteps
-deeds_are_steps hosts overtake p timely keep none deeds done steps are =
-    as_steps overtake steps p (subst (λ (moves : List Move). AreCalledIn overtake moves p) are (deeds_are_calls hosts overtake p timely keep none deeds done))
+deeds_are_steps hosts overtake clients p timely keep known deeds done steps are =
+    as_steps overtake steps p
+    (subst (λ (moves : List Move). AreCalledIn overtake moves p) are (deeds_are_calls hosts overtake clients p timely keep known deeds done))
 
 -- ---- after each run
 
@@ -317,13 +340,66 @@ reached_timely W overtake ever first p r =
     subst IsTimely (sym goes.pace) r.timely
 
 pub deeds_are_right : DeedsAreRight
-deeds_are_right hosts W overtake ever first p r keep none deeds may done =
-    let calls = deeds_are_calls hosts overtake p (reached_timely W overtake ever first p r) keep none deeds done in
-    let c = composed_in W overtake ever first p r (map move_of deeds) may calls in
+deeds_are_right hosts W overtake ever clients first p r keep known deeds may done =
+    let c =
+    done_all hosts p.time.pace (reached_timely W overtake ever first p r) keep W overtake ever first deeds clients p r may known done in
     record {
       last = c.last;
       run = c.run;
       reached = c.reached;
+      known = record { paced = refl; asked = subst (λ (q : Pace). Asked hosts (with_clients deeds clients) c.last q) (sym c.known.paced) c.known.asked };
       once = once_anew W overtake ever first c.last c.reached;
       once_without_reuse = λ never. once_ever_anew W overtake ever first c.last c.reached never;
     }
+  where
+    abbrev Asked : Hosts → List Client → Plant → Pace → Type 0
+    Asked hs cs last pace = (station : ℕ) (at : Port) → hs.port_of station ≡ Some at → AsksSo hs pace cs last station at
+
+-- ---- a boot
+
+module _ (hosts : Hosts) (number : ℕ) (host : Host) where
+  other_host : (h : ℕ) → nat_eq h number ≡ false → (with_host hosts number host).host h ≡ hosts.host h
+  other_host h e = ap (λ (b : Bool). if b then host else hosts.host h) e
+
+  stays_there : (c : Client) (clients : List Client) → nat_eq c.host number ≡ false → IsOneOf c clients → IsOneOf c (elsewhere number clients)
+  stays_there c [] e none = none
+  stays_there c (d ∷ clients) e one = go (nat_eq d.host number) refl one
+    where
+      go : (b : Bool) → nat_eq d.host number ≡ b → IsOneOf c (d ∷ clients) → IsOneOf c (if b then elsewhere number clients else d ∷ elsewhere number clients)
+      go true at (inl same) = absurd (let no : true ≡ false = sym at ∙ ap (λ (x : Client). nat_eq x.host number) (sym same) ∙ e in cc)
+      go true at (inr later) = stays_there c clients e later
+      go false at (inl same) = inl same
+      go false at (inr later) = inr (stays_there c clients e later)
+
+  asked_elsewhere : (clients : List Client) (p : Plant) (station : ℕ) (at : Port) → nat_eq at.host number ≡ false
+      → AsksSo hosts p.time.pace clients p station at → AsksSo (with_host hosts number host) p.time.pace (elsewhere number clients) p station at
+  asked_elsewhere clients p station at e (inl over) = inl over
+  asked_elsewhere clients p station at e (inr a) =
+      let off : nat_eq a.client.host number ≡ false = ap (λ (x : Port). nat_eq x.host number) (sym a.port) ∙ e in
+      let same : (with_host hosts number host).host a.client.host ≡ hosts.host a.client.host = other_host a.client.host off in
+      inr (record {
+        client = a.client;
+        one_of = stays_there a.client clients off a.one_of;
+        port = a.port ∙ ap (λ (h : Host). record { host = a.client.host; number = port_at h.key a.client.took }) (sym same);
+        moment = a.moment;
+        in_share = subst (λ (h : Host). h.day a.moment ≤ share_end a.client.took) (sym same) a.in_share;
+        until = a.until;
+      })
+
+  booted : (clients : List Client) (p : Plant) → IsKnown hosts p.time.pace clients p
+      → ((station : ℕ) (at : Port) → hosts.port_of station ≡ Some at → at.host ≡ number → is_quiet (world_of p) station ≡ true)
+      → IsKnown (with_host hosts number host) p.time.pace (elsewhere number clients) p
+  booted clients p known quiet = record { paced = refl; asked = asked }
+    where
+      asked : (station : ℕ) (at : Port) → hosts.port_of station ≡ Some at
+          → AsksSo (with_host hosts number host) p.time.pace (elsewhere number clients) p station at
+      asked station at is = go (nat_eq at.host number) refl
+        where
+          go : (b : Bool) → nat_eq at.host number ≡ b → AsksSo (with_host hosts number host) p.time.pace (elsewhere number clients) p station at
+          go true e =
+              inl (le_of ((p.lives station).sends_until + p.time.pace.life + most p.time.pace KEEP + p.time.pace.life) p.time.now
+              (quiet station at is (sym (same_of at.host number e))))
+          go false e = asked_elsewhere clients p station at e (known.asked station at is)
+
+pub boots_go_on : BootsGoOn
+boots_go_on hosts number host clients p known quiet = booted hosts number host clients p known quiet

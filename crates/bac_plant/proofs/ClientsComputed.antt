@@ -55,7 +55,6 @@ module _ (key : List ℕ) (port : ℕ) (is : port_at key 80000000 ≡ port) wher
         quiet = λ station at is. refl;
         starts =
             record {
-              there = record { before = _; at = refl };
               port = ap (λ (n : ℕ). Some (PORT n)) (sym is);
               past = omega arith;
               in_turn = λ other has. absurd has;
@@ -64,7 +63,6 @@ module _ (key : List ℕ) (port : ℕ) (is : port_at key 80000000 ≡ port) wher
         asks_no_more = no_more;
         starts_again =
             record {
-              there = record { before = _; at = refl };
               port = ap (λ (n : ℕ). Some (PORT n)) (sym is ∙ same_port key);
               past = omega arith;
               in_turn = λ other has same. in_turn other has;

@@ -32,7 +32,7 @@ ghost use Rattle.bac_plant.specs.Steps.{PlantRun, Step};
 
 use bac_driver::Observer;
 use bac_keep::Keeper;
-pub use hosts::{clients_are_right, clients_find_quiet, days_are_long};
+pub use hosts::{boots_go_on, clients_are_right, clients_find_quiet, days_are_long};
 pub use overtaking::{
     calls_compose_with_long_apdus, calls_go_on_with_long_apdus,
     long_apdus_need_no_bound_on_overtaking, long_apdus_need_no_bound_with_other_settings,
