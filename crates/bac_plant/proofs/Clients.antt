@@ -339,6 +339,9 @@ reached_timely W overtake ever first p r =
     let goes = then_on first led.middle p (run_on overtake led.steps first led.middle led.run) (stretches_on overtake led.stretches led.middle p led.later) in
     subst IsTimely (sym goes.pace) r.timely
 
+abbrev AreAsked : Hosts → List Client → Plant → Pace → Type 0
+AreAsked hosts clients p pace = (station : ℕ) (at : Port) → hosts.port_of station ≡ Some at → AsksSo hosts pace clients p station at
+
 pub deeds_are_right : DeedsAreRight
 deeds_are_right hosts W overtake ever clients first p r keep known deeds may done =
     let c =
@@ -347,13 +350,10 @@ deeds_are_right hosts W overtake ever clients first p r keep known deeds may don
       last = c.last;
       run = c.run;
       reached = c.reached;
-      known = record { paced = refl; asked = subst (λ (q : Pace). Asked hosts (with_clients deeds clients) c.last q) (sym c.known.paced) c.known.asked };
+      known = record { paced = refl; asked = subst (λ (pace : Pace). AreAsked hosts (with_clients deeds clients) c.last pace) (sym c.known.paced) c.known.asked };
       once = once_anew W overtake ever first c.last c.reached;
       once_without_reuse = λ never. once_ever_anew W overtake ever first c.last c.reached never;
     }
-  where
-    abbrev Asked : Hosts → List Client → Plant → Pace → Type 0
-    Asked hs cs last pace = (station : ℕ) (at : Port) → hs.port_of station ≡ Some at → AsksSo hs pace cs last station at
 
 -- ---- a boot
 
@@ -363,13 +363,14 @@ module _ (hosts : Hosts) (number : ℕ) (host : Host) where
 
   stays_there : (c : Client) (clients : List Client) → nat_eq c.host number ≡ false → IsOneOf c clients → IsOneOf c (elsewhere number clients)
   stays_there c [] e none = none
-  stays_there c (d ∷ clients) e one = go (nat_eq d.host number) refl one
+  stays_there c (d ∷ clients) e one = go (λ later. stays_there c clients e later) (nat_eq d.host number) refl one
     where
-      go : (b : Bool) → nat_eq d.host number ≡ b → IsOneOf c (d ∷ clients) → IsOneOf c (if b then elsewhere number clients else d ∷ elsewhere number clients)
-      go true at (inl same) = absurd (let no : true ≡ false = sym at ∙ ap (λ (x : Client). nat_eq x.host number) (sym same) ∙ e in cc)
-      go true at (inr later) = stays_there c clients e later
-      go false at (inl same) = inl same
-      go false at (inr later) = inr (stays_there c clients e later)
+      go : (IsOneOf c clients → IsOneOf c (elsewhere number clients)) → (b : Bool) → nat_eq d.host number ≡ b → IsOneOf c (d ∷ clients)
+          → IsOneOf c (if b then elsewhere number clients else d ∷ elsewhere number clients)
+      go stays true at (inl same) = absurd (let no : true ≡ false = sym at ∙ ap (λ (x : Client). nat_eq x.host number) (sym same) ∙ e in cc)
+      go stays true at (inr later) = stays later
+      go stays false at (inl same) = inl same
+      go stays false at (inr later) = inr (stays later)
 
   asked_elsewhere : (clients : List Client) (p : Plant) (station : ℕ) (at : Port) → nat_eq at.host number ≡ false
       → AsksSo hosts p.time.pace clients p station at → AsksSo (with_host hosts number host) p.time.pace (elsewhere number clients) p station at

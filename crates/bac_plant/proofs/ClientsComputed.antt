@@ -15,7 +15,7 @@ same_port key =
     same_rest : share_at 80000000 % 25921 ≡ share_at 245895000 % 25921
     same_rest = omega arith
 
-keeps_time : KeepsTime 1 (λ moment. moment * 1000)
+pub keeps_time : KeepsTime 1 (λ moment. moment * 1000)
 keeps_time = record { on = λ one other l. omega (arith, l); gains = λ one other l within. omega (arith, l) }
 
 module _ (key : List ℕ) (port : ℕ) (is : port_at key 80000000 ≡ port) where

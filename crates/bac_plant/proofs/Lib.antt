@@ -24,6 +24,7 @@ pub mod Answered
 pub mod Pauses
 pub mod Clients
 pub mod ClientsComputed
+pub mod ClientAsks
 pub mod Answers
 pub mod AnswersComputed
 pub mod AnswersLogs

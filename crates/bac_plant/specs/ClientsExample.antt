@@ -1,8 +1,17 @@
--- Two clients of a host at one port, and how early the second one may start: computed, whatever the host's key is, and so that port.
+-- Two clients of a host at one port, how early the second one may start, and what the first one does: computed, whatever the host's key is, and so that port.
 use Rattle.std.specs.Prelude.{ℕ, ◌*◌, List, [], ◌∷◌, Some, None, if◌then◌else◌, nat_eq}
-use Rattle.bac_plant.specs.Clients.{AreQuiet, Client, Hosts, IsAskedEarly, KeepTime, Port, StartsThere}
+use Rattle.bac_driver.specs.Turns.{Turn}
+use Rattle.bac_world.specs.AnsweredRun.{LIMITS}
+use Rattle.bac_world.specs.Examples.{REQUEST}
+use Rattle.bac_world.specs.World.{passes}
+use Rattle.bac_plant.specs.Clients.{AreDone, AreQuiet, Client, Deed, Hosts, IsAskedEarly, KeepTime, Port, StartsThere}
+use Rattle.bac_plant.specs.Clients.Deed.{Does, StartsClient}
 use Rattle.bac_plant.specs.Example.{OPENING}
-use Rattle.bac_plant.specs.Plants.{Plant}
+use Rattle.bac_plant.specs.Moves.{IsReachedIn}
+use Rattle.bac_plant.specs.Moves.Move.{Goes}
+use Rattle.bac_plant.specs.Network.Source.{Nowhere}
+use Rattle.bac_plant.specs.Plants.{Plant, settings_of}
+use Rattle.bac_plant.specs.Steps.Step.{Begins, Restarts, Takes}
 
 -- one that took its port 80 seconds after midnight, and one that took its own 165.895 seconds later
 abbrev pub ONE : Client
@@ -33,3 +42,20 @@ pub record TwoClients (key : List ℕ) (port : ℕ) : Type 0 where
   pub starts_again : StartsThere (HOSTS key port) (ONE ∷ []) (AT 245895) 0 OTHER
   -- 100 seconds after the first one started no client may, at whatever time of day it took a port
   pub too_early : (took : ℕ) → StartsThere (HOSTS key port) (ONE ∷ []) (AT 180000) 0 (record { host = 0; took = took }) → ⊥
+
+-- 80 seconds pass before anything happens
+abbrev pub LATER : Plant
+LATER = record OPENING { time = passes OPENING.time 80000 (λ station. 80000) }
+
+-- the first client starts, and asks station 1; that one restarts, and then takes a turn in which nothing comes
+abbrev pub DEEDS : (idle : Turn) → List Deed
+DEEDS idle =
+    StartsClient 0 0 0 None ONE ∷ Does (Goes (Begins 0 1 LIMITS REQUEST)) ∷ Does (Goes (Restarts 1 0 None)) ∷ Does (Goes (Takes 1 Nowhere idle)) ∷ []
+
+-- so nothing that the laws of clients suppose is empty
+pub record ClientAsks (key : List ℕ) (port : ℕ) : Type 0 where
+  pub reached : IsReachedIn 1 253 (settings_of OPENING) OPENING LATER
+  pub keep : KeepTime (HOSTS key port) LATER.time.pace
+  pub quiet : AreQuiet (HOSTS key port) LATER
+  pub idle : Turn
+  pub done : AreDone (HOSTS key port) 253 [] (DEEDS idle) LATER

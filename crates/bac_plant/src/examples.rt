@@ -2,7 +2,7 @@
 ghost use Rattle.bac_plant.specs.Example.{AnsweredRound, AnsweredTurns, CutRounds};
 ghost use Rattle.bac_pairs.specs.Pairs.{port_at};
 ghost use Rattle.bac_plant.specs.AnswersExamples.{AnsweredBySecond};
-ghost use Rattle.bac_plant.specs.ClientsExample.{TwoClients};
+ghost use Rattle.bac_plant.specs.ClientsExample.{ClientAsks, TwoClients};
 ghost use Rattle.std.specs.Prelude.{◌≡◌, ℕ, true, false, List};
 ghost use Rattle.bac_plant.specs.WritesExamples.{ActsFirstAlone, ActsThreeTimes, WriteOfStranger, WritesTwice};
 
@@ -56,4 +56,9 @@ pub fn write_of_stranger()
 /// one did. That holds whatever the host's key is.
 pub fn two_clients()
     ensures { (key : List ℕ) (port : ℕ) → port_at key 80000000 ≡ port → TwoClients key port }
+{}
+
+/// The first of them starts and asks a station. That one restarts, and takes a turn. What the laws of clients suppose is met.
+pub fn client_asks()
+    ensures { (key : List ℕ) (port : ℕ) → port_at key 80000000 ≡ port → ClientAsks key port }
 {}
