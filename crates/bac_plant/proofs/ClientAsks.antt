@@ -1,12 +1,14 @@
 -- What the first client does, and a restart of the station that it asks, are computed.
-use Rattle.std.proofs.Common.{◌≡◌, ℕ, List, [], ◌∷◌, map, Some, None, slice_get, slice_set, refl, sym, ap, subst, ◌∙◌, inl, arith}
-use Rattle.bac_pairs.specs.Pairs.{port_at, share_end}
+use Rattle.std.proofs.Common.{◌≡◌, ℕ, true, List, [], ◌∷◌, map, Some, None, slice_get, slice_set, refl, sym, ap, subst, ◌∙◌, inl, arith}
+use Rattle.bac_pairs.specs.Pairs.{port_at}
 use Rattle.bac_protocol.proofs.AtDrift.{lives}
 use Rattle.bac_protocol.specs.Pace.{Pace, clock_at, most, one_clock}
 use Rattle.bac_requester.specs.Timers.{LAST_MOMENT}
-use Rattle.bac_world.specs.AnsweredRun.{LIMITS, link, node}
+use Rattle.bac_transaction.specs.Given.{ANEW}
+use Rattle.bac_world.specs.AnsweredRun.{LIMITS, SETTINGS, link, node}
 use Rattle.bac_world.specs.Examples.{REQUEST}
 use Rattle.bac_world.specs.Node.{NodeAsks, restarted}
+use Rattle.bac_world.specs.Stretches.{with_settings}
 use Rattle.bac_world.specs.World.{link_at, peer_at}
 use Rattle.bac_world.proofs.Answered.{ACCEPTED, ASK, SERVICE_DATA, answered_run, apart, ask_fits, ask_short, datagram, sent, spelled}
 use Rattle.bac_driver.specs.Asking.{IsBegun}
@@ -14,13 +16,14 @@ use Rattle.bac_driver.specs.BoundNodes.{BoundNode}
 use Rattle.bac_driver.specs.Turns.{call_of, with_calls}
 use Rattle.bac_driver.specs.Waits.{IsDue}
 use Rattle.bac_plant.specs.Clients.{IsAskedEarly, StartsThere}
-use Rattle.bac_plant.specs.ClientsExample.{ClientAsks, HOSTS, LATER, ONE, PORT}
+use Rattle.bac_plant.specs.Anew.{RestartsAnewAt}
+use Rattle.bac_plant.specs.ClientsExample.{ClientAsks, EVER, HOSTS, LATER, ONE, PORT}
 use Rattle.bac_plant.specs.Composed.{AreKept, CallsForTurn, CallsToAsk, IsStarted, StandsAt, again, back}
 use Rattle.bac_plant.specs.Example.{OPENING, station}
-use Rattle.bac_plant.specs.Moves.{IsReachedIn}
+use Rattle.bac_plant.specs.Moves.{AreRulesOf, IsReachedIn}
 use Rattle.bac_plant.specs.Network.Source.{Nowhere}
-use Rattle.bac_plant.specs.Plants.{Plant, nodes_of, settings_of, shows}
-use Rattle.bac_plant.specs.Steps.{AsksAt, IsSomeTurn, RestartsAt, StartsAgainAt, question}
+use Rattle.bac_plant.specs.Plants.{Plant, RemembersInFull, nodes_of, shows}
+use Rattle.bac_plant.specs.Steps.{AsksAt, IsSomeTurn, RestartsAt, StartsAgainAt, TakesTurnAt, question}
 use Rattle.bac_plant.specs.Steps.Step.{Passes}
 use Rattle.bac_plant.proofs.ClientsComputed.{keeps_time}
 use Rattle.bac_plant.proofs.Resting.{IsCalm, after_none, rests_until, takes_none, turn_by_none}
@@ -37,6 +40,13 @@ ASKED = record CLIENT { node = record (CLIENT.node) { clients = ACCEPTED.end }; 
 -- the server after its restart
 abbrev SERVER : BoundNode
 SERVER = record (station 1) { node = restarted 0 (node 1).store (node 1) }
+
+-- the server after its turn, and after its start with other settings
+abbrev TURNED : BoundNode
+TURNED = after_none 0 SERVER
+
+abbrev ANOTHER : BoundNode
+ANOTHER = record TURNED { node = restarted 0 (node 1).store (with_settings SETTINGS TURNED.node); rules = ANEW }
 
 asks : NodeAsks 0 (peer_at (link 1)) LIMITS REQUEST CLIENT.node ASKED.node ACCEPTED (datagram (link 1) ASK ∷ [])
 asks = record {
@@ -60,11 +70,23 @@ begun = record {
   rules = refl;
 }
 
-server_due : IsDue SERVER.node None
-server_due = record { rests = rests_until LAST_MOMENT SERVER.node refl tt; moves = tt }
+server_turns : IsSomeTurn 0 SERVER (turn_by_none 0) TURNED
+server_turns = takes_none 0 SERVER refl None due calm
+  where
+    due : IsDue SERVER.node None
+    due = record { rests = rests_until LAST_MOMENT SERVER.node refl tt; moves = tt }
 
-server_calm : IsCalm 0 SERVER.node
-server_calm = record { sends = refl; ended = refl }
+    calm : IsCalm 0 SERVER.node
+    calm = record { sends = refl; ended = refl }
+
+another_turns : IsSomeTurn 0 ANOTHER (turn_by_none 0) (after_none 0 ANOTHER)
+another_turns = takes_none 0 ANOTHER refl None due calm
+  where
+    due : IsDue ANOTHER.node None
+    due = record { rests = rests_until LAST_MOMENT ANOTHER.node refl tt; moves = tt }
+
+    calm : IsCalm 0 ANOTHER.node
+    calm = record { sends = refl; ended = refl }
 
 -- ---- the calls, each in whatever plant the ones before it led to
 
@@ -81,6 +103,21 @@ call_to_ask p s stands =
       begun = subst (λ (now : ℕ). IsBegun now (question (peer_at (link 1)) LIMITS REQUEST) CLIENT 0 ASKED) (sym same) begun;
     }
 
+-- a turn of the server in which nothing comes, at the moment 0 of its clock
+call_for_turn : (p : Plant) (b : BoundNode) → StandsAt p 1 b → RemembersInFull b → shows p 1 ≡ 0 → IsSomeTurn 0 b (turn_by_none 0) (after_none 0 b)
+    → CallsForTurn 253 p 1 Nowhere (turn_by_none 0)
+call_for_turn p b stands full same turned = record {
+  before = b;
+  at = stands;
+  full = full;
+  after = after_none 0 b;
+  turned = subst (λ (now : ℕ). IsSomeTurn now b (turn_by_none 0) (after_none 0 b)) (sym same) turned;
+  came = refl;
+}
+
+zero_at : (p : Plant) → p.time.pace ≡ one_clock → (clock_at p.time.pace 0).shows ≡ 0
+zero_at p paced = ap (λ (pace : Pace). (clock_at pace 0).shows) paced
+
 module _ (p : Plant) (s : StartsAgainAt LATER 0 0 0 None p) (q : Plant) (a : AsksAt p 0 1 LIMITS REQUEST q) where
   same_pace : q.time.pace ≡ one_clock
   same_pace = ap (λ (r : Plant). r.time.pace) a.is ∙ ap (λ (r : Plant). r.time.pace) s.is
@@ -95,30 +132,37 @@ module _ (p : Plant) (s : StartsAgainAt LATER 0 0 0 None p) (q : Plant) (a : Ask
     before = station 1;
     at = server_there;
     after = SERVER;
-    node = ap (λ (pace : Pace). restarted (clock_at pace 0).shows (node 1).store (node 1)) (sym same_pace);
+    node = ap (λ (now : ℕ). restarted now (node 1).store (node 1)) (sym (zero_at q same_pace));
     rules = refl;
   }
 
-  call_for_turn : (r : Plant) → RestartsAt q 1 0 None r → StandsAt r 1 SERVER → CallsForTurn 253 r 1 Nowhere (turn_by_none 0)
-  call_for_turn r b stands =
-      let same : shows r 1 ≡ 0 = ap (λ (x : Plant). shows x 1) b.is ∙ ap (λ (pace : Pace). (clock_at pace 0).shows) same_pace in
-      record {
-        before = SERVER;
+  module _ (r : Plant) (b : RestartsAt q 1 0 None r) where
+    turn : StandsAt r 1 SERVER → CallsForTurn 253 r 1 Nowhere (turn_by_none 0)
+    turn stands = call_for_turn r SERVER stands tt (ap (λ (x : Plant). shows x 1) b.is ∙ zero_at q same_pace) server_turns
+
+    module _ (u : Plant) (t : TakesTurnAt 253 r 1 Nowhere (turn_by_none 0) u) where
+      same_later : u.time.pace ≡ one_clock
+      same_later = ap (λ (x : Plant). x.time.pace) t.happens.is ∙ ap (λ (x : Plant). x.time.pace) b.is ∙ same_pace
+
+      start : StandsAt u 1 TURNED → IsStarted u 1 (λ n. back u 0 None (with_settings SETTINGS n)) (AreRulesOf true)
+      start stands = record {
+        before = TURNED;
         at = stands;
-        full = tt;
-        after = after_none 0 SERVER;
-        turned =
-            subst (λ (now : ℕ). IsSomeTurn now SERVER (turn_by_none 0) (after_none 0 SERVER)) (sym same) (takes_none 0 SERVER refl None server_due server_calm);
-        came = refl;
+        after = ANOTHER;
+        node = ap (λ (now : ℕ). restarted now (node 1).store (with_settings SETTINGS TURNED.node)) (sym (zero_at u same_later));
+        rules = refl;
       }
 
-reached : IsReachedIn 1 253 (settings_of OPENING) OPENING LATER
+      last_turn : (v : Plant) → RestartsAnewAt u 1 0 None SETTINGS true v → StandsAt v 1 ANOTHER → CallsForTurn 253 v 1 Nowhere (turn_by_none 0)
+      last_turn v d stands = call_for_turn v ANOTHER stands tt (ap (λ (x : Plant). shows x 1) d.is ∙ zero_at u same_later) another_turns
+
+reached : IsReachedIn 1 253 EVER OPENING LATER
 reached = record {
   fresh = answered_run.fresh;
   timely = lives.today;
   bounded = answered_run.bounded;
   led = record {
-    among = λ i reuses. reuses;
+    among = λ i reuses. refl;
     steps = Passes 80000 (λ i. 80000) ∷ [];
     middle = LATER;
     run = record { middle = OPENING; so_far = refl; last = refl };
@@ -146,17 +190,24 @@ module _ (key : List ℕ) (port : ℕ) (is : port_at key 80000000 ≡ port) wher
       }
 
   pub client_asks : ClientAsks key port
-  unfolding most started call_to_ask restart
+  unfolding most started call_to_ask call_for_turn restart turn start
   client_asks = record {
     reached = reached;
     keep = record { ticks = refl; days = λ host. keeps_time };
     quiet = λ i at there. refl;
     idle = turn_by_none 0;
+    may = ((omega arith, λ reuses. refl), tt);
     done = (
       (started, starts),
       λ p s stands. (
         (call_to_ask p s stands, early p s),
-        λ q a asked. ((restart p s q a, tt), λ r b stands_so. ((call_for_turn p s q a r b stands_so, tt), λ last t left. tt)),
+        λ q a asked. (
+          (restart p s q a, tt),
+          λ r b again. (
+            (turn p s q a r b again, tt),
+            λ u t turned. ((start p s q a r b u t turned, tt), λ v d anew. ((last_turn p s q a r b u t v d anew, tt), λ last e left. tt)),
+          ),
+        ),
       ),
     );
   }

@@ -1,5 +1,5 @@
 -- Clients that start one after another find that all is over that was sent from their ports before.
-use Rattle.std.proofs.Common.{◌≡◌, ◌⊎◌, ℕ, ◌+◌, ◌-◌, ◌*◌, ◌/◌, ◌<◌, ◌≤◌, Bool, true, false, List, [], ◌∷◌, map, Option, Some, IfSome, if◌then◌else◌, nat_eq, nat_le, refl, sym, ap, subst, ◌∙◌, inl, inr, arith}
+use Rattle.std.proofs.Common.{◌≡◌, ℕ, ◌+◌, ◌-◌, ◌*◌, ◌/◌, ◌<◌, ◌≤◌, Bool, true, false, List, [], ◌∷◌, map, Option, Some, IfSome, if◌then◌else◌, nat_eq, nat_le, refl, sym, ap, subst, ◌∙◌, inl, inr, arith}
 use Rattle.std.proofs.lemmas.Bool.Decides.{nat_tests}
 use Rattle.std.proofs.Math.Nat.{add-mul, div-mul-le_self, div-one, lt-div-mul-add, lt_of_mul-lt-mul_right, mul-add, mul-le-mul_left, mul-le-mul_right, mul_assoc, mul_comm}
 use Rattle.bac_apdu.specs.Apdu.{Limits}
@@ -13,11 +13,11 @@ use Rattle.bac_world.specs.ReusingLogs.{Reuses}
 use Rattle.bac_world.specs.World.{Life, is_quiet, with_ask}
 use Rattle.bac_plant.specs.Anew.{PlantRunIn, Stretch}
 use Rattle.bac_plant.specs.Clients.{AreDone, BootsGoOn, Client, DaysAreLong, Deed, DeedsAreCalls, DeedsAreRight, DeedsAreSteps, IsAskedEarly, KeepTime, PausesAreShort}
-use Rattle.bac_plant.specs.Clients.{AsksSo, Host, Hosts, IsAsked, IsDone, IsDoneSo, IsKnown, IsOneOf, MayAsk, Port, QuietIsKnown, StartsThere, day_in, elsewhere}
+use Rattle.bac_plant.specs.Clients.{AsksSo, Host, Hosts, IsAsDone, IsDone, IsKnown, IsOneOf, MayAsk, Port, QuietIsKnown, StartsThere, day_in, elsewhere}
 use Rattle.bac_plant.specs.Clients.{move_of, port_taken, with_client, with_clients, with_host}
 use Rattle.bac_plant.specs.Clients.Deed.{Does, StartsClient}
 use Rattle.bac_plant.specs.Composed.{AreCalled}
-use Rattle.bac_plant.specs.Moves.{AreCalledIn, IsCalledIn, IsLeftSoIn, IsReachedIn, MayStart, Move, MoveRun, Moves}
+use Rattle.bac_plant.specs.Moves.{AreCalledIn, IsAsCalledIn, IsCalledIn, IsReachedIn, MayStart, Move, MoveRun, Moves}
 use Rattle.bac_plant.specs.Moves.Move.{Goes, StartsAnew}
 use Rattle.bac_plant.specs.Pauses.{asks}
 use Rattle.bac_plant.specs.Plants.{Plant, world_of}
@@ -263,11 +263,11 @@ module _ (hosts : Hosts) (pace : Pace) (timely : IsTimely pace) (keep : KeepTime
     quiet = quiet_after clients p station c known done.1 (known.asked station (port_taken hosts c) done.1.port);
   }
 
-  left_so : (overtake : ℕ) (clients : List Client) (p : Plant) (known : IsKnown hosts pace clients p) (deed : Deed) (done : IsDone hosts overtake clients p deed)
-      (next : Plant) → IsLeftSoIn overtake p (move_of deed) (call_of overtake clients p known deed done) next → IsDoneSo hosts overtake clients p deed done next
+  as_done : (overtake : ℕ) (clients : List Client) (p : Plant) (known : IsKnown hosts pace clients p) (deed : Deed) (done : IsDone hosts overtake clients p deed)
+      (next : Plant) → IsAsCalledIn overtake p (move_of deed) (call_of overtake clients p known deed done) next → IsAsDone hosts overtake clients p deed done next
   unfolding call_of
-  left_so overtake clients p known (Does move) done next left = left
-  left_so overtake clients p known (StartsClient station exact first_id store c) done next left = left
+  as_done overtake clients p known (Does move) done next left = left
+  as_done overtake clients p known (StartsClient station exact first_id store c) done next left = left
 
   deed_known : (overtake : ℕ) (clients : List Client) (p : Plant) (deed : Deed) → IsDone hosts overtake clients p deed → (next : Plant)
       → Moves overtake p (move_of deed) next → IsKnown hosts pace clients p → IsKnown hosts pace (with_client deed clients) next
@@ -282,7 +282,7 @@ module _ (hosts : Hosts) (pace : Pace) (timely : IsTimely pace) (keep : KeepTime
     call_of overtake clients p known deed done.0,
     λ next goes left.
         called overtake later (with_client deed clients) next (deed_known overtake clients p deed done.0 next goes known)
-        (done.1 next goes (left_so overtake clients p known deed done.0 next left)),
+        (done.1 next goes (as_done overtake clients p known deed done.0 next left)),
   )
 
   -- a plant to which they lead
@@ -301,7 +301,7 @@ module _ (hosts : Hosts) (pace : Pace) (timely : IsTimely pace) (keep : KeepTime
       moved W overtake ever first p r (move_of deed) (map move_of later) may (call_of overtake clients p known deed done.0) in
       let rest =
       done_all W overtake ever first later (with_client deed clients) next.0 next.3 next.4
-      (deed_known overtake clients p deed done.0 next.0 next.1 known) (done.1 next.0 next.1 (left_so overtake clients p known deed done.0 next.0 next.2)) in
+      (deed_known overtake clients p deed done.0 next.0 next.1 known) (done.1 next.0 next.1 (as_done overtake clients p known deed done.0 next.0 next.2)) in
       record { last = rest.last; run = (next.0, next.1, rest.run); reached = rest.reached; known = rest.known }
 
 pub quiet_is_known : QuietIsKnown

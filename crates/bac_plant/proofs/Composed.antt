@@ -8,9 +8,9 @@ use Rattle.bac_world.specs.World.{passes}
 use Rattle.bac_driver.specs.BoundNodes.{BoundNode}
 use Rattle.bac_plant.specs.Anew.{Anew, HappensAnew}
 use Rattle.bac_plant.specs.Anew.Anew.{RestartsSo, StartsAgainSo}
-use Rattle.bac_plant.specs.Composed.{AreCalled, IsCalled, IsComposed, IsLeftSo, StandsAt, upon}
+use Rattle.bac_plant.specs.Composed.{AreCalled, IsAsCalled, IsCalled, IsComposed, StandsAt, upon}
 use Rattle.bac_plant.specs.LongApdus.{AllAskLong, IsReachedLong, RepliesFitBefore}
-use Rattle.bac_plant.specs.Moves.{CallsComposeIn, IsCalledIn, IsLeftSoIn, IsReachedIn, MayStart, Move, Moves}
+use Rattle.bac_plant.specs.Moves.{CallsComposeIn, IsAsCalledIn, IsCalledIn, IsReachedIn, MayStart, Move, Moves}
 use Rattle.bac_plant.specs.Moves.Move.{Goes, StartsAnew}
 use Rattle.bac_plant.specs.NextSteps.{AsksGoOn, HeldTurnsGoOn, IsReached, LeadsTo, TurnsGoOn}
 use Rattle.bac_plant.specs.Plants.{Plant, world_of}
@@ -24,7 +24,7 @@ use Rattle.bac_plant.proofs.Next.{starts_again_go_on, starts_go_on, strangers_as
 
 -- a plant after a step, where its station is as the call left it
 Next : (overtake : ℕ) (p : Plant) (step : Step) → IsCalled overtake p step → Type 0
-Next overtake p step call = (next : Plant) × PlantStep overtake p step next × IsLeftSo overtake p step call next
+Next overtake p step call = (next : Plant) × PlantStep overtake p step next × IsAsCalled overtake p step call next
 
 led : (overtake : ℕ) (p : Plant) (step : Step) (i : ℕ) (after : BoundNode) → LeadsTo overtake p step i after
     → (next : Plant) × PlantStep overtake p step next × StandsAt next i after
@@ -83,7 +83,7 @@ composed_long W overtake first fresh timely long so_far asked p run (step ∷ la
 -- Over starts with other settings.
 
 called_anew : (overtake : ℕ) (p : Plant) (anew : Anew) (call : IsCalledIn overtake p (StartsAnew anew))
-    → (next : Plant) × HappensAnew p anew next × IsLeftSoIn overtake p (StartsAnew anew) call next
+    → (next : Plant) × HappensAnew p anew next × IsAsCalledIn overtake p (StartsAnew anew) call next
 called_anew overtake p (RestartsSo i exact store settings reuses) c =
     let next = restarts_anew_go_on p i c.before c.at exact store settings c.after c.node in
     (next.0, subst (λ (b : Bool). HappensAnew p (RestartsSo i exact store settings b) next.0) c.rules next.1, next.2)
@@ -95,7 +95,7 @@ called_anew overtake p (StartsAgainSo i exact first_id store settings reuses) c 
 -- a plant after a move, to which the first plant's run leads too
 abbrev pub NextIn : (W overtake : ℕ) (ever : Reuses) (first p : Plant) (move : Move) → IsCalledIn overtake p move → (later : List Move) → Type 0
 NextIn W overtake ever first p move call later =
-    (next : Plant) × Moves overtake p move next × IsLeftSoIn overtake p move call next × IsReachedIn W overtake ever first next × MayStart W ever later
+    (next : Plant) × Moves overtake p move next × IsAsCalledIn overtake p move call next × IsReachedIn W overtake ever first next × MayStart W ever later
 
 pub moved : (W overtake : ℕ) (ever : Reuses) (first p : Plant) → IsReachedIn W overtake ever first p → (move : Move) (later : List Move)
     → MayStart W ever (move ∷ later) → (call : IsCalledIn overtake p move) → NextIn W overtake ever first p move call later

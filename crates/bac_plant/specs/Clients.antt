@@ -8,7 +8,7 @@ use Rattle.bac_world.specs.Once.{IsOnce}
 use Rattle.bac_world.specs.ReusingLogs.{IsOnceSo, NoneReuses, Reuses}
 use Rattle.bac_world.specs.World.{is_quiet}
 use Rattle.bac_plant.specs.Composed.{AreCalled, AreKept, IsStarted, StandsAt, again}
-use Rattle.bac_plant.specs.Moves.{AreCalledIn, IsCalledIn, IsLeftSoIn, IsReachedIn, MayStart, Move, MoveRun, Moves}
+use Rattle.bac_plant.specs.Moves.{AreCalledIn, IsAsCalledIn, IsCalledIn, IsReachedIn, MayStart, Move, MoveRun, Moves}
 use Rattle.bac_plant.specs.Moves.Move.{Goes}
 use Rattle.bac_plant.specs.Pauses.{pause}
 use Rattle.bac_plant.specs.Plants.{Plant, world_of}
@@ -34,8 +34,8 @@ pub record Port : Type 0 where
   pub host : ℕ
   pub number : ℕ
 
--- Hosts, numbered from 0, each with one address: a machine with two is two of them. Stations at ports of theirs from which clients ask, each at the port at which
--- its program bound its link; whose link it is no law asks.
+-- Hosts, numbered from 0, each with one address: a machine with two addresses is two of them. They say which stations are at ports of theirs from which clients
+-- ask. No law compares that with a station's link: who applies these laws gives each such station the port to which its link is bound.
 pub record Hosts : Type 0 where
   pub host : ℕ → Host
   pub port_of : (station : ℕ) → Option Port
@@ -115,16 +115,16 @@ IsDone hosts overtake clients p (StartsClient station exact first_id store clien
     IsStarted p station (again p exact first_id store) AreKept × StartsThere hosts clients p station client
 
 -- in the next plant its station is as the call left it
-abbrev pub IsDoneSo : (hosts : Hosts) (overtake : ℕ) (clients : List Client) (p : Plant) (deed : Deed) → IsDone hosts overtake clients p deed → (next : Plant) → Type 0
-IsDoneSo hosts overtake clients p (Does move) done next = IsLeftSoIn overtake p move done.0 next
-IsDoneSo hosts overtake clients p (StartsClient station exact first_id store client) done next = StandsAt next station done.0.after
+abbrev pub IsAsDone : (hosts : Hosts) (overtake : ℕ) (clients : List Client) (p : Plant) (deed : Deed) → IsDone hosts overtake clients p deed → (next : Plant) → Type 0
+IsAsDone hosts overtake clients p (Does move) done next = IsAsCalledIn overtake p move done.0 next
+IsAsDone hosts overtake clients p (StartsClient station exact first_id store client) done next = StandsAt next station done.0.after
 
 -- These deeds were done one after the other. Each was done in whatever plant the ones before it led to, whose stations are as these left them.
 abbrev pub AreDone : Hosts → (overtake : ℕ) → List Client → List Deed → Plant → Type 0
 AreDone hosts overtake clients [] p = Unit {0}
 AreDone hosts overtake clients (deed ∷ later) p =
     (done : IsDone hosts overtake clients p deed)
-    × ((next : Plant) → Moves overtake p (move_of deed) next → IsDoneSo hosts overtake clients p deed done next
+    × ((next : Plant) → Moves overtake p (move_of deed) next → IsAsDone hosts overtake clients p deed done next
     → AreDone hosts overtake (with_client deed clients) later next)
 
 -- ---- what is known of the ports
@@ -147,7 +147,7 @@ abbrev pub AsksSo : Hosts → Pace → List Client → Plant → (station : ℕ)
 AsksSo hosts pace clients p station at =
     ((p.lives station).sends_until + pace.life + most pace KEEP + pace.life ≤ p.time.now) ⊎ IsAsked hosts pace clients p station at
 
--- Of each port one of both is so. Where a host boots, which changes its key, its ports alone have to be quiet, and of the others the same clients are known.
+-- so it is of each port
 pub record IsKnown (hosts : Hosts) (pace : Pace) (clients : List Client) (p : Plant) : Type 0 where
   pub paced : p.time.pace ≡ pace
   pub asked : (station : ℕ) (at : Port) → hosts.port_of station ≡ Some at → AsksSo hosts pace clients p station at
@@ -163,7 +163,7 @@ DaysAreLong =
 abbrev pub PausesAreShort : Type 0
 PausesAreShort = (p : Pace) → p.tick ≡ 1 → IsTimely p → most p 30000 + pause p ≤ 165080 * p.grain
 
--- where they are quiet, that is known of them without any client
+-- where all ports are quiet, they are known without any client
 abbrev pub QuietIsKnown : Type 0
 QuietIsKnown = (hosts : Hosts) (p : Plant) → AreQuiet hosts p → IsKnown hosts p.time.pace [] p
 
@@ -179,7 +179,7 @@ DeedsAreSteps =
     (hosts : Hosts) (overtake : ℕ) (clients : List Client) (p : Plant) → IsTimely p.time.pace → KeepTime hosts p.time.pace → IsKnown hosts p.time.pace clients p
     → (deeds : List Deed) → AreDone hosts overtake clients deeds p → (steps : List Step) → map move_of deeds ≡ map Goes steps → AreCalled overtake steps p
 
--- a plant to which they lead from p, whose log is right, and in which it is known what comes next
+-- a plant to which they lead from p, whose log is right, and whose ports are known, so that more clients may start
 pub record IsRightAfter (W overtake : ℕ) (ever : Reuses) (hosts : Hosts) (clients : List Client) (first p : Plant) (deeds : List Deed) : Type 0 where
   pub last : Plant
   pub run : MoveRun overtake p (map move_of deeds) last
@@ -197,7 +197,7 @@ DeedsAreRight =
 
 -- ---- a boot
 
--- that host has another key and time of day from now on
+-- that one has another key and time of day from now on
 abbrev pub with_host : Hosts → (number : ℕ) → Host → Hosts
 with_host hosts number host = record hosts { host = λ h. if nat_eq h number then host else hosts.host h }
 
@@ -206,7 +206,7 @@ abbrev pub elsewhere : (number : ℕ) → List Client → List Client
 elsewhere number [] = []
 elsewhere number (c ∷ clients) = if nat_eq c.host number then elsewhere number clients else c ∷ elsewhere number clients
 
--- A host boots once its own ports are quiet. What is known of the ports of others stays, so clients go on there.
+-- a host boots once its own ports are quiet, and those of the others are known as before, so clients go on there
 abbrev pub BootsGoOn : Type 0
 BootsGoOn =
     (hosts : Hosts) (number : ℕ) (host : Host) (clients : List Client) (p : Plant) → IsKnown hosts p.time.pace clients p

@@ -1,16 +1,18 @@
 -- Two clients of a host at one port, how early the second one may start, and what the first one does: computed, whatever the host's key is, and so that port.
-use Rattle.std.specs.Prelude.{ℕ, ◌*◌, List, [], ◌∷◌, Some, None, if◌then◌else◌, nat_eq}
+use Rattle.std.specs.Prelude.{ℕ, ◌*◌, true, List, [], ◌∷◌, map, Some, None, if◌then◌else◌, nat_eq}
 use Rattle.bac_driver.specs.Turns.{Turn}
-use Rattle.bac_world.specs.AnsweredRun.{LIMITS}
+use Rattle.bac_world.specs.AnsweredRun.{LIMITS, SETTINGS}
 use Rattle.bac_world.specs.Examples.{REQUEST}
+use Rattle.bac_world.specs.ReusingLogs.{Reuses}
 use Rattle.bac_world.specs.World.{passes}
-use Rattle.bac_plant.specs.Clients.{AreDone, AreQuiet, Client, Deed, Hosts, IsAskedEarly, KeepTime, Port, StartsThere}
+use Rattle.bac_plant.specs.Anew.Anew.{RestartsSo}
+use Rattle.bac_plant.specs.Clients.{AreDone, AreQuiet, Client, Deed, Hosts, IsAskedEarly, KeepTime, Port, StartsThere, move_of}
 use Rattle.bac_plant.specs.Clients.Deed.{Does, StartsClient}
 use Rattle.bac_plant.specs.Example.{OPENING}
-use Rattle.bac_plant.specs.Moves.{IsReachedIn}
-use Rattle.bac_plant.specs.Moves.Move.{Goes}
+use Rattle.bac_plant.specs.Moves.{IsReachedIn, MayStart}
+use Rattle.bac_plant.specs.Moves.Move.{Goes, StartsAnew}
 use Rattle.bac_plant.specs.Network.Source.{Nowhere}
-use Rattle.bac_plant.specs.Plants.{Plant, settings_of}
+use Rattle.bac_plant.specs.Plants.{Plant}
 use Rattle.bac_plant.specs.Steps.Step.{Begins, Restarts, Takes}
 
 -- one that took its port 80 seconds after midnight, and one that took its own 165.895 seconds later
@@ -47,15 +49,22 @@ pub record TwoClients (key : List ℕ) (port : ℕ) : Type 0 where
 abbrev pub LATER : Plant
 LATER = record OPENING { time = passes OPENING.time 80000 (λ station. 80000) }
 
--- the first client starts, and asks station 1; that one restarts, and then takes a turn in which nothing comes
+-- The first client starts, and asks station 1. That one restarts, and takes a turn in which nothing comes. Then it starts again so that it lets clients use an
+-- invoke ID again, and takes such a turn again.
 abbrev pub DEEDS : (idle : Turn) → List Deed
 DEEDS idle =
-    StartsClient 0 0 0 None ONE ∷ Does (Goes (Begins 0 1 LIMITS REQUEST)) ∷ Does (Goes (Restarts 1 0 None)) ∷ Does (Goes (Takes 1 Nowhere idle)) ∷ []
+    StartsClient 0 0 0 None ONE ∷ Does (Goes (Begins 0 1 LIMITS REQUEST)) ∷ Does (Goes (Restarts 1 0 None)) ∷ Does (Goes (Takes 1 Nowhere idle))
+    ∷ Does (StartsAnew (RestartsSo 1 0 None SETTINGS true)) ∷ Does (Goes (Takes 1 Nowhere idle)) ∷ []
+
+-- stations may let them do so
+abbrev pub EVER : Reuses
+EVER station = true
 
 -- so nothing that the laws of clients suppose is empty
 pub record ClientAsks (key : List ℕ) (port : ℕ) : Type 0 where
-  pub reached : IsReachedIn 1 253 (settings_of OPENING) OPENING LATER
+  pub reached : IsReachedIn 1 253 EVER OPENING LATER
   pub keep : KeepTime (HOSTS key port) LATER.time.pace
   pub quiet : AreQuiet (HOSTS key port) LATER
   pub idle : Turn
+  pub may : MayStart 1 EVER (map move_of (DEEDS idle))
   pub done : AreDone (HOSTS key port) 253 [] (DEEDS idle) LATER

@@ -82,8 +82,8 @@ pub record CallsToChange (p : Plant) (i : ℕ) (change : Change) : Type 0 where
 
 -- ---- starts
 
--- The station is another one from now on, with any link and buffer: its node begins so, and its rules are as the start has them. The call names that station, as
--- a start leaves free how much memory its rules take.
+-- A program starts: its station is another one from now on, with any link and buffer. The node begins so, and the rules are as the start has them. The call names
+-- that station, since a start leaves some of its rules free, and what follows depends on these.
 pub record IsStarted (p : Plant) (i : ℕ) (begins : Node → Node) (AreRules : (before after : BoundNode) → Type 0) : Type 0 where
   pub before : BoundNode
   pub at : slice_get p.stations i ≡ Some before
@@ -132,25 +132,25 @@ abbrev pub StandsAt : Plant → (station : ℕ) → BoundNode → Type 0
 StandsAt p i b = slice_get p.stations i ≡ Some b
 
 -- in the next plant its station is as the call left it
-abbrev pub IsLeftSo : (overtake : ℕ) (p : Plant) (step : Step) → IsCalled overtake p step → (next : Plant) → Type 0
-IsLeftSo overtake p (Passes by own) call next = Unit {0}
-IsLeftSo overtake p (Takes i source turn) call next = StandsAt next i call.after
-IsLeftSo overtake p (FailsToReceive i) call next = StandsAt next i call.new.bound_node
-IsLeftSo overtake p (Begins i server limits request) call next = StandsAt next i call.after
-IsLeftSo overtake p (BeginsAway i peer limits request) call next = StandsAt next i call.after
-IsLeftSo overtake p (Changes i change) call next = StandsAt next i call.after
-IsLeftSo overtake p (Restarts i exact store) call next = StandsAt next i call.after
-IsLeftSo overtake p (Starts i exact) call next = StandsAt next i call.started.after
-IsLeftSo overtake p (StartsAgain i exact first_id store) call next = StandsAt next i call.started.after
-IsLeftSo overtake p (Holds i source turn) call next = StandsAt next i call.after
-IsLeftSo overtake p (SendsHeld i turns) call next = StandsAt next i call.after
+abbrev pub IsAsCalled : (overtake : ℕ) (p : Plant) (step : Step) → IsCalled overtake p step → (next : Plant) → Type 0
+IsAsCalled overtake p (Passes by own) call next = Unit {0}
+IsAsCalled overtake p (Takes i source turn) call next = StandsAt next i call.after
+IsAsCalled overtake p (FailsToReceive i) call next = StandsAt next i call.new.bound_node
+IsAsCalled overtake p (Begins i server limits request) call next = StandsAt next i call.after
+IsAsCalled overtake p (BeginsAway i peer limits request) call next = StandsAt next i call.after
+IsAsCalled overtake p (Changes i change) call next = StandsAt next i call.after
+IsAsCalled overtake p (Restarts i exact store) call next = StandsAt next i call.after
+IsAsCalled overtake p (Starts i exact) call next = StandsAt next i call.started.after
+IsAsCalled overtake p (StartsAgain i exact first_id store) call next = StandsAt next i call.started.after
+IsAsCalled overtake p (Holds i source turn) call next = StandsAt next i call.after
+IsAsCalled overtake p (SendsHeld i turns) call next = StandsAt next i call.after
 
 -- The calls that these steps stand for were made one after the other, the first of the list first. Each was made in whatever plant the ones before it led to, whose
 -- stations are as these left them.
 abbrev pub AreCalled : (overtake : ℕ) → List Step → Plant → Type 0
 AreCalled overtake [] p = Unit {0}
 AreCalled overtake (step ∷ later) p =
-    (call : IsCalled overtake p step) × ((next : Plant) → PlantStep overtake p step next → IsLeftSo overtake p step call next → AreCalled overtake later next)
+    (call : IsCalled overtake p step) × ((next : Plant) → PlantStep overtake p step next → IsAsCalled overtake p step call next → AreCalled overtake later next)
 
 -- later steps, the first of them first, upon those so far, of which the newest is first
 abbrev pub upon : (later so_far : List Step) → List Step

@@ -9,7 +9,7 @@ use Rattle.bac_world.specs.World.{IsBounded, IsFresh}
 use Rattle.bac_driver.specs.BoundNodes.{BoundNode}
 use Rattle.bac_plant.specs.Anew.{Anew, ArePermitted, HappensAnew, IsPermitted, PlantRunIn, Stretch}
 use Rattle.bac_plant.specs.Anew.Anew.{RestartsSo, StartsAgainSo}
-use Rattle.bac_plant.specs.Composed.{IsCalled, IsLeft, IsLeftSo, IsStarted, StandsAt, again, back}
+use Rattle.bac_plant.specs.Composed.{IsAsCalled, IsCalled, IsLeft, IsStarted, StandsAt, again, back}
 use Rattle.bac_plant.specs.Plants.{Plant, settings_of, world_of}
 use Rattle.bac_plant.specs.Steps.{PlantRun, PlantStep, Step}
 
@@ -77,16 +77,16 @@ IsCalledIn overtake p (StartsAnew (StartsAgainSo i exact first_id store settings
     IsLeft p i (λ n. again p exact first_id store (with_settings settings n)) (AreRulesOf reuses)
 
 -- in the next plant its station is as the call left it
-abbrev pub IsLeftSoIn : (overtake : ℕ) (p : Plant) (move : Move) → IsCalledIn overtake p move → (next : Plant) → Type 0
-IsLeftSoIn overtake p (Goes step) call next = IsLeftSo overtake p step call next
-IsLeftSoIn overtake p (StartsAnew (RestartsSo i exact store settings reuses)) call next = StandsAt next i call.after
-IsLeftSoIn overtake p (StartsAnew (StartsAgainSo i exact first_id store settings reuses)) call next = StandsAt next i call.started.after
+abbrev pub IsAsCalledIn : (overtake : ℕ) (p : Plant) (move : Move) → IsCalledIn overtake p move → (next : Plant) → Type 0
+IsAsCalledIn overtake p (Goes step) call next = IsAsCalled overtake p step call next
+IsAsCalledIn overtake p (StartsAnew (RestartsSo i exact store settings reuses)) call next = StandsAt next i call.after
+IsAsCalledIn overtake p (StartsAnew (StartsAgainSo i exact first_id store settings reuses)) call next = StandsAt next i call.started.after
 
 -- These calls were made one after the other. Each was made in whatever plant the ones before it led to, whose stations are as these left them.
 abbrev pub AreCalledIn : (overtake : ℕ) → List Move → Plant → Type 0
 AreCalledIn overtake [] p = Unit {0}
 AreCalledIn overtake (move ∷ later) p =
-    (call : IsCalledIn overtake p move) × ((next : Plant) → Moves overtake p move next → IsLeftSoIn overtake p move call next → AreCalledIn overtake later next)
+    (call : IsCalledIn overtake p move) × ((next : Plant) → Moves overtake p move next → IsAsCalledIn overtake p move call next → AreCalledIn overtake later next)
 
 -- a plant to which these moves lead from p, and to which the first plant's run leads so
 pub record IsComposedIn (W overtake : ℕ) (ever : Reuses) (first p : Plant) (moves : List Move) : Type 0 where

@@ -58,7 +58,7 @@ pub fn two_clients()
     ensures { (key : List ℕ) (port : ℕ) → port_at key 80000000 ≡ port → TwoClients key port }
 {}
 
-/// The first of them starts and asks a station. That one restarts, and takes a turn. What the laws of clients suppose is met.
+/// The first of them starts and asks a station. That one restarts, takes a turn, and does so again with other settings. What the laws of clients suppose is met.
 pub fn client_asks()
     ensures { (key : List ℕ) (port : ℕ) → port_at key 80000000 ≡ port → ClientAsks key port }
 {}

@@ -12,8 +12,7 @@ pub fn days_are_long()
 /// Clients of hosts start one after another, each at the port that the time of day gave it, as `bac` does: those that had the port before took it in earlier
 /// shares of time. Each begins asks until 30,000 ms after its share, by its own clock. Then all is over that was sent from that port before, whoever was asked, and
 /// whatever the other stations do meanwhile. So another program may start there, and what they all do is calls as `calls_compose` and
-/// `calls_compose_with_other_settings` take them. They go on from any plant in which it is known of each port that it is quiet, or which client asked last. So
-/// it is of no client where all ports are quiet.
+/// `calls_compose_with_other_settings` take them. They may begin in any plant in which each port is quiet, or was asked from last by a client that is known.
 pub fn clients_find_quiet()
     ensures quiet { QuietIsKnown }
     ensures calls { DeedsAreCalls }
@@ -21,7 +20,7 @@ pub fn clients_find_quiet()
 {}
 
 /// So the headline holds of what such clients ask, also among stations that start again with other settings: each accepted ask is performed at most once, and
-/// exactly once if it ended with a service answer. What is known of the ports after them is enough for more such clients.
+/// exactly once if it ended with a service answer. More such clients may go on after them.
 pub fn clients_are_right()
     ensures { DeedsAreRight }
 {}

@@ -80,8 +80,8 @@ pub fn calls_go_on()
 {}
 
 /// Calls that stations make one after another are a run, in any order of stations, with time passing, restarts and starts between them. They continue
-/// a run of a fresh plant on two conditions. Each call keeps its contract in the plant that the calls before it led to, and the network may hand over
-/// what came. So whatever holds of all runs of a plant holds of whole programs.
+/// a run of a fresh plant on two conditions. Each call keeps its contract in the plant that the calls before it led to, with the stations that these
+/// left, and the network may hand over what came. So whatever holds of all runs of a plant holds of whole programs.
 pub fn calls_compose()
     ensures { (W overtake : ℕ) (first : Plant) → IsFresh (world_of first) → IsTimely first.time.pace → IsBounded W overtake (world_of first)
         → (so_far : List Step) (p : Plant) → PlantRun overtake so_far first p → (later : List Step) → AreCalled overtake later p
