@@ -18,6 +18,7 @@ DOCUMENT = Path(__file__).resolve().parents[2] / 'docs/plant.toml'
 TYPES = {'analog-input': 0, 'analog-output': 1, 'analog-value': 2, 'binary-input': 3, 'binary-output': 4, 'binary-value': 5, 'device': 8, 'file': 10,
          'multi-state-input': 13, 'multi-state-output': 14, 'multi-state-value': 19}
 PRESENT_VALUE, OBJECT_LIST, OBJECT_NAME = '85', '76', '77'
+STATES = {'inactive': 0, 'active': 1}
 TURNS = 100000
 
 
@@ -35,7 +36,7 @@ def data(value, key='real'):
     """A value of the document as data."""
     if key == 'real':
         return b'\x44' + struct.pack('>f', value)
-    return number({'unsigned': 2, 'enumerated': 9}[key], value)
+    return number({'unsigned': 2, 'enumerated': 9}[key], STATES.get(value, value))
 
 
 def name_data(text):
@@ -55,6 +56,8 @@ def rows(things):
     for thing in things:
         yield ['read', identifier(thing), OBJECT_NAME], 'answered read ' + name_data(thing['name']).hex().upper()
         value = thing.get('present-value')
+        if isinstance(value, str):
+            value = {'enumerated': value}
         if isinstance(value, dict) and kind_of(value):
             yield from value_rows(identifier(thing), value, kind_of(value))
 

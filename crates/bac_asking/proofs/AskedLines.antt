@@ -2,19 +2,19 @@
 use Rattle.std.proofs.Common.{◌≡◌, ℕ, ◌&&◌, Bool, true, false, List, [], ◌∷◌, Option, Some, map, refl, sym, ap, subst, ◌∙◌}
 use Rattle.std.specs.Io.KnownBytes.{Keeps}
 use Rattle.bac_npdu.specs.Peers.{PeerView}
-use Rattle.bac_protocol.specs.Service.{Octets}
+use Rattle.bac_driver.specs.Nodes.{Octets}
 use Rattle.bac_text.specs.Statuses.{IsStop}
 use Rattle.bac_text.specs.declared.status.Status.{Status}
 use Rattle.bac_text.specs.declared.status.Status.TheVariants as status
 use Rattle.bac_commands.specs.Statuses.{ByStatus}
 use Rattle.bac_driver.specs.Runs.{Timed}
 use Rattle.bac_asking.specs.Asked.{AreAskedFrom, AsksFromHost, for_lines}
-use Rattle.bac_lists.specs.QuestionLines.{line_view}
+use Rattle.bac_environment.specs.QuestionLines.{line_view}
 use Rattle.bac_asking.specs.AskedLines.{AreRead, AsksEach, AsksLine}
 use Rattle.bac_environment.specs.Files.{OfFile}
 use Rattle.bac_environment.specs.Sockets.{Clocks, Links}
 use Rattle.bac_asking.specs.declared.asking.Asking.{Asking}
-use Rattle.bac_lists.specs.declared.question_lines.LineQuestion.{LineQuestion}
+use Rattle.bac_environment.specs.declared.question_lines.LineQuestion.{LineQuestion}
 use Rattle.bac_asking.proofs.AskedOf.{Files}
 use Rattle.bac_asking.proofs.InRounds.{and_true, both_and}
 use Rattle.bac_environment.proofs.Statuses.{lifted}

@@ -1,16 +1,20 @@
 -- The node that goes on has an invoke ID and a slot for what is asked first.
-use Rattle.std.proofs.Common.{◌≡◌, ℕ, Bool, true, false, Option, Some, None, Result, Ok, Err, refl, sym, inl, inr, subst}
+use Rattle.std.proofs.Common.{◌≡◌, ◌≢◌, ℕ, Bool, true, false, Option, Some, None, Result, Ok, Err, refl, sym, ap, inl, inr, subst}
 use Rattle.std.specs.Prelude.{IfOk}
-use Rattle.bac_protocol.specs.Service.{Octets}
+use Rattle.bac_driver.specs.Nodes.{Octets}
 use Rattle.bac_text.specs.declared.status.Status.{Status}
+use Rattle.bac_driver.specs.Nodes.{Node}
 use Rattle.bac_driver.specs.Asking.{Question}
+use Rattle.bac_driver.specs.BoundNodes.{BoundNode}
 use Rattle.bac_driver.specs.Moments.{Told, with_moment}
 use Rattle.bac_driver.specs.Runs.{Timed, timed}
 use Rattle.bac_driver.specs.declared.question.AskEnd.{AskEnd}
 use Rattle.bac_driver.specs.declared.question.AskEnd.TheVariants as end
+use Rattle.bac_commands.specs.Houses.{client_node}
 use Rattle.bac_commands.proofs.FreshClients.{never_spent}
 use Rattle.bac_asking.specs.Clients.{AsksAt, AsksFrom, AsksOn, IsReady, IsRenewed, ends_spent}
 use Rattle.bac_asking.specs.Fleets.{Fleet}
+use Rattle.bac_asking.specs.Online.{IsClient, LooksOnce}
 use Rattle.bac_asking.specs.InFlight.{BeginsAsk, BeginsNext, BeginsOn, BeginsSo, IsPassedOver, TriesToBegin, begins_spent}
 use Rattle.bac_environment.specs.Sockets.{Links}
 use Rattle.bac_asking.specs.declared.asking.Asking.{Asking}
@@ -21,14 +25,26 @@ pub asks_free : (IsOn : Links) (host : Octets) (asking : Asking) (q : Question) 
     → IsRenewed IsOn host spent fresh → AsksFrom asking q how fresh after → ends_spent how ≡ false
 asks_free IsOn host asking q (end.Ended how) spent fresh after renewed asks = refl
 asks_free IsOn host asking q (end.Refused why) spent fresh after renewed asks =
-    never_spent q why _ after renewed.client.first_id renewed.client.at.at.address renewed.client.at.at.node asks.ends
+    never_spent q why _ after fresh.told.last renewed.client.first_id renewed.client.at.at.address renewed.client.at.at.node asks.ends
 asks_free IsOn host asking q end.NoEnding spent fresh after renewed asks = refl
 
 pub begins_free : (IsOn : Links) (host : Octets) (asking : Asking) (q : Question) (b : Begun) (spent fresh after : Timed)
     → IsRenewed IsOn host spent fresh → BeginsAsk asking q b fresh after → begins_spent b ≡ false
 begins_free IsOn host asking q (begun.Accepted ticket wait_limit) spent fresh after renewed begins = refl
 begins_free IsOn host asking q (begun.Refused why) spent fresh after renewed begins =
-    never_spent q why _ after renewed.client.first_id renewed.client.at.at.address renewed.client.at.at.node begins.begun
+    never_spent q why _ after fresh.told.last renewed.client.first_id renewed.client.at.at.address renewed.client.at.at.node begins.begun
+
+-- a node that begins at the moment that its clock printed begins at the latest one of it
+pub begun_last : (old told : Told) (now first_id : ℕ) (address : Octets) (n : Node) → told ≡ with_moment old now → n ≡ client_node now first_id address
+    → n ≡ client_node told.last first_id address
+begun_last old told now first_id address n tells is =
+    subst (λ (m : ℕ). n ≡ client_node m first_id address) (sym (ap (λ (t : Told). t.last) tells)) is
+
+-- the next node stands where the one before stood
+pub renewed_there : (IsOn : Links) (host : Octets) (old : Timed) (fresh there : BoundNode) (told : Told) → there ≡ fresh → IsClient IsOn host (timed fresh told)
+    → fresh.node.link ≢ old.bound_node.node.link → LooksOnce old.told told → IsRenewed IsOn host old (timed there told)
+renewed_there IsOn host old fresh there told is client apart looks =
+    subst (λ (b : BoundNode). IsRenewed IsOn host old (timed b told)) (sym is) (record { client = client; apart = apart; told = looks })
 
 -- the next node is ready, from the moment on at which the clock was looked at
 pub ready_anew : (IsOn : Links) (host : Octets) (start : ℕ) (before after : Timed) (told : Told) → told ≡ with_moment before.told start

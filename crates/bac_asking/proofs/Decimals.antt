@@ -7,8 +7,8 @@ use Rattle.std.specs.List.{after_first, before_first}
 use Rattle.std.specs.Prelude.{MatchOption}
 use Rattle.std.specs.Char.{digit_value}
 use Rattle.std.specs.Str.Parse.{IsNumeral, digits_value, without_leading_plus}
-use Rattle.bac_lists.proofs.Numerals.{one_number}
-use Rattle.bac_lists.specs.Addresses.{IsCut, IsNoNumber, IsNumber, has_octet}
+use Rattle.bac_environment.proofs.Numerals.{one_number}
+use Rattle.bac_environment.specs.Addresses.{IsCut, IsNoNumber, IsNumber, has_octet}
 use Rattle.bac_asking.specs.Seconds.{AreDecimal, AreDigits, AreMilliseconds, AreNoSeconds, AreSeconds, AreWhole, GivesTime, is_point}
 
 -- ---- digits alone
@@ -130,7 +130,7 @@ one_by true D W d w x y one other = d x y one other
 one_by false D W d w x y one other = w x y one other
 
 -- a text is one time
-one_time : (text : List ℕ) (a b : ℕ) → AreMilliseconds text a → AreMilliseconds text b → a ≡ b
+pub one_time : (text : List ℕ) (a b : ℕ) → AreMilliseconds text a → AreMilliseconds text b → a ≡ b
 one_time text a b one other =
     one_by (has_octet is_point text) (AreDecimal (before_first is_point text) (after_first is_point text)) (AreWhole text)
     (one_decimal (before_first is_point text) (after_first is_point text)) (one_whole text) a b one other

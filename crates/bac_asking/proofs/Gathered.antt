@@ -2,7 +2,7 @@
 use Rattle.std.proofs.Common.{◌≡◌, ℕ, ◌+◌, List, [], ◌∷◌, ◌++◌, length, refl, sym, subst, ap, arith, length-append}
 use Rattle.bac_driver.specs.declared.question.AskEnd.{AskEnd}
 use Rattle.bac_driver.specs.Runs.{Timed}
-use Rattle.bac_lists.specs.declared.question_lines.LineQuestion.{LineQuestion}
+use Rattle.bac_environment.specs.declared.question_lines.LineQuestion.{LineQuestion}
 use Rattle.bac_asking.specs.Fleets.{Fleet, NEW_FLEET}
 use Rattle.bac_asking.specs.Gathering.{EndsAll, EndsFrom, Gathers}
 use Rattle.bac_asking.specs.InFlight.{Aloft, EndsLine, Plan, Sky, aloft, new_sky}

@@ -7,7 +7,7 @@ use Rattle.bac_npdu.specs.Views.{route_view}
 use Rattle.bac_npdu.specs.declared.route.Route.{Route}
 use Rattle.bac_environment.specs.Given.{words_text}
 use Rattle.bac_driver.specs.Udp.{LOCAL_HOST}
-use Rattle.bac_lists.specs.Addresses.{IsLink, IsNoLink, IsRoute, link_of}
+use Rattle.bac_environment.specs.Addresses.{IsLink, IsNoLink, IsRoute, link_of}
 use Rattle.bac_asking.specs.Given.{IsLinkGiven, IsPortGiven, IsRouteBy}
 
 inside : (a b : List ℕ) → Some a ≡ Some b → a ≡ b

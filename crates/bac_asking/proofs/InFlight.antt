@@ -22,7 +22,7 @@ use Rattle.bac_environment.specs.Sockets.{Links}
 use Rattle.bac_asking.specs.declared.flights.Begun.{Begun}
 use Rattle.bac_asking.specs.declared.flights.Flight.{Flight}
 use Rattle.bac_asking.specs.declared.flights.Waiting.{Waiting}
-use Rattle.bac_lists.specs.declared.question_lines.LineQuestion.{LineQuestion}
+use Rattle.bac_environment.specs.declared.question_lines.LineQuestion.{LineQuestion}
 use Rattle.bac_asking.proofs.InRounds.{and_true, both_and}
 
 -- ---- the lines of a list

@@ -11,3 +11,5 @@ pub mod Once
 pub mod Gathered
 pub mod GivenPeers
 pub mod Decimals
+pub mod Waits
+pub mod Tables

@@ -15,7 +15,7 @@ use Rattle.bac_asking.specs.declared.flights.Begun.{Begun}
 use Rattle.bac_asking.specs.declared.flights.Begun.TheVariants as begun
 use Rattle.bac_asking.specs.declared.flights.Flight.{Flight}
 use Rattle.bac_asking.specs.declared.flights.Waiting.{Waiting}
-use Rattle.bac_lists.specs.declared.question_lines.LineQuestion.{LineQuestion}
+use Rattle.bac_environment.specs.declared.question_lines.LineQuestion.{LineQuestion}
 
 -- ---- the lines that wait
 

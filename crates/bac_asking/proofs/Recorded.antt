@@ -10,7 +10,7 @@ use Rattle.bac_driver.specs.Asking.{Question}
 use Rattle.bac_driver.specs.declared.question.AskEnd.{AskEnd}
 use Rattle.bac_service.specs.Values.{Request}
 use Rattle.bac_text.specs.Texts.{AppendsText, line_end}
-use Rattle.bac_lists.specs.QuestionLines.{Asker}
+use Rattle.bac_environment.specs.QuestionLines.{Asker}
 use Rattle.bac_asking.specs.Recording.{AreWordsOf, IsRecordText, PrintsRecord, outcome_of, without_end}
 use Rattle.bac_asking.specs.declared.recording.RecordForm.{RecordForm}
 

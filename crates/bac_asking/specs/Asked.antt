@@ -2,12 +2,12 @@
 use Rattle.std.specs.Prelude.{ℕ, Bool, true, false, List, map, Option, Some}
 use Rattle.std.specs.Io.KnownBytes.{Keeps}
 use Rattle.bac_npdu.specs.Peers.{PeerView}
-use Rattle.bac_protocol.specs.Service.{Octets}
+use Rattle.bac_driver.specs.Nodes.{Octets}
 use Rattle.bac_text.specs.declared.status.Status.{Status}
 use Rattle.bac_driver.specs.Runs.{Timed}
 use Rattle.bac_driver.specs.Views.{question_view}
 use Rattle.bac_commands.specs.Statuses.{ByStatus}
-use Rattle.bac_lists.specs.QuestionLines.{have_names, line_view}
+use Rattle.bac_environment.specs.QuestionLines.{have_names, line_view}
 use Rattle.bac_asking.specs.AskedLines.{AreRead}
 use Rattle.bac_environment.specs.Files.{OfFile}
 use Rattle.bac_asking.specs.InFlight.{AsksLines}
@@ -19,7 +19,7 @@ use Rattle.bac_text.specs.declared.status.Status.TheVariants as status
 use Rattle.bac_asking.specs.declared.asking.Asking.{Asking}
 use Rattle.bac_asking.specs.declared.asking_lines.Unasked.{Unasked}
 use Rattle.bac_asking.specs.declared.asking_lines.Unasked.TheVariants as unasked
-use Rattle.bac_lists.specs.declared.question_lines.LineQuestion.{LineQuestion}
+use Rattle.bac_environment.specs.declared.question_lines.LineQuestion.{LineQuestion}
 use Rattle.bac_asking.specs.declared.rounds.Asked.{Asked}
 use Rattle.bac_asking.specs.declared.rounds.Asked.TheVariants as asked
 

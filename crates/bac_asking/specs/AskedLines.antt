@@ -5,8 +5,8 @@ use Rattle.bac_npdu.specs.Peers.{PeerView}
 use Rattle.bac_driver.specs.Runs.{Timed}
 use Rattle.bac_driver.specs.Views.{question_view}
 use Rattle.bac_driver.specs.declared.question.AskEnd.{AskEnd}
-use Rattle.bac_lists.specs.QuestionLines.{AreQuestions, HaveBadLine, Numbered, asker_of, lines_in, name_in_line}
-use Rattle.bac_lists.specs.declared.question_lines.LineQuestion.{LineQuestion}
+use Rattle.bac_environment.specs.QuestionLines.{AreQuestions, HaveBadLine, Numbered, asker_of, lines_in, name_in_line}
+use Rattle.bac_environment.specs.declared.question_lines.LineQuestion.{LineQuestion}
 use Rattle.bac_asking.specs.Clients.{AsksOn}
 use Rattle.bac_environment.specs.Sockets.{Links}
 use Rattle.bac_asking.specs.Recording.{PrintsAsk}

@@ -16,7 +16,7 @@ use Rattle.bac_commands.specs.Questions.{IsQuestion}
 use Rattle.bac_commands.specs.Statuses.{ByStatus}
 use Rattle.bac_commands.specs.declared.online.output_format.Style.{Style}
 use Rattle.bac_commands.specs.declared.online.output_format.Style.TheVariants as style
-use Rattle.bac_lists.specs.QuestionLines.{no_line}
+use Rattle.bac_environment.specs.QuestionLines.{no_line}
 use Rattle.bac_asking.specs.Clients.{AsksOn}
 use Rattle.bac_environment.specs.Files.{OfFile}
 use Rattle.bac_asking.specs.FileWords.{file_of, with_octets}

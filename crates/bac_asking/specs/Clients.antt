@@ -1,6 +1,6 @@
 -- A client whose node has no invoke ID or no slot left, or has asked for 30 seconds, and the next node.
 use Rattle.std.specs.Prelude.{◌≡◌, ◌≢◌, ◌⊎◌, ℕ, Bool, true, false}
-use Rattle.bac_protocol.specs.Service.{Octets}
+use Rattle.bac_driver.specs.Nodes.{Octets}
 use Rattle.bac_driver.specs.Asking.{AskingEnds, Question}
 use Rattle.bac_driver.specs.Moments.{with_moment}
 use Rattle.bac_driver.specs.Runs.{Timed, timed}
@@ -8,7 +8,7 @@ use Rattle.bac_driver.specs.declared.question.AskEnd.{AskEnd}
 use Rattle.bac_driver.specs.declared.question.AskEnd.TheVariants as end
 use Rattle.bac_commands.specs.Spent.{is_spent}
 use Rattle.bac_asking.specs.Asking.{patience_for}
-use Rattle.bac_asking.specs.Online.{IsClient}
+use Rattle.bac_asking.specs.Online.{IsClient, LooksOnce}
 use Rattle.bac_environment.specs.Sockets.{Links}
 use Rattle.bac_asking.specs.declared.asking.Asking.{Asking}
 
@@ -18,11 +18,12 @@ ends_spent (end.Ended how) = false
 ends_spent (end.Refused why) = is_spent why
 ends_spent end.NoEnding = false
 
--- a new node at any other port of that address, whose invoke IDs begin anywhere, asks in the place of the one before, beside the same clock
+-- a new node at any other port of that address, whose invoke IDs begin anywhere, asks in the place of the one before, beside the same clock; that printed the
+-- moment at which the new one begins
 pub record IsRenewed (IsOn : Links) (host : Octets) (old new : Timed) : Type 0 where
-  pub client : IsClient IsOn host new.bound_node
+  pub client : IsClient IsOn host new
   pub apart : new.bound_node.node.link ≢ old.bound_node.node.link
-  pub told : new.told ≡ old.told
+  pub told : LooksOnce old.told new.told
 
 -- the node asked a question, and waited as from a moment on, and how that ended
 abbrev pub AsksAt : (start : ℕ) → Asking → Question → AskEnd → (before after : Timed) → Type 0

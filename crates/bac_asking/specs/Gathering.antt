@@ -2,7 +2,7 @@
 use Rattle.std.specs.Prelude.{◌≡◌, ℕ, ◌+◌, List, [], ◌∷◌, length}
 use Rattle.bac_driver.specs.Runs.{Timed}
 use Rattle.bac_driver.specs.declared.question.AskEnd.{AskEnd}
-use Rattle.bac_lists.specs.declared.question_lines.LineQuestion.{LineQuestion}
+use Rattle.bac_environment.specs.declared.question_lines.LineQuestion.{LineQuestion}
 use Rattle.bac_asking.specs.Fleets.{NEW_FLEET}
 use Rattle.bac_asking.specs.InFlight.{Aloft, EndsLine, Plan, aloft, new_sky}
 use Rattle.bac_environment.specs.Sockets.{Links}

@@ -1,6 +1,5 @@
 -- What the words of `ask` give, as they were read.
-use Rattle.std.specs.Prelude.{◌≡◌, ℕ, ◌*◌, min, Bool, true, false, List, codes, MatchOption, Option, Some, None}
-use Rattle.std.specs.Option.{option_map}
+use Rattle.std.specs.Prelude.{◌≡◌, ℕ, Bool, true, false, List, codes, MatchOption, Option, Some, None}
 use Rattle.clap.specs.declared.parser.matches.ArgMatches.{ArgMatches}
 use Rattle.bac_ask_report.specs.declared.cell_text.CellText.{CellText}
 use Rattle.bac_ask_report.specs.declared.cell_text.CellText.TheVariants as texts
@@ -8,11 +7,11 @@ use Rattle.bac_commands.specs.declared.online.output_format.OutputFormat.{Output
 use Rattle.bac_commands.specs.declared.online.output_format.Style.{Style}
 use Rattle.bac_commands.specs.declared.online.output_format.Style.TheVariants as style
 use Rattle.bac_driver.specs.Udp.{LOCAL_HOST}
-use Rattle.bac_driver.specs.Waits.{MOST}
-use Rattle.bac_lists.specs.Addresses.{IsLink, IsRoute, link_of}
+use Rattle.bac_environment.specs.Addresses.{IsLink, IsRoute, link_of}
 use Rattle.bac_npdu.specs.Peers.{PeerView, RouteView}
 use Rattle.bac_environment.specs.Given.{IsFlag, IsNumber, words_text}
-use Rattle.bac_asking.specs.Seconds.{AreNoSeconds, AreSeconds}
+use Rattle.bac_asking.specs.Seconds.{AreSeconds}
+use Rattle.bac_asking.specs.Timeouts.{IsTimeout}
 use Rattle.bac_asking.specs.declared.asking.Asking.{Asking}
 use Rattle.bac_asking.specs.declared.asking.Rounds.{Rounds}
 use Rattle.bac_asking.specs.declared.recording.RecordForm.{RecordForm}
@@ -53,20 +52,18 @@ pub record AreRecordsOf (given : ArgMatches) (records : Option RecordForm) : Typ
   pub raw_is : IsFlag given (codes "raw-text") raw
   pub are : records ≡ records_by json csv raw
 
--- a text is that time, or none
-abbrev pub IsPaceBy : (text : Option (List ℕ)) → (is : Option ℕ) → Type 0
-IsPaceBy None is = is ≡ None
-IsPaceBy (Some text) is = MatchOption is (AreNoSeconds text) (AreSeconds text)
+-- a text is that time, or none; without a text there is none
+abbrev pub IsReadBy : (Is : (text : List ℕ) → (milliseconds : ℕ) → Type 0) → (text : Option (List ℕ)) → (is : Option ℕ) → Type 0
+IsReadBy Is None is = is ≡ None
+IsReadBy Is (Some text) is = MatchOption is ((milliseconds : ℕ) → Is text milliseconds → ⊥) (Is text)
 
 -- the milliseconds between rounds
 abbrev pub IsPace : ArgMatches → (is : Option ℕ) → Type 0
-IsPace given is = IsPaceBy (words_text given (codes "every")) is
+IsPace given is = IsReadBy AreSeconds (words_text given (codes "every")) is
 
--- of whole seconds the milliseconds that it waits
-pub record IsPatience (given : ArgMatches) (is : Option ℕ) : Type 0 where
-  pub seconds : Option ℕ
-  pub seconds_are : IsNumber given (codes "timeout") seconds
-  pub are : is ≡ option_map (λ (s : ℕ). min (s * 1000) MOST) seconds
+-- the milliseconds that it waits
+abbrev pub IsPatience : ArgMatches → (is : Option ℕ) → Type 0
+IsPatience given is = IsReadBy IsTimeout (words_text given (codes "timeout")) is
 
 abbrev pub rounds_by : (every times : Option ℕ) → Option Rounds
 rounds_by None times = None

@@ -24,7 +24,7 @@ use Rattle.bac_driver.specs.declared.question.AskEnd.TheVariants as end
 use Rattle.bac_driver.specs.declared.turn.Turn.{Turn}
 use Rattle.bac_commands.specs.Spent.{is_spent}
 use Rattle.bac_commands.specs.declared.online.output_format.OutputFormat.{OutputFormat}
-use Rattle.bac_lists.specs.QuestionLines.{asker_of}
+use Rattle.bac_environment.specs.QuestionLines.{asker_of}
 use Rattle.bac_asking.specs.AskedLines.{AsksEach, PrintsFront}
 use Rattle.bac_asking.specs.Asking.{patience_for}
 use Rattle.bac_asking.specs.Clients.{HasAskedLong, IsRenewed}
@@ -38,7 +38,7 @@ use Rattle.bac_asking.specs.declared.flights.Begun.TheVariants as begun
 use Rattle.bac_asking.specs.declared.flights.Flight.{Flight}
 use Rattle.bac_asking.specs.declared.flights.Flights as code
 use Rattle.bac_asking.specs.declared.flights.Waiting.{Waiting}
-use Rattle.bac_lists.specs.declared.question_lines.LineQuestion.{LineQuestion}
+use Rattle.bac_environment.specs.declared.question_lines.LineQuestion.{LineQuestion}
 use Rattle.bac_asking.specs.declared.recording.RecordForm.{RecordForm}
 use Rattle.bac_asking.specs.declared.window.Plan as code_plan
 

@@ -12,3 +12,5 @@ pub mod InFlight
 pub mod Asked
 pub mod Gathering
 pub mod Seconds
+pub mod Timeouts
+pub mod Unheard

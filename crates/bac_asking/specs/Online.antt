@@ -1,12 +1,10 @@
 -- What `ask` and `pair` print, and their statuses: over links that the machine bound to the address of the command, and beside a clock that it made,
 -- bac_commands' promise holds.
-use Rattle.std.specs.Prelude.{ℕ, Bool, true, false, List, Option, Some}
-use Rattle.bac_protocol.specs.Service.{Octets}
-use Rattle.bac_transaction.specs.Given.{STRICTLY}
-use Rattle.bac_transaction.specs.declared.rules.Rules.{Rules}
+use Rattle.std.specs.Prelude.{◌≡◌, ℕ, Bool, true, false, List, Option, Some}
+use Rattle.bac_driver.specs.Nodes.{Octets, STRICTLY, Rules}
 use Rattle.bac_driver.specs.Udp.{LOCAL_HOST}
 use Rattle.bac_text.specs.declared.status.Status.{Status}
-use Rattle.bac_driver.specs.Moments.{Told}
+use Rattle.bac_driver.specs.Moments.{Told, with_moment}
 use Rattle.bac_driver.specs.Pairs.{Pair, paired}
 use Rattle.bac_driver.specs.Runs.{Timed}
 use Rattle.bac_driver.specs.BoundNodes.{BoundNode}
@@ -33,15 +31,26 @@ CLIENTS = record STRICTLY { memory = Some 67108864 }
 abbrev pub IsHouseAt : Links → (host : Octets) → (first_id : ℕ) → BoundNode → Type 0
 IsHouseAt IsOn host first_id bound_node = IsAt IsOn host FREE (house_node first_id) CLIENTS bound_node
 
--- one that asks for lists
-pub record IsClientAt (IsOn : Links) (host : Octets) (first_id : ℕ) (bound_node : BoundNode) : Type 0 where
+-- one that asks for lists, and begins at that moment
+pub record IsClientAt (IsOn : Links) (host : Octets) (now first_id : ℕ) (bound_node : BoundNode) : Type 0 where
   pub port : ℕ
-  pub at : IsAt IsOn host port (client_node first_id) CLIENTS bound_node
+  pub at : IsAt IsOn host port (client_node now first_id) CLIENTS bound_node
 
--- its invoke IDs begin anywhere
-pub record IsClient (IsOn : Links) (host : Octets) (bound_node : BoundNode) : Type 0 where
+-- beside a clock: it begins at the latest moment of that, and its invoke IDs begin anywhere
+pub record IsClient (IsOn : Links) (host : Octets) (begun : Timed) : Type 0 where
   pub first_id : ℕ
-  pub at : IsClientAt IsOn host first_id bound_node
+  pub at : IsClientAt IsOn host begun.told.last first_id begun.bound_node
+
+-- a clock printed one moment more
+pub record LooksOnce (old new : Told) : Type 0 where
+  pub moment : ℕ
+  pub is : new ≡ with_moment old moment
+
+-- one that was made printed one
+pub record HasLooked (IsClock : Clocks) (told : Told) : Type 0 where
+  pub made : Told
+  pub clock : IsClock made
+  pub looks : LooksOnce made told
 
 -- ---- asking
 
@@ -55,8 +64,8 @@ pub record IsHeaded (records : Option RecordForm) (has_names : Bool) (Does : Doi
 pub record ByClient (IsOn : Links) (IsClock : Clocks) (asking : Asking) (Round : Doing) (all : Bool) (old new : Option (List ℕ)) : Type 0 where
   pub before : Timed
   pub after : Timed
-  pub client : IsClient IsOn asking.host before.bound_node
-  pub clock : IsClock before.told
+  pub client : IsClient IsOn asking.host before
+  pub clock : HasLooked IsClock before.told
   pub rounds : IsHeaded asking.records asking.has_names (AreRounds asking.rounds Round) all before after old new
 
 -- ---- two nodes

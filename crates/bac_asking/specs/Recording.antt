@@ -12,7 +12,7 @@ use Rattle.bac_driver.specs.Asking.{Question}
 use Rattle.bac_driver.specs.declared.question.AskEnd.{AskEnd}
 use Rattle.bac_driver.specs.declared.question.AskEnd.TheVariants as end
 use Rattle.bac_json_report.specs.Lines.{IsLineOf}
-use Rattle.bac_lists.specs.QuestionLines.{Asker}
+use Rattle.bac_environment.specs.QuestionLines.{Asker}
 use Rattle.bac_requester.specs.Faults.{ask_fault_number}
 use Rattle.bac_requester.specs.declared.ending.Ending.{Ending}
 use Rattle.bac_requester.specs.declared.ending.Ending.TheVariants as ending

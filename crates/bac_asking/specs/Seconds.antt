@@ -3,7 +3,7 @@ use Rattle.std.specs.Prelude.{◌≡◌, ℕ, ◌^◌, ◌*◌, ◌+◌, ◌-◌
 use Rattle.std.specs.Bool.{MatchBool}
 use Rattle.std.specs.List.{after_first, before_first}
 use Rattle.std.specs.Str.Parse.{IsNumeral, digits_value}
-use Rattle.bac_lists.specs.Addresses.{IsNumber, has_octet, is_mark}
+use Rattle.bac_environment.specs.Addresses.{IsNumber, has_octet, is_mark}
 
 abbrev pub is_point : (octet : ℕ) → Bool
 is_point = is_mark 46

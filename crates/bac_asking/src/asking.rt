@@ -5,19 +5,19 @@ ghost use Rattle.bac_npdu.specs.Views.{peer_view, route_view};
 ghost use Rattle.bac_environment.specs.Given.{words_text};
 ghost use Rattle.bac_asking.specs.Asked.{for_lines};
 ghost use Rattle.bac_asking.specs.Asking.{patience_for};
-ghost use Rattle.bac_asking.specs.Given.{AreRecordsOf, AreRoundsOf, IsGiven, IsLinkGiven, IsOutputFormat, IsPace, IsPatience, IsPeerGiven, IsPortGiven, IsRouteBy, cell_text_by, is_json, is_raw, port_by, records_by, rounds_by, style_by};
+ghost use Rattle.bac_asking.specs.Given.{AreRecordsOf, AreRoundsOf, IsGiven, IsLinkGiven, IsOutputFormat, IsPace, IsPeerGiven, IsPortGiven, IsRouteBy, cell_text_by, is_json, is_raw, port_by, records_by, rounds_by, style_by};
 ghost use Rattle.bac_asking.specs.Rounds.{next_from};
 ghost use Rattle.bac_environment.specs.Limits.{turns_of};
 
-use crate::client_sockets::ClientSockets;
 use crate::recording::RecordForm;
-use crate::seconds::read_seconds;
+use crate::seconds::{bad_pace, read_seconds};
+use crate::timeout::{bad_timeout, timeout_of};
 use bac_ask_report::CellText;
 use bac_commands::{OutputFormat, Style};
 use bac_driver::WaitLimit;
-use bac_environment::{flag_of, number_of};
-use bac_lists::{
-    EVERY_HOST, LOCAL_HOST, LineQuestion, have_names, host_towards, link_at, read_link, read_route,
+use bac_environment::{
+    ClientSockets, EVERY_HOST, LOCAL_HOST, LineQuestion, flag_of, have_names, host_towards,
+    link_at, number_of, read_link, read_route,
 };
 use bac_npdu::{LinkAddress, Peer, Route};
 use clap::ArgMatches;
@@ -276,16 +276,6 @@ fn records_of(given: &ArgMatches<'_>) -> Option<RecordForm>
     records_by(json, csv, raw)
 }
 
-/// How many milliseconds it waits, where a number of seconds is given.
-fn patience_of(given: &ArgMatches<'_>) -> Option<u64>
-    ensures { IsPatience given.now result }
-{
-    match number_of(given, "timeout") {
-        Some(seconds) => Some(seconds.saturating_mul(1_000)),
-        None => None,
-    }
-}
-
 fn rounds_by(every: Option<u64>, times: Option<u64>) -> Option<Rounds>
     ensures { result ≡ rounds_by every times }
 {
@@ -331,18 +321,21 @@ pub fn default_of(given: &ArgMatches<'_>) -> Option<Option<Peer>> {
     }
 }
 
-/// How the arguments say that a node asks; the address is not chosen yet.
-pub fn asking_of(given: &ArgMatches<'_>, shows_progress: bool) -> Asking
-    ensures { IsGiven given.now result }
+/// How the arguments say that a node asks; the address is not chosen yet. None if the text given for `--timeout` or `--every` is invalid.
+pub fn asking_of(given: &ArgMatches<'_>, shows_progress: bool) -> Option<Asking>
+    ensures { IfSome result (IsGiven given.now) }
 {
-    Asking {
+    if bad_timeout(given).is_some() || bad_pace(given).is_some() {
+        return None;
+    }
+    Some(Asking {
         host: EVERY_HOST,
-        timeout: patience_of(given),
+        timeout: timeout_of(given),
         output_format: output_format_of(given),
         records: records_of(given),
         shows_progress,
         has_names: false,
         rounds: rounds_of(given),
         window: number_of(given, "window"),
-    }
+    })
 }

@@ -6,7 +6,7 @@ ghost use Rattle.bac_driver.specs.Runs.{timed};
 ghost use Rattle.bac_driver.specs.Views.{question_view};
 ghost use Rattle.bac_text.specs.Statuses.{IsFailure, IsStop};
 ghost use Rattle.bac_asking.specs.Asked.{AreAskedFrom, status_of};
-ghost use Rattle.bac_lists.specs.QuestionLines.{line_view};
+ghost use Rattle.bac_environment.specs.QuestionLines.{line_view};
 ghost use Rattle.bac_asking.specs.AskedLines.{AreRead, AsksEach, AsksLine, IsTextOf};
 ghost use Rattle.bac_asking.specs.Clients.{AsksAt, AsksFrom, AsksOn, IsReady, ends_spent};
 ghost use Rattle.bac_environment.specs.Files.{OfFile, OnFile};
@@ -14,14 +14,14 @@ ghost use Rattle.bac_environment.specs.Sockets.{OnClock, OnPort};
 
 use crate::asking::Asking;
 use crate::client::Client;
-use crate::client_sockets::ClientSockets;
 use crate::ends::{print_front, write_front};
 use crate::recording::{Printer, RecordForm, print_ask, print_unasked_record};
 use crate::rounds::{Asked, ask_by_client};
 use bac_commands::{AskCommand, ask_unprinted, is_spent};
 use bac_driver::{AskEnd, Clock, Link, Question};
-use bac_environment::{Environment, OpenFiles, Station, octets_of, opened};
-use bac_lists::{LineQuestion, questions_in};
+use bac_environment::{
+    ClientSockets, Environment, LineQuestion, OpenFiles, Station, octets_of, opened, questions_in,
+};
 use bac_npdu::Peer;
 use bac_text::Status;
 use std::alloc::Global;

@@ -2,23 +2,20 @@
 ghost use Rattle.std.specs.Prelude.{◌≡◌, ◌≢◌, ◌-◌, false, max, nat_le, IfErr, IfOk, IfSome};
 ghost use Rattle.bac_driver.specs.Runs.{timed};
 ghost use Rattle.bac_driver.specs.Views.{question_view};
-ghost use Rattle.bac_lists.specs.QuestionLines.{no_line};
+ghost use Rattle.bac_environment.specs.QuestionLines.{no_line};
 ghost use Rattle.bac_text.specs.Statuses.{IsFailure};
 ghost use Rattle.bac_asking.specs.Clients.{IsRenewed};
-ghost use Rattle.bac_asking.specs.Online.{IsClient};
+ghost use Rattle.bac_asking.specs.Online.{HasLooked, IsClient, LooksOnce};
 ghost use Rattle.bac_asking.specs.Recording.{PrintsAsk};
 ghost use Rattle.bac_environment.specs.Sockets.{OnClock, OnPort};
 
 use crate::asking::Asking;
-use crate::client_sockets::{ClientSockets, NoPair};
 use crate::pace::print_overdue;
 use crate::past_ports::PastPorts;
 use crate::recording::{Printer, Stamp, print_ask};
 use bac_commands::{bound_client, clock_unread, link_fault};
-use bac_driver::{AskEnd, BoundNode, Question};
-use bac_environment::{Station, print_no_link};
-use bac_guard::Guard;
-use bac_lists::NO_LINE;
+use bac_driver::{AskEnd, BoundNode, Clock, Question};
+use bac_environment::{ClientSockets, Guard, NO_LINE, NoPair, Station, print_no_link};
 use bac_npdu::LinkAddress;
 use bac_pairs::ClientPair;
 use bac_text::{Status, no_memory};
@@ -194,21 +191,33 @@ struct NoNode {
     is_stranded: bool,
 }
 
-/// A new node at a link of its own, bound at that moment as [`bind_apart`] does; the node at that address asks now. Where there is none, `err` and the status
-/// say so.
+/// What a new node is wanted for.
+#[derive(Clone, Copy)]
+struct Wanted {
+    /// The IPv4 address of this machine from which it asks.
+    host: [u8; 4],
+    /// A moment not after now.
+    now: u64,
+    /// The address of the node that asks now, where one does.
+    held: Option<LinkAddress>,
+}
+
+/// A new node at a link of its own, bound as [`bind_apart`] does. It begins at the moment of the clock once that is bound. Where there is none, `err` and the
+/// status say so.
 fn new_node<M: ClientSockets, E: Write>(
     alloc: Global,
     machine: &M,
-    host: [u8; 4],
     past: &PastPorts,
-    at: (u64, Option<LinkAddress>),
+    wanted: Wanted,
+    clock: &mut M::Timer,
     err: &mut E,
 ) -> Result<BoundNode<M::Link>, NoNode>
-    ensures node { IfOk result (λ b. IsClient (OnPort M.is_bound M.Link.failures M.Link.calls) host b) }
-    ensures apart { IfOk result (λ b. IfSome at.1 (λ own. b.node.link ≢ own)) }
+    ensures node { IfOk result (λ b. IsClient (OnPort M.is_bound M.Link.failures M.Link.calls) wanted.host (timed b (M.Timer.told clock.new))) }
+    ensures apart { IfOk result (λ b. IfSome wanted.held (λ own. b.node.link ≢ own)) }
+    ensures looked { IfOk result (λ _. LooksOnce (M.Timer.told clock.old) (M.Timer.told clock.new)) }
     ensures failed { IfErr result (λ none. IsFailure none.status) }
 {
-    let bound = match bind_apart(machine, host, past, at.0, at.1) {
+    let bound = match bind_apart(machine, wanted.host, past, wanted.now, wanted.held) {
         Ok(bound) => bound,
         Err(none) => {
             return Err(NoNode {
@@ -218,7 +227,8 @@ fn new_node<M: ClientSockets, E: Write>(
         }
     };
     let first_id = bound.pair.first_id;
-    let Ok(bound_node) = bound_client(alloc, bound.link, bound.address, first_id) else {
+    let now = clock.now();
+    let Ok(bound_node) = bound_client(alloc, bound.link, bound.address, now, first_id) else {
         return Err(NoNode {
             status: no_memory(err),
             is_stranded: false,
@@ -260,16 +270,22 @@ impl<'m, M: ClientSockets> Client<'m, M> {
         host: [u8; 4],
         err: &mut E,
     ) -> Result<Client<'m, M>, Status>
-        ensures node { IfOk result (λ c. IsClient (OnPort M.is_bound M.Link.failures M.Link.calls) host c.station.bound_node) }
-        ensures clock { IfOk result (λ c. OnClock M.is_made M.Timer.told (M.Timer.told c.station.clock)) }
+        ensures node { IfOk result (λ c. IsClient (OnPort M.is_bound M.Link.failures M.Link.calls) host
+            (timed c.station.bound_node (M.Timer.told c.station.clock))) }
+        ensures clock { IfOk result (λ c. HasLooked (OnClock M.is_made M.Timer.told) (M.Timer.told c.station.clock)) }
         ensures failed { IfErr result IsFailure }
     {
         // it begins at 0, before the share of the port is over
-        let Some(clock) = machine.timer() else {
+        let Some(mut clock) = machine.timer() else {
             return Err(clock_unread(err));
         };
         let past = PastPorts::new(alloc);
-        let bound_node = match new_node(alloc, machine, host, &past, (0, None), err) {
+        let wanted = Wanted {
+            host,
+            now: 0,
+            held: None,
+        };
+        let bound_node = match new_node(alloc, machine, &past, wanted, &mut clock, err) {
             Ok(bound_node) => bound_node,
             Err(none) => return Err(none.status),
         };
@@ -372,8 +388,13 @@ impl<'m, M: ClientSockets> Client<'m, M> {
         let node = self.station.bound_node.node();
         let now = node.latest();
         let own = node.link();
-        let at = (now, Some(own));
-        let bound_node = match new_node(alloc, self.machine, host, &self.past, at, err) {
+        let wanted = Wanted {
+            host,
+            now,
+            held: Some(own),
+        };
+        let clock = &mut self.station.clock;
+        let bound_node = match new_node(alloc, self.machine, &self.past, wanted, clock, err) {
             Ok(bound_node) => bound_node,
             Err(none) => {
                 self.is_stranded = none.is_stranded;

@@ -2,13 +2,13 @@
 ghost use Rattle.std.specs.Prelude.{IfErr, IfOk, OnOk};
 ghost use Rattle.std.specs.Io.KnownBytes.{Appends};
 ghost use Rattle.bac_text.specs.Statuses.{IsFailure};
-ghost use Rattle.bac_lists.specs.QuestionLines.{name_in_line};
+ghost use Rattle.bac_environment.specs.QuestionLines.{name_in_line};
 ghost use Rattle.bac_asking.specs.AskedLines.{PrintsFront, front_text};
 ghost use Rattle.bac_asking.specs.InFlight.{PrintsLine};
 
 use crate::recording::{Printer, RecordForm, print_ask};
 use bac_driver::AskEnd;
-use bac_lists::LineQuestion;
+use bac_environment::LineQuestion;
 use bac_text::{Status, output_failed};
 use std::io;
 use std::io::Write;

@@ -9,9 +9,8 @@ ghost use Rattle.bac_asking.specs.AskedOne.{IsAskedFrom};
 ghost use Rattle.bac_environment.specs.Sockets.{OnClock, OnPort};
 
 use crate::asking::Asking;
-use crate::client_sockets::ClientSockets;
 use crate::online;
-use bac_environment::{Environment, OpenFiles, octets_of, opened};
+use bac_environment::{ClientSockets, Environment, OpenFiles, octets_of, opened};
 use bac_npdu::Peer;
 use bac_text::{Status, no_memory};
 use std::alloc::{AllocError, Global};

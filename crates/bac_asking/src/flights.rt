@@ -6,7 +6,7 @@ ghost use Rattle.bac_asking.specs.InFlight.{AddsFlight, EndsWaiting, IsNewSky, I
 
 use bac_commands::is_spent;
 use bac_driver::{AskEnd, Turn, WaitLimit};
-use bac_lists::LineQuestion;
+use bac_environment::LineQuestion;
 use bac_node::Outcome;
 use bac_npdu::Peer;
 use bac_requester::{AskFault, Ended};

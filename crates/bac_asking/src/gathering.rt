@@ -8,14 +8,13 @@ ghost use Rattle.bac_environment.specs.Sockets.{OnPort};
 
 use crate::asking::Asking;
 use crate::client::Client;
-use crate::client_sockets::ClientSockets;
 use crate::fleet::Fleet;
 use crate::flights::Flights;
 use crate::peers::share_of;
 use crate::rota::Rota;
 use crate::window::{Plan, Traffic, end_line, part_with_all};
 use bac_driver::AskEnd;
-use bac_lists::LineQuestion;
+use bac_environment::{ClientSockets, LineQuestion};
 use bac_text::{Status, no_memory};
 use std::io::Write;
 

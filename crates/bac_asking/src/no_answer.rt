@@ -35,18 +35,28 @@ fn wait_text(
     format!(in alloc; "waited {seconds} s")
 }
 
-/// Writes that a node did not answer, how long it was waited for, and what to look at.
+/// Writes that a node did not answer, how that is known, and what to look at.
 fn write_no_answer<E: Write>(
+    alloc: Global,
+    peer: Peer,
+    known: &str,
+    err: &mut E,
+) -> io::Result<()> {
+    let peer = peer_text(alloc, peer)?;
+    writeln!(err, "no answer from {peer} ({known})")?;
+    err.write_all(ADVICE)
+}
+
+/// Writes that a node did not answer, how long it was waited for, and what to look at.
+fn write_waited<E: Write>(
     alloc: Global,
     peer: Peer,
     timeout: Option<u64>,
     outcome: Outcome<'_>,
     err: &mut E,
 ) -> io::Result<()> {
-    let peer = peer_text(alloc, peer)?;
     let wait = wait_text(alloc, timeout, outcome)?;
-    writeln!(err, "no answer from {peer} ({wait})")?;
-    err.write_all(ADVICE)
+    write_no_answer(alloc, peer, &wait, err)
 }
 
 /// Tells on `err` that a node did not answer, how long it was waited for, and what to look at. Call it for an ask whose outcome is that nothing came back.
@@ -59,5 +69,11 @@ pub fn tell_no_answer<E: Write>(
     err: &mut E,
 ) {
     // if that fails too, only the status is left
-    let _ = write_no_answer(alloc, peer, timeout, outcome, err);
+    let _ = write_waited(alloc, peer, timeout, outcome, err);
+}
+
+/// Tells on `err` that a node does not answer, since nothing listens at its UDP port, and what to look at.
+pub fn tell_unheard<E: Write>(alloc: Global, peer: Peer, err: &mut E) {
+    // if that fails too, only the status is left
+    let _ = write_no_answer(alloc, peer, "nothing listens at this port", err);
 }

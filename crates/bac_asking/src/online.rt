@@ -10,13 +10,12 @@ ghost use Rattle.bac_driver.specs.Views.{question_view};
 ghost use Rattle.bac_text.specs.Statuses.{IsFailure};
 
 use crate::asking::Asking;
-use crate::client_sockets::ClientSockets;
 use crate::rounds::{Asked, ask_by_client};
 use bac_commands::{Style, bound_house, clock_unread, read_question};
 use bac_driver::{BoundNode, Question};
-use bac_environment::{Environment, OpenFiles, print_no_link};
-use bac_guard::Guard;
-use bac_lists::{LOCAL_HOST, print_bad_words};
+use bac_environment::{
+    ClientSockets, Environment, Guard, LOCAL_HOST, OpenFiles, print_bad_words, print_no_link,
+};
 use bac_npdu::Peer;
 use bac_service_text::{FormFault, reads_file};
 use bac_text::{Status, no_memory};

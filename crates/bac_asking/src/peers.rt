@@ -1,5 +1,5 @@
 //! The peers of a list of requests.
-use bac_lists::LineQuestion;
+use bac_environment::LineQuestion;
 use std::alloc::{AllocError, Global};
 use std::collections::BTreeSet;
 

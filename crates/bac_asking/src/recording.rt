@@ -1,7 +1,7 @@
 //! Asks whose ends are printed as records: objects of JSON, or rows of CSV.
 ghost use Rattle.std.specs.Prelude.{◌≡◌, IfErr, IfOk, OnOk};
 ghost use Rattle.bac_ask_report.specs.Records.{outcome_view, record_view};
-ghost use Rattle.bac_lists.specs.QuestionLines.{asker_view};
+ghost use Rattle.bac_environment.specs.QuestionLines.{asker_view};
 ghost use Rattle.bac_asking.specs.Recording.{AreWordsOf, IsRecordText, PrintsAsk, PrintsHeader, PrintsRecord, outcome_of, outcome_of_ending, without_end};
 ghost use Rattle.bac_driver.specs.Views.{question_view};
 ghost use Rattle.bac_service.specs.Views.{owned_request_view};
@@ -14,7 +14,7 @@ use bac_ask_report::{
 };
 use bac_commands::{OutputFormat, Style, print_ask_end};
 use bac_driver::{AskEnd, Question};
-use bac_lists::Asker;
+use bac_environment::Asker;
 use bac_requester::Ending;
 use bac_service::OwnedRequest;
 use bac_text::{Status, output_failed};

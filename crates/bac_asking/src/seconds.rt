@@ -2,7 +2,7 @@
 ghost use Rattle.std.specs.Prelude.{◌≡◌, ◌&&◌, ◌<◌, ◌≤◌, ◌^◌, ◌-◌, ℕ, MatchOption, false, get_or, nat_eq, nat_le, nat_lt};
 ghost use Rattle.bac_asking.specs.Seconds.{AreDecimal, AreDigits, AreMilliseconds, AreNoSeconds, AreSeconds, AreWhole, GivesTime};
 
-use bac_lists::{parts_at, read_number};
+use bac_environment::{parts_at, read_number};
 use clap::ArgMatches;
 use std::io::Write;
 

@@ -1,6 +1,6 @@
 //! Nodes that did not answer since the system sends nothing to them.
-use crate::client_sockets::ClientSockets;
 use crate::rounds::Asked;
+use bac_environment::ClientSockets;
 use bac_npdu::LinkAddress;
 use bac_text::Status;
 use std::io::Write;

@@ -1,7 +1,7 @@
 -- The status of a call tells what it answered.
 use Rattle.std.proofs.Common.{◌≡◌, ℕ, refl, sym, ap, subst, ◌∙◌}
 use Rattle.std.specs.Prelude.{◌↔◌, Result, Ok, Err, IsErrOf, if◌then◌else◌, nat_eq}
-use Rattle.bac_c.specs.Statuses.{fault_number, status_of}
+use Rattle.bac_c.specs.Statuses.{IsStatusOf, fault_number, status_of}
 use Rattle.bac_c.specs.declared.fault.Fault.{Fault}
 use Rattle.bac_c.specs.declared.fault.Fault.TheVariants as fault
 
@@ -40,6 +40,28 @@ told (Err fault.BadValue) = refl
 
 pub status_tells : (r : Result (Unit {0}) Fault) (f : Fault) → (status_of r ≡ fault_number f) ↔ IsErrOf r f
 status_tells r f = ((λ e. sym (told r) ∙ ap answer_at e ∙ told (Err f)), (λ e. ap status_of e))
+
+-- so a number that is the status tells each of them
+pub status_is : (r : Result (Unit {0}) Fault) (s : ℕ) → s ≡ status_of r → IsStatusOf r s
+status_is r s is = record {
+  same = is;
+  clock_back = tells fault.ClockBack;
+  no_memory = tells fault.NoMemory;
+  not_open = tells fault.NotOpen;
+  not_started = tells fault.NotStarted;
+  already_open = tells fault.AlreadyOpen;
+  already_started = tells fault.AlreadyStarted;
+  bad_settings = tells fault.BadSettings;
+  bad_object = tells fault.BadObject;
+  duplicate = tells fault.Duplicate;
+  bad_request = tells fault.BadRequest;
+  no_such_object = tells fault.NoSuchObject;
+  no_such_property = tells fault.NoSuchProperty;
+  bad_value = tells fault.BadValue;
+}
+  where
+    tells : (f : Fault) → (s ≡ fault_number f) ↔ IsErrOf r f
+    tells f = subst (λ (n : ℕ). (n ≡ fault_number f) ↔ IsErrOf r f) (sym is) (status_tells r f)
 
 -- the fault that was answered; any one where none was
 abbrev fault_in : Result (Unit {0}) Fault → Fault

@@ -1,5 +1,5 @@
 -- What a C program asks for, and what comes of an ask.
-use Rattle.std.specs.Prelude.{◌≡◌, ◌<◌, ℕ, ℤ, nat_eq, Bool, true, false, if◌then◌else◌, List, [], Option, Some, None}
+use Rattle.std.specs.Prelude.{◌≡◌, ◌≢◌, ◌↔◌, ◌<◌, ℕ, ℤ, nat_eq, Bool, true, false, if◌then◌else◌, List, [], Option, Some, None, Result, IfErr, IfSome, IsErrOf}
 use Rattle.bac_apdu.specs.Apdu.{Limits}
 use Rattle.bac_npdu.specs.Peers.{PeerView}
 use Rattle.bac_value.specs.Value.{ObjectId}
@@ -13,7 +13,7 @@ use Rattle.bac_node.specs.Calls.{Refuses}
 use Rattle.bac_requester.specs.declared.ask_fault.AskFault.{AskFault}
 use Rattle.bac_requester.specs.declared.ask_fault.AskFault.TheVariants as ask
 use Rattle.bac_world.specs.Node.{Node, NodeAsks, Outcome}
-use Rattle.bac_c.specs.Devices.{HasRun, Runs, IsIdle}
+use Rattle.bac_c.specs.Devices.{HasRun, Holds, Runs, IsIdle}
 use Rattle.bac_c.specs.declared.device.Device.{Device}
 use Rattle.bac_c.specs.declared.fault.Fault.{Fault}
 use Rattle.bac_c.specs.declared.fault.Fault.TheVariants as fault
@@ -21,7 +21,7 @@ use Rattle.bac_c.specs.declared.question.Question.{Question}
 use Rattle.bac_c.specs.declared.question.Question.TheVariants as question
 use Rattle.bac_c.specs.declared.records.Reference.{Reference}
 use Rattle.bac_c.specs.declared.records.Target.{Target}
-use Rattle.bac_c.specs.Statuses.{fault_number}
+use Rattle.bac_c.specs.Statuses.{fault_number, BAD_REQUEST, CLOCK_BACK, NOT_OPEN, NOT_STARTED, NO_MEMORY}
 
 abbrev pub index_of : ℕ → Option ℕ
 index_of n = if nat_eq n 4294967295 then None else Some n
@@ -96,6 +96,22 @@ HasAsked now t r ticket = HasRun (IsAsking now t r ticket)
 -- the status of an ask says why it was refused, if it was
 abbrev pub IsRefusedAsk : (status : ℕ) → Bool → (now : ℕ) → Target → Request → Device → Type 0
 IsRefusedAsk status right now t r d = (f : Fault) → status ≡ fault_number f → AskRefused f right now t r d
+
+-- what the fault of an ask says of a device
+pub record IsAskFault {X : Type 0} (right : Bool) (now : ℕ) (t : Target) (r : Request) (d : Device) (result : Result X Fault) : Type 0 where
+  pub idle : IsErrOf result fault.NotStarted ↔ IsIdle d
+  pub bad : IsErrOf result fault.BadRequest ↔ Runs (λ n. right ≡ false) d
+  pub early : (IsErrOf result fault.NoMemory → ⊥) → (IsErrOf result fault.ClockBack ↔ IsEarly right now d)
+  pub not_closed : IsErrOf result fault.NotOpen → ⊥
+  pub why : IfErr result (λ e. AskRefused e right now t r d)
+
+-- what the status of an ask says of what is behind the handle
+pub record IsAskStatus (right : Bool) (now : ℕ) (t : Target) (r : Request) (held : Option Device) (status : ℕ) : Type 0 where
+  pub closed : (status ≡ NOT_OPEN) ↔ (held ≡ None)
+  pub idle : (status ≡ NOT_STARTED) ↔ Holds IsIdle held
+  pub bad : (status ≡ BAD_REQUEST) ↔ Holds (Runs (λ n. right ≡ false)) held
+  pub early : status ≢ NO_MEMORY → ((status ≡ CLOCK_BACK) ↔ Holds (IsEarly right now) held)
+  pub why : IfSome held (IsRefusedAsk status right now t r)
 
 abbrev pub fault_for : AskFault → Fault
 fault_for ask.ClockBack = fault.ClockBack

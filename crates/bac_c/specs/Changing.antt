@@ -1,12 +1,12 @@
 -- Changes that a C program makes at its own node.
-use Rattle.std.specs.Prelude.{◌≡◌, ◌≤◌, ℕ, Bool, true, false, List, length, Option, Some, None, MatchOption}
+use Rattle.std.specs.Prelude.{◌≡◌, ◌↔◌, ◌≤◌, ℕ, Bool, true, false, List, length, Option, Some, None, IfSome, MatchOption}
 use Rattle.bac_store.specs.AtNode.{Change, IsFaultOf, change_fault, octets_of}
 use Rattle.bac_store.specs.declared.change_fault.ChangeFault.{ChangeFault}
 use Rattle.bac_store.specs.declared.change_fault.ChangeFault.TheVariants as change
 use Rattle.bac_world.specs.Node.{with_change}
 use Rattle.bac_c.specs.Asking.{file_of, identifier_of}
-use Rattle.bac_c.specs.Devices.{IsIdle, Runs}
-use Rattle.bac_c.specs.Statuses.{fault_number}
+use Rattle.bac_c.specs.Devices.{Holds, IsIdle, Runs}
+use Rattle.bac_c.specs.Statuses.{fault_number, BAD_REQUEST, NOT_OPEN, NOT_STARTED}
 use Rattle.bac_c.specs.declared.device.Device.{Device}
 use Rattle.bac_c.specs.declared.fault.Fault.{Fault}
 use Rattle.bac_c.specs.declared.fault.Fault.TheVariants as fault
@@ -47,6 +47,13 @@ ChangeRefused _ right c d = ⊥
 -- the status of a change says why it was refused, if it was
 abbrev pub IsRefusedChange : (status : ℕ) → Bool → Change → Device → Type 0
 IsRefusedChange status right c d = (f : Fault) → status ≡ fault_number f → ChangeRefused f right c d
+
+-- what the status of a change says of what is behind the handle
+pub record IsChangeStatus (right : Bool) (c : Change) (held : Option Device) (status : ℕ) : Type 0 where
+  pub closed : (status ≡ NOT_OPEN) ↔ (held ≡ None)
+  pub idle : (status ≡ NOT_STARTED) ↔ Holds IsIdle held
+  pub bad : (status ≡ BAD_REQUEST) ↔ Holds (Runs (λ n. right ≡ false)) held
+  pub why : IfSome held (IsRefusedChange status right c)
 
 abbrev pub fault_for_change : ChangeFault → Fault
 fault_for_change change.NoSuchObject = fault.NoSuchObject

@@ -1,10 +1,11 @@
 -- What a call makes of what is behind a handle.
-use Rattle.std.specs.Prelude.{◌≡◌, ℕ, List, [], Option, None, MatchOption}
+use Rattle.std.specs.Prelude.{◌≡◌, ◌≢◌, ◌↔◌, ◌<◌, ℕ, List, [], Option, None, MatchOption}
 use Rattle.bac_world.specs.Node.{Node, Outcome}
 use Rattle.bac_node.specs.Memory.{IsWithin}
 use Rattle.bac_transaction.specs.Views.{rules_view}
 use Rattle.bac_node.specs.Serving.{NodeHearsBy}
 use Rattle.bac_node.specs.Views.{outcome_view}
+use Rattle.bac_c.specs.Statuses.{CLOCK_BACK, NOT_OPEN, NOT_STARTED}
 use Rattle.bac_c.specs.declared.device.Device.{Device}
 
 -- a handle holds a device, and this holds of it
@@ -14,6 +15,10 @@ Holds p held = MatchOption held ⊥ p
 -- a device whose node is not started
 abbrev pub IsIdle : Device → Type 0
 IsIdle d = d.node ≡ None
+
+-- a device whose node is started
+abbrev pub IsRunning : Device → Type 0
+IsRunning d = d.node ≢ None
 
 -- its node is started, and this holds of it
 abbrev pub Runs : (Node → Type 0) → Device → Type 0
@@ -50,3 +55,19 @@ pub record IsQuiet (d : Device) : Type 0 where
   pub effect : d.outcome.effect ≡ None
   pub ended : d.outcome.ended.items ≡ []
   pub dropped : d.outcome.dropped ≡ None
+
+-- a device that has just started: nothing that came of a call is there to be read, and no objects are listed any more
+pub record IsFresh (d : Device) : Type 0 where
+  pub quiet : IsQuiet d
+  pub unlisted : d.listed.items ≡ []
+
+-- the same, and no cells are listed any more either
+pub record IsFreshWithCells (d : Device) : Type 0 where
+  pub fresh : IsFresh d
+  pub unkept : d.kept ≡ []
+
+-- what the status of a datagram or of a tick says, at that moment, of what is behind the handle
+pub record IsTurnStatus (now : ℕ) (held : Option Device) (status : ℕ) : Type 0 where
+  pub closed : (status ≡ NOT_OPEN) ↔ (held ≡ None)
+  pub idle : (status ≡ NOT_STARTED) ↔ Holds IsIdle held
+  pub early : (status ≡ CLOCK_BACK) ↔ Holds (Runs (λ n. now < n.latest)) held

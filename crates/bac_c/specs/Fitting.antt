@@ -10,6 +10,7 @@ use Rattle.bac_keep.specs.declared.cell.Cell.{Cell}
 use Rattle.bac_keep.specs.declared.part.Part.{Part}
 use Rattle.bac_keep.specs.declared.part.Part.TheVariants as part
 use Rattle.bac_keep.specs.Cells.{Cells, file_place, value_place}
+use Rattle.bac_keep.specs.Held.{IsRising, held}
 use Rattle.bac_keep.specs.Overlay.{CHUNK, joined}
 use Rattle.bac_keep.specs.Parts.{IsSmall, place_for}
 use Rattle.bac_keep.specs.Restored.{is_writable_file, is_writable_value}
@@ -38,6 +39,10 @@ is_part false (Some octets) = length octets == CHUNK
 abbrev pub has_parts : Cells → ObjectId → (count first : ℕ) → Bool
 has_parts cells id count zero = true
 has_parts cells id count (suc k) = has_parts cells id count k && is_part (suc k == count) (cells (file_place id (suc k)))
+
+-- cells whose places rise have all parts of a file that has so many, or lack one
+abbrev pub HaveAllParts : List Cell → ObjectId → (count : ℕ) → Bool → Type 0
+HaveAllParts cells id count all = IsRising cells → has_parts (held cells) id count count ≡ all
 
 abbrev pub octets_fit : Store → ObjectId → List ℕ → Bool
 octets_fit s id octets = is_none (change_fault s (Change.File id octets))

@@ -1,5 +1,5 @@
 -- Cells that a C program keeps of its node, and a node that is started with them.
-use Rattle.std.specs.Prelude.{◌≡◌, ℕ, if◌then◌else◌, List, Option, Some, None, MatchOption}
+use Rattle.std.specs.Prelude.{◌≡◌, ◌≢◌, ℕ, if◌then◌else◌, List, Option, Some, None, Result, IsErrOf, MatchOption}
 use Rattle.bac_service.specs.Choices.{is_read_service}
 use Rattle.bac_service.specs.Values.{object_asked, property_asked, service_asked}
 use Rattle.bac_service.specs.Values.{Request}
@@ -13,13 +13,17 @@ use Rattle.bac_node.specs.declared.config.Config.{Config}
 use Rattle.bac_keep.specs.Cells.{Cells, with_cell}
 use Rattle.bac_keep.specs.Overlay.{overlay}
 use Rattle.bac_c.specs.Asking.{identifier_of}
-use Rattle.bac_c.specs.Fitting.{AreFit}
+use Rattle.bac_c.specs.Devices.{Holds}
+use Rattle.bac_c.specs.Fitting.{AreFit, HasUnfit}
 use Rattle.bac_c.specs.Kept.{cells_in}
 use Rattle.bac_c.specs.Performing.{is_done}
 use Rattle.bac_c.specs.Ranges.{is_reference}
 use Rattle.bac_c.specs.Starting.{IsConfigOf, IsSetBy, listed_in}
+use Rattle.bac_c.specs.Statuses.{BAD_VALUE}
 use Rattle.bac_c.specs.Telling.{Told, count_told, number_told, told}
 use Rattle.bac_c.specs.declared.device.Device.{Device}
+use Rattle.bac_c.specs.declared.fault.Fault.{Fault}
+use Rattle.bac_c.specs.declared.fault.Fault.TheVariants as fault
 use Rattle.bac_c.specs.declared.records.Reference.{Reference}
 use Rattle.bac_c.specs.declared.records.Settings.{Settings}
 
@@ -93,3 +97,13 @@ IsRestoredNode makes s now objects cells node = MatchOption node ⊥ (IsRestored
 
 abbrev pub HasRestored : (List Object → Store → Type 0) → Settings → (now : ℕ) → (old new : Option Device) → Type 0
 HasRestored makes s now old new = MatchOption old ⊥ (λ d. MatchOption new ⊥ (λ e. IsRestoredNode makes s now (listed_in d) (cells_in d.kept) e.node × IsSetBy s e))
+
+-- where a cell of a device does not fit, its place is put out, and nothing otherwise
+pub record PutsUnfit (Makes : List Object → Store → Type 0) (d : Device) (result : Result (Unit {0}) Fault) (old new : ℕ) : Type 0 where
+  pub unfit : IsErrOf result fault.BadValue → HasUnfit Makes (listed_in d) (cells_in d.kept) new
+  pub kept : (IsErrOf result fault.BadValue → ⊥) → new ≡ old
+
+-- the same, by the status that a C program sees
+pub record TellsUnfit (Makes : List Object → Store → Type 0) (held : Option Device) (status old new : ℕ) : Type 0 where
+  pub unfit : status ≡ BAD_VALUE → Holds (λ d. HasUnfit Makes (listed_in d) (cells_in d.kept) new) held
+  pub kept : status ≢ BAD_VALUE → new ≡ old

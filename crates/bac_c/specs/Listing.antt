@@ -1,11 +1,15 @@
 -- What is listed for a node that is to be started.
-use Rattle.std.specs.Prelude.{◌≡◌, ℕ, Bool, true, false, ◌&&◌, List, [], ◌∷◌, ◌++◌, Option, Some, None, MatchOption}
+use Rattle.std.specs.Prelude.{◌≡◌, ◌↔◌, ℕ, Bool, true, false, ◌&&◌, List, [], ◌∷◌, ◌++◌, Option, Some, None, Result, IsErrOf, IsTrue, MatchOption}
 use Rattle.bac_store.specs.AtNode.{is_data}
 use Rattle.bac_store.specs.Allowing.{Allowed}
 use Rattle.bac_store.specs.Kinds.{kind_of}
 use Rattle.bac_store.specs.Stores.{Object, Property}
-use Rattle.bac_c.specs.declared.device.Device.{Device}
+use Rattle.bac_c.specs.Devices.{Holds, IsRunning}
 use Rattle.bac_c.specs.Starting.{listed_in}
+use Rattle.bac_c.specs.Statuses.{is_one_of, status_of, ALREADY_STARTED, LISTING, NOT_OPEN}
+use Rattle.bac_c.specs.declared.device.Device.{Device}
+use Rattle.bac_c.specs.declared.fault.Fault.{Fault}
+use Rattle.bac_c.specs.declared.fault.Fault.TheVariants as fault
 
 -- an object without properties and without a file
 abbrev pub bare : (object_type instance : ℕ) → (name : List ℕ) → Object
@@ -73,13 +77,31 @@ pub record IsLastChanged (f : Object → Object) (old new : List Object) : Type 
   pub was : old ≡ front ++ last ∷ []
   pub is : new ≡ front ++ f last ∷ []
 
+-- nothing but the objects that are listed is other
+pub record ChangesOnlyObjects (d e : Device) : Type 0 where
+  pub kept : e.kept ≡ d.kept
+  pub node : e.node ≡ d.node
+  pub outcome : e.outcome ≡ d.outcome
+
 -- the same objects are listed, with the same cells, the same node and the same outcome
 abbrev pub IsAsListed : Device → Device → Type 0
-IsAsListed d e = (listed_in e ≡ listed_in d) × (e.kept ≡ d.kept) × (e.node ≡ d.node) × (e.outcome ≡ d.outcome)
+IsAsListed d e = (listed_in e ≡ listed_in d) × ChangesOnlyObjects d e
 
 abbrev pub StaysListed : (old new : Option Device) → Type 0
 StaysListed old new = MatchOption old (new ≡ None) (λ d. MatchOption new ⊥ (IsAsListed d))
 
 -- the objects that are listed are others, with the same cells, the same node and the same outcome
 abbrev pub HasListed : (List Object → List Object → Type 0) → (old new : Option Device) → Type 0
-HasListed goes old new = MatchOption old ⊥ (λ d. MatchOption new ⊥ (λ e. goes (listed_in d) (listed_in e) × (e.kept ≡ d.kept) × (e.node ≡ d.node) × (e.outcome ≡ d.outcome)))
+HasListed goes old new = MatchOption old ⊥ (λ d. MatchOption new ⊥ (λ e. goes (listed_in d) (listed_in e) × ChangesOnlyObjects d e))
+
+-- what the fault of a call that lists something says of a device
+pub record IsListFault (d : Device) (result : Result (Unit {0}) Fault) : Type 0 where
+  pub again : IsErrOf result fault.AlreadyStarted ↔ IsRunning d
+  pub few : IsTrue (is_one_of LISTING (status_of result))
+  pub not_closed : IsErrOf result fault.NotOpen → ⊥
+
+-- what its status says of what is behind the handle
+pub record IsListStatus (held : Option Device) (status : ℕ) : Type 0 where
+  pub closed : (status ≡ NOT_OPEN) ↔ (held ≡ None)
+  pub again : (status ≡ ALREADY_STARTED) ↔ Holds IsRunning held
+  pub few : IsTrue (is_one_of LISTING status)

@@ -1,5 +1,5 @@
 -- How a node is started.
-use Rattle.std.specs.Prelude.{◌≡◌, ℕ, Bool, ◌==◌, ◌&&◌, ◌||◌, if◌then◌else◌, nat_le, IsTrue, List, [], ◌∷◌, Option, Some, MatchOption, map}
+use Rattle.std.specs.Prelude.{◌≡◌, ◌≢◌, ◌↔◌, ℕ, Bool, ◌==◌, ◌&&◌, ◌||◌, if◌then◌else◌, nat_le, IsTrue, List, [], ◌∷◌, Option, Some, None, Result, IsErrOf, MatchOption, map}
 use Rattle.std.specs.List.{list_all}
 use Rattle.bac_apdu.specs.Spelling.{codes_fit}
 use Rattle.bac_store.specs.Described.{AreDescribed, IsDescribedBy}
@@ -15,8 +15,10 @@ use Rattle.bac_node.specs.declared.config.Config.{Config}
 use Rattle.bac_node.specs.declared.memory.TheConstants.{MEMORY}
 use Rattle.bac_transaction.specs.Given as given
 use Rattle.bac_transaction.specs.declared.rules.Rules.{Rules}
-use Rattle.bac_c.specs.Devices.{IsIdle}
+use Rattle.bac_c.specs.Devices.{Holds, IsIdle, IsRunning}
 use Rattle.bac_c.specs.declared.device.Device.{Device}
+use Rattle.bac_c.specs.declared.fault.Fault.{Fault}
+use Rattle.bac_c.specs.declared.fault.Fault.TheVariants as fault
 use Rattle.bac_c.specs.declared.records.Settings.{Settings}
 use Rattle.bac_c.specs.declared.rule.Rule.{Rule}
 use Rattle.bac_c.specs.declared.rule.Rule.TheVariants as rule
@@ -120,3 +122,33 @@ HasStarted makes s restart old new = MatchOption old ⊥ (λ d. MatchOption new 
 
 abbrev pub HasHouse : Settings → (new : Option Device) → Type 0
 HasHouse s new = MatchOption new ⊥ (λ e. IsHouseWith s e.node × IsSetBy s e)
+
+-- ---- a start that is refused
+
+-- it is not started, and a number of the settings is out of its range
+abbrev pub HasBadSettings : Settings → Device → Type 0
+HasBadSettings s d = IsIdle d × (IsTrue (is_right s) → ⊥)
+
+-- it could be started, but for two listed objects with one identifier
+abbrev pub HasTwins : Rule → Settings → Device → Type 0
+HasTwins r s d = IsReady s d × HaveTwins r (listed_in d)
+
+-- it could be started, but the listed objects are no store
+abbrev pub HasBadObjects : Rule → Settings → Device → Type 0
+HasBadObjects r s d = IsReady s d × AreBad r (listed_in d)
+
+-- what the fault of a start says of a device
+pub record IsStartFault (r : Rule) (s : Settings) (d : Device) (result : Result (Unit {0}) Fault) : Type 0 where
+  pub again : IsErrOf result fault.AlreadyStarted ↔ IsRunning d
+  pub settings : IsErrOf result fault.BadSettings ↔ HasBadSettings s d
+  pub duplicate : (IsErrOf result fault.NoMemory → ⊥) → (IsErrOf result fault.Duplicate ↔ HasTwins r s d)
+  pub bad : (IsErrOf result fault.NoMemory → ⊥) → (IsErrOf result fault.BadObject ↔ HasBadObjects r s d)
+  pub not_closed : IsErrOf result fault.NotOpen → ⊥
+
+-- what the status of a start says of what is behind the handle
+pub record IsStartStatus (r : Rule) (s : Settings) (held : Option Device) (status : ℕ) : Type 0 where
+  pub closed : (status ≡ NOT_OPEN) ↔ (held ≡ None)
+  pub again : (status ≡ ALREADY_STARTED) ↔ Holds IsRunning held
+  pub settings : (status ≡ BAD_SETTINGS) ↔ Holds (HasBadSettings s) held
+  pub duplicate : status ≢ NO_MEMORY → ((status ≡ DUPLICATE) ↔ Holds (HasTwins r s) held)
+  pub bad : status ≢ NO_MEMORY → ((status ≡ BAD_OBJECT) ↔ Holds (HasBadObjects r s) held)

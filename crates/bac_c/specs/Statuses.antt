@@ -1,5 +1,5 @@
 -- The status of a call, as a C program sees it: 0 where it was done, otherwise the number of a fault (own numbers of this library).
-use Rattle.std.specs.Prelude.{ℕ, Bool, false, ◌==◌, ◌||◌, List, [], ◌∷◌, Result, Ok, Err}
+use Rattle.std.specs.Prelude.{◌≡◌, ◌↔◌, ℕ, Bool, false, ◌==◌, ◌||◌, List, [], ◌∷◌, Result, Ok, Err, IsErrOf}
 use Rattle.bac_c.specs.declared.fault.Fault.{Fault}
 use Rattle.bac_c.specs.declared.fault.Fault.TheVariants as fault
 
@@ -87,6 +87,23 @@ status_of (Err f) = fault_number f
 abbrev pub is_one_of : List ℕ → ℕ → Bool
 is_one_of [] n = false
 is_one_of (x ∷ xs) n = (n == x) || is_one_of xs n
+
+-- the status of what was done, which tells the fault if there is one
+pub record IsStatusOf (done : Result (Unit {0}) Fault) (status : ℕ) : Type 0 where
+  pub same : status ≡ status_of done
+  pub clock_back : (status ≡ CLOCK_BACK) ↔ IsErrOf done fault.ClockBack
+  pub no_memory : (status ≡ NO_MEMORY) ↔ IsErrOf done fault.NoMemory
+  pub not_open : (status ≡ NOT_OPEN) ↔ IsErrOf done fault.NotOpen
+  pub not_started : (status ≡ NOT_STARTED) ↔ IsErrOf done fault.NotStarted
+  pub already_open : (status ≡ ALREADY_OPEN) ↔ IsErrOf done fault.AlreadyOpen
+  pub already_started : (status ≡ ALREADY_STARTED) ↔ IsErrOf done fault.AlreadyStarted
+  pub bad_settings : (status ≡ BAD_SETTINGS) ↔ IsErrOf done fault.BadSettings
+  pub bad_object : (status ≡ BAD_OBJECT) ↔ IsErrOf done fault.BadObject
+  pub duplicate : (status ≡ DUPLICATE) ↔ IsErrOf done fault.Duplicate
+  pub bad_request : (status ≡ BAD_REQUEST) ↔ IsErrOf done fault.BadRequest
+  pub no_such_object : (status ≡ NO_SUCH_OBJECT) ↔ IsErrOf done fault.NoSuchObject
+  pub no_such_property : (status ≡ NO_SUCH_PROPERTY) ↔ IsErrOf done fault.NoSuchProperty
+  pub bad_value : (status ≡ BAD_VALUE) ↔ IsErrOf done fault.BadValue
 
 -- ---- which statuses a call answers
 

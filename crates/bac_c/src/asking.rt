@@ -1,9 +1,9 @@
 //! Asks.
-ghost use Rattle.std.specs.Prelude.{◌≡◌, ◌≢◌, ◌↔◌, false, IfErr, IfOk, IfSome, IsErrOf, IsTrue, None, OnErr};
-ghost use Rattle.bac_c.specs.Asking.{fault_for, get_of, put_of, read_of, request_of as plain_request, write_of, AskRefused, HasAsked, IsAsking, IsEarly, IsRefusedAsk};
-ghost use Rattle.bac_c.specs.Devices.{Holds, IsIdle, Ran, Runs};
+ghost use Rattle.std.specs.Prelude.{◌≡◌, ◌≢◌, IfOk, IsTrue, OnErr};
+ghost use Rattle.bac_c.specs.Asking.{fault_for, get_of, put_of, read_of, request_of as plain_request, write_of, HasAsked, IsAskFault, IsAskStatus, IsAsking};
+ghost use Rattle.bac_c.specs.Devices.{Ran};
 ghost use Rattle.bac_c.specs.Ranges.{can_ask, is_instance, is_put, is_question, is_reference, is_written};
-ghost use Rattle.bac_c.specs.Statuses.{is_one_of, status_of, ASKING, BAD_REQUEST, CLOCK_BACK, DONE, NOT_OPEN, NOT_STARTED, NO_MEMORY};
+ghost use Rattle.bac_c.specs.Statuses.{is_one_of, status_of, ASKING, DONE};
 
 use crate::device::Device;
 use crate::fault::{Fault, status};
@@ -42,13 +42,8 @@ impl Device {
         question: &Question<'_>,
     ) -> Result<u64, Fault>
         ensures asked { IfOk result (λ t. Ran (IsAsking now target.now (plain_request question.now) t) self.old self.new) }
-        ensures idle { IsErrOf result Fault.NotStarted ↔ IsIdle self.old }
-        ensures bad { IsErrOf result Fault.BadRequest ↔ Runs (λ n. can_ask target.now (is_question question.now) ≡ false) self.old }
-        ensures early { (IsErrOf result Fault.NoMemory → ⊥)
-            → (IsErrOf result Fault.ClockBack ↔ IsEarly (can_ask target.now (is_question question.now)) now self.old) }
+        ensures fault { IsAskFault (can_ask target.now (is_question question.now)) now target.now (plain_request question.now) self.old result }
         ensures few { IsTrue (is_one_of ASKING (status_of result)) }
-        ensures open { IsErrOf result Fault.NotOpen → ⊥ }
-        ensures refused { IfErr result (λ e. AskRefused e (can_ask target.now (is_question question.now)) now target.now (plain_request question.now) self.old) }
         ensures err { OnErr result (self.new ≡ self.old) }
     {
         let Some(node) = &mut self.node else {
@@ -96,12 +91,8 @@ fn ask_by(
     ticket: &mut u64,
 ) -> u32
     ensures went { result ≡ DONE → HasAsked now target.now (plain_request question.now) ticket.new handle.old.parked.device handle.new.parked.device }
-    ensures closed { (result ≡ NOT_OPEN) ↔ (handle.old.parked.device ≡ None) }
-    ensures idle { (result ≡ NOT_STARTED) ↔ Holds IsIdle handle.old.parked.device }
-    ensures bad { (result ≡ BAD_REQUEST) ↔ Holds (Runs (λ n. can_ask target.now (is_question question.now) ≡ false)) handle.old.parked.device }
-    ensures early { result ≢ NO_MEMORY → ((result ≡ CLOCK_BACK) ↔ Holds (IsEarly (can_ask target.now (is_question question.now)) now) handle.old.parked.device) }
+    ensures status { IsAskStatus (can_ask target.now (is_question question.now)) now target.now (plain_request question.now) handle.old.parked.device result }
     ensures few { IsTrue (is_one_of ASKING result) }
-    ensures refused { IfSome handle.old.parked.device (IsRefusedAsk result (can_ask target.now (is_question question.now)) now target.now (plain_request question.now)) }
     ensures kept { result ≢ DONE → ticket.new ≡ ticket.old }
     ensures err { result ≢ DONE → handle.new.parked.device ≡ handle.old.parked.device }
 {
@@ -130,12 +121,8 @@ pub extern "C" fn bac_ask_read(
     ticket: &mut u64,
 ) -> u32
     ensures went { result ≡ DONE → HasAsked now target.now (read_of reference.now) ticket.new handle.old.parked.device handle.new.parked.device }
-    ensures closed { (result ≡ NOT_OPEN) ↔ (handle.old.parked.device ≡ None) }
-    ensures idle { (result ≡ NOT_STARTED) ↔ Holds IsIdle handle.old.parked.device }
-    ensures bad { (result ≡ BAD_REQUEST) ↔ Holds (Runs (λ n. can_ask target.now (is_reference reference.now) ≡ false)) handle.old.parked.device }
-    ensures early { result ≢ NO_MEMORY → ((result ≡ CLOCK_BACK) ↔ Holds (IsEarly (can_ask target.now (is_reference reference.now)) now) handle.old.parked.device) }
+    ensures status { IsAskStatus (can_ask target.now (is_reference reference.now)) now target.now (read_of reference.now) handle.old.parked.device result }
     ensures few { IsTrue (is_one_of ASKING result) }
-    ensures refused { IfSome handle.old.parked.device (IsRefusedAsk result (can_ask target.now (is_reference reference.now)) now target.now (read_of reference.now)) }
     ensures kept { result ≢ DONE → ticket.new ≡ ticket.old }
     ensures err { result ≢ DONE → handle.new.parked.device ≡ handle.old.parked.device }
 {
@@ -156,12 +143,8 @@ pub extern "C" fn bac_ask_write(
     ticket: &mut u64,
 ) -> u32
     ensures went { result ≡ DONE → HasAsked now target.now (write_of reference.now octets.now priority) ticket.new handle.old.parked.device handle.new.parked.device }
-    ensures closed { (result ≡ NOT_OPEN) ↔ (handle.old.parked.device ≡ None) }
-    ensures idle { (result ≡ NOT_STARTED) ↔ Holds IsIdle handle.old.parked.device }
-    ensures bad { (result ≡ BAD_REQUEST) ↔ Holds (Runs (λ n. can_ask target.now (is_written reference.now octets.now priority) ≡ false)) handle.old.parked.device }
-    ensures early { result ≢ NO_MEMORY → ((result ≡ CLOCK_BACK) ↔ Holds (IsEarly (can_ask target.now (is_written reference.now octets.now priority)) now) handle.old.parked.device) }
+    ensures status { IsAskStatus (can_ask target.now (is_written reference.now octets.now priority)) now target.now (write_of reference.now octets.now priority) handle.old.parked.device result }
     ensures few { IsTrue (is_one_of ASKING result) }
-    ensures refused { IfSome handle.old.parked.device (IsRefusedAsk result (can_ask target.now (is_written reference.now octets.now priority)) now target.now (write_of reference.now octets.now priority)) }
     ensures kept { result ≢ DONE → ticket.new ≡ ticket.old }
     ensures err { result ≢ DONE → handle.new.parked.device ≡ handle.old.parked.device }
 {
@@ -186,12 +169,8 @@ pub extern "C" fn bac_ask_put(
     ticket: &mut u64,
 ) -> u32
     ensures went { result ≡ DONE → HasAsked now target.now (put_of file position octets.now) ticket.new handle.old.parked.device handle.new.parked.device }
-    ensures closed { (result ≡ NOT_OPEN) ↔ (handle.old.parked.device ≡ None) }
-    ensures idle { (result ≡ NOT_STARTED) ↔ Holds IsIdle handle.old.parked.device }
-    ensures bad { (result ≡ BAD_REQUEST) ↔ Holds (Runs (λ n. can_ask target.now (is_put file octets.now) ≡ false)) handle.old.parked.device }
-    ensures early { result ≢ NO_MEMORY → ((result ≡ CLOCK_BACK) ↔ Holds (IsEarly (can_ask target.now (is_put file octets.now)) now) handle.old.parked.device) }
+    ensures status { IsAskStatus (can_ask target.now (is_put file octets.now)) now target.now (put_of file position octets.now) handle.old.parked.device result }
     ensures few { IsTrue (is_one_of ASKING result) }
-    ensures refused { IfSome handle.old.parked.device (IsRefusedAsk result (can_ask target.now (is_put file octets.now)) now target.now (put_of file position octets.now)) }
     ensures kept { result ≢ DONE → ticket.new ≡ ticket.old }
     ensures err { result ≢ DONE → handle.new.parked.device ≡ handle.old.parked.device }
 {
@@ -216,12 +195,8 @@ pub extern "C" fn bac_ask_get(
     ticket: &mut u64,
 ) -> u32
     ensures went { result ≡ DONE → HasAsked now target.now (get_of file position count) ticket.new handle.old.parked.device handle.new.parked.device }
-    ensures closed { (result ≡ NOT_OPEN) ↔ (handle.old.parked.device ≡ None) }
-    ensures idle { (result ≡ NOT_STARTED) ↔ Holds IsIdle handle.old.parked.device }
-    ensures bad { (result ≡ BAD_REQUEST) ↔ Holds (Runs (λ n. can_ask target.now (is_instance file) ≡ false)) handle.old.parked.device }
-    ensures early { result ≢ NO_MEMORY → ((result ≡ CLOCK_BACK) ↔ Holds (IsEarly (can_ask target.now (is_instance file)) now) handle.old.parked.device) }
+    ensures status { IsAskStatus (can_ask target.now (is_instance file)) now target.now (get_of file position count) handle.old.parked.device result }
     ensures few { IsTrue (is_one_of ASKING result) }
-    ensures refused { IfSome handle.old.parked.device (IsRefusedAsk result (can_ask target.now (is_instance file)) now target.now (get_of file position count)) }
     ensures kept { result ≢ DONE → ticket.new ≡ ticket.old }
     ensures err { result ≢ DONE → handle.new.parked.device ≡ handle.old.parked.device }
 {

@@ -1,11 +1,11 @@
 //! Changes of the node's own store.
-ghost use Rattle.std.specs.Prelude.{◌≡◌, ◌≢◌, ◌↔◌, ◌≤◌, false, true, length, IfErr, IfOk, IfSome, IsErrOf, IsTrue, None, OnErr, OnOk};
+ghost use Rattle.std.specs.Prelude.{◌≡◌, ◌≢◌, ◌↔◌, ◌≤◌, false, true, length, IfErr, IfOk, IsErrOf, IsTrue, OnErr, OnOk};
 ghost use Rattle.bac_store.specs.AtNode.{octets_of};
 ghost use Rattle.bac_store.specs.Views.{change_view};
-ghost use Rattle.bac_c.specs.Changing.{change_for, contents_of, fault_for_change, value_of, ChangeRefused, Changes, HasChanged, IsRefusedChange};
-ghost use Rattle.bac_c.specs.Devices.{Holds, IsIdle, Runs};
+ghost use Rattle.bac_c.specs.Changing.{change_for, contents_of, fault_for_change, value_of, ChangeRefused, Changes, HasChanged, IsChangeStatus};
+ghost use Rattle.bac_c.specs.Devices.{IsIdle, Runs};
 ghost use Rattle.bac_c.specs.Ranges.{is_identifier, is_instance, is_setting, IsUnready};
-ghost use Rattle.bac_c.specs.Statuses.{is_one_of, status_of, BAD_REQUEST, CHANGING, DONE, NOT_OPEN, NOT_STARTED};
+ghost use Rattle.bac_c.specs.Statuses.{is_one_of, status_of, CHANGING, DONE};
 
 use crate::copying::copied_octets;
 use crate::device::Device;
@@ -91,11 +91,8 @@ impl Device {
 #[tactic(auto, using(crate::proofs::Refusals::done_keeps, crate::proofs::Refusals::keeps))]
 fn change_by(alloc: Global, handle: &mut Handle, setting: &Setting<'_>) -> u32
     ensures went { result ≡ DONE → HasChanged (change_for setting.now) handle.old.parked.device handle.new.parked.device }
-    ensures closed { (result ≡ NOT_OPEN) ↔ (handle.old.parked.device ≡ None) }
-    ensures idle { (result ≡ NOT_STARTED) ↔ Holds IsIdle handle.old.parked.device }
-    ensures bad { (result ≡ BAD_REQUEST) ↔ Holds (Runs (λ n. is_setting setting.now ≡ false)) handle.old.parked.device }
+    ensures status { IsChangeStatus (is_setting setting.now) (change_for setting.now) handle.old.parked.device result }
     ensures few { IsTrue (is_one_of CHANGING result) }
-    ensures refused { IfSome handle.old.parked.device (IsRefusedChange result (is_setting setting.now) (change_for setting.now)) }
     ensures err { result ≢ DONE → handle.new.parked.device ≡ handle.old.parked.device }
 {
     let Some(mut device) = handle.take(alloc) else {
@@ -120,11 +117,8 @@ pub extern "C" fn bac_set_value(
     octets: &[u8],
 ) -> u32
     ensures went { result ≡ DONE → HasChanged (value_of object_type instance property octets.now) handle.old.parked.device handle.new.parked.device }
-    ensures closed { (result ≡ NOT_OPEN) ↔ (handle.old.parked.device ≡ None) }
-    ensures idle { (result ≡ NOT_STARTED) ↔ Holds IsIdle handle.old.parked.device }
-    ensures bad { (result ≡ BAD_REQUEST) ↔ Holds (Runs (λ n. is_identifier object_type instance ≡ false)) handle.old.parked.device }
+    ensures status { IsChangeStatus (is_identifier object_type instance) (value_of object_type instance property octets.now) handle.old.parked.device result }
     ensures few { IsTrue (is_one_of CHANGING result) }
-    ensures refused { IfSome handle.old.parked.device (IsRefusedChange result (is_identifier object_type instance) (value_of object_type instance property octets.now)) }
     ensures err { result ≢ DONE → handle.new.parked.device ≡ handle.old.parked.device }
 {
     let setting = Setting::Value {
@@ -140,11 +134,8 @@ pub extern "C" fn bac_set_value(
 #[unsafe(no_mangle)]
 pub extern "C" fn bac_set_file(alloc: Global, handle: &mut Handle, file: u32, octets: &[u8]) -> u32
     ensures went { result ≡ DONE → HasChanged (contents_of file octets.now) handle.old.parked.device handle.new.parked.device }
-    ensures closed { (result ≡ NOT_OPEN) ↔ (handle.old.parked.device ≡ None) }
-    ensures idle { (result ≡ NOT_STARTED) ↔ Holds IsIdle handle.old.parked.device }
-    ensures bad { (result ≡ BAD_REQUEST) ↔ Holds (Runs (λ n. is_instance file ≡ false)) handle.old.parked.device }
+    ensures status { IsChangeStatus (is_instance file) (contents_of file octets.now) handle.old.parked.device result }
     ensures few { IsTrue (is_one_of CHANGING result) }
-    ensures refused { IfSome handle.old.parked.device (IsRefusedChange result (is_instance file) (contents_of file octets.now)) }
     ensures err { result ≢ DONE → handle.new.parked.device ≡ handle.old.parked.device }
 {
     let setting = Setting::File {

@@ -1,8 +1,6 @@
 //! Why a call was refused, and its status for a C program.
-ghost use Rattle.std.specs.Prelude.{◌≡◌, ◌↔◌, IsErrOf};
-ghost use Rattle.bac_c.specs.Statuses.{fault_number, status_of};
-ghost use Rattle.bac_c.specs.Statuses.{ALREADY_OPEN, ALREADY_STARTED, BAD_OBJECT, BAD_REQUEST, BAD_SETTINGS, BAD_VALUE, CLOCK_BACK, DUPLICATE};
-ghost use Rattle.bac_c.specs.Statuses.{NOT_OPEN, NOT_STARTED, NO_MEMORY, NO_SUCH_OBJECT, NO_SUCH_PROPERTY};
+ghost use Rattle.std.specs.Prelude.{◌≡◌};
+ghost use Rattle.bac_c.specs.Statuses.{fault_number, IsStatusOf};
 ghost use Rattle.bac_c.specs.declared.fault.Fault.TheVariants as fault;
 
 use bac_value::NoMemory;
@@ -75,22 +73,9 @@ impl From<AllocError> for Fault {
 }
 
 /// The status of a call: 0 where it was done, otherwise the fault's number.
-#[tactic(auto, using(crate::proofs::Numbers::status_tells))]
+#[tactic(auto, using(crate::proofs::Numbers::status_is))]
 pub fn status(done: Result<(), Fault>) -> u32
-    ensures same { result ≡ status_of done }
-    ensures clock_back { (result ≡ CLOCK_BACK) ↔ IsErrOf done Fault.ClockBack }
-    ensures no_memory { (result ≡ NO_MEMORY) ↔ IsErrOf done Fault.NoMemory }
-    ensures not_open { (result ≡ NOT_OPEN) ↔ IsErrOf done Fault.NotOpen }
-    ensures not_started { (result ≡ NOT_STARTED) ↔ IsErrOf done Fault.NotStarted }
-    ensures already_open { (result ≡ ALREADY_OPEN) ↔ IsErrOf done Fault.AlreadyOpen }
-    ensures already_started { (result ≡ ALREADY_STARTED) ↔ IsErrOf done Fault.AlreadyStarted }
-    ensures bad_settings { (result ≡ BAD_SETTINGS) ↔ IsErrOf done Fault.BadSettings }
-    ensures bad_object { (result ≡ BAD_OBJECT) ↔ IsErrOf done Fault.BadObject }
-    ensures duplicate { (result ≡ DUPLICATE) ↔ IsErrOf done Fault.Duplicate }
-    ensures bad_request { (result ≡ BAD_REQUEST) ↔ IsErrOf done Fault.BadRequest }
-    ensures no_such_object { (result ≡ NO_SUCH_OBJECT) ↔ IsErrOf done Fault.NoSuchObject }
-    ensures no_such_property { (result ≡ NO_SUCH_PROPERTY) ↔ IsErrOf done Fault.NoSuchProperty }
-    ensures bad_value { (result ≡ BAD_VALUE) ↔ IsErrOf done Fault.BadValue }
+    ensures { IsStatusOf done result }
 {
     match done {
         Ok(()) => 0,

@@ -1,11 +1,10 @@
 //! Limits of a property that the network may write.
-ghost use Rattle.std.specs.Prelude.{◌≡◌, ◌≢◌, ◌↔◌, ◌++◌, ◌∷◌, [], false, true, IsErrOf, IsTrue, None, OnErr, OnOk};
-ghost use Rattle.bac_store.specs.AtNode.{is_data};
+ghost use Rattle.std.specs.Prelude.{◌≡◌, ◌≢◌, ◌↔◌, false, IsErrOf, IsTrue, OnErr, OnOk};
 ghost use Rattle.bac_store.specs.Views.{object_view};
 ghost use Rattle.bac_c.specs.Devices.{Holds, IsIdle};
-ghost use Rattle.bac_c.specs.Listing.{can_limit, limited as limited_object, lists_property, HasListed, IsLastChanged, StaysListed};
+ghost use Rattle.bac_c.specs.Listing.{can_limit, limited as limited_object, lists_property, ChangesOnlyObjects, HasListed, IsLastChanged, IsListFault, IsListStatus, StaysListed};
 ghost use Rattle.bac_c.specs.Starting.{listed_in};
-ghost use Rattle.bac_c.specs.Statuses.{is_one_of, status_of, ALREADY_STARTED, BAD_OBJECT, DONE, LISTING, NOT_OPEN, NO_MEMORY};
+ghost use Rattle.bac_c.specs.Statuses.{BAD_OBJECT, DONE, NO_MEMORY};
 
 use crate::device::Device;
 use crate::fault::{Fault, status};
@@ -37,14 +36,10 @@ impl Device {
     #[tactic(auto, using(crate::proofs::Lists::last_changed, crate::proofs::Lists::last_kept, crate::proofs::Limits::last_has))]
     pub fn limit(&mut self, alloc: Global, least: &[u8], greatest: &[u8]) -> Result<(), Fault>
         ensures listed { OnOk result (IsLastChanged (limited_object least.now greatest.now) (listed_in self.old) (listed_in self.new)) }
-        ensures again { IsErrOf result Fault.AlreadyStarted ↔ (self.old.node ≢ None) }
+        ensures fault { IsListFault self.old result }
         ensures bad { (IsErrOf result Fault.NoMemory → ⊥)
             → (IsErrOf result Fault.BadObject ↔ IsIdle self.old × (can_limit least.now greatest.now (listed_in self.old) ≡ false)) }
-        ensures few { IsTrue (is_one_of LISTING (status_of result)) }
-        ensures open { IsErrOf result Fault.NotOpen → ⊥ }
-        ensures kept { self.new.kept ≡ self.old.kept }
-        ensures node { self.new.node ≡ self.old.node }
-        ensures outcome { self.new.outcome ≡ self.old.outcome }
+        ensures rest { ChangesOnlyObjects self.old self.new }
         ensures err { OnErr result (listed_in self.new ≡ listed_in self.old) }
     {
         if self.node.is_some() {
@@ -77,11 +72,9 @@ pub extern "C" fn bac_limit(
     greatest: &[u8],
 ) -> u32
     ensures went { result ≡ DONE → HasListed (IsLastChanged (limited_object least.now greatest.now)) handle.old.parked.device handle.new.parked.device }
-    ensures closed { (result ≡ NOT_OPEN) ↔ (handle.old.parked.device ≡ None) }
-    ensures again { (result ≡ ALREADY_STARTED) ↔ Holds (λ d. d.node ≢ None) handle.old.parked.device }
+    ensures status { IsListStatus handle.old.parked.device result }
     ensures bad { result ≢ NO_MEMORY
         → ((result ≡ BAD_OBJECT) ↔ Holds (λ d. IsIdle d × (can_limit least.now greatest.now (listed_in d) ≡ false)) handle.old.parked.device) }
-    ensures few { IsTrue (is_one_of LISTING result) }
     ensures err { result ≢ DONE → StaysListed handle.old.parked.device handle.new.parked.device }
 {
     let Some(mut device) = handle.take(alloc) else {

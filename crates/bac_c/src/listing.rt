@@ -1,11 +1,11 @@
 //! The objects of a node that is to be started.
-ghost use Rattle.std.specs.Prelude.{◌≡◌, ◌≢◌, ◌↔◌, ◌++◌, ◌∷◌, [], false, IfOk, IsErrOf, IsTrue, None, OnErr, OnOk};
+ghost use Rattle.std.specs.Prelude.{◌≡◌, ◌≢◌, ◌↔◌, ◌++◌, ◌∷◌, [], false, IfOk, IsErrOf, IsTrue, OnErr, OnOk};
 ghost use Rattle.bac_store.specs.Views.{object_view, property_view};
 ghost use Rattle.bac_c.specs.Devices.{Holds, IsIdle};
-ghost use Rattle.bac_c.specs.Listing.{bare, can_add, with_file, with_property, HasListed, IsLastChanged, StaysListed};
+ghost use Rattle.bac_c.specs.Listing.{bare, can_add, with_file, with_property, ChangesOnlyObjects, HasListed, IsLastChanged, IsListFault, IsListStatus, StaysListed};
 ghost use Rattle.bac_c.specs.Ranges.{can_list};
 ghost use Rattle.bac_c.specs.Starting.{listed_in};
-ghost use Rattle.bac_c.specs.Statuses.{is_one_of, status_of, ALREADY_STARTED, BAD_OBJECT, DONE, LISTING, NOT_OPEN};
+ghost use Rattle.bac_c.specs.Statuses.{is_one_of, status_of, BAD_OBJECT, DONE, LISTING};
 
 use crate::copying::copied_octets;
 use crate::device::Device;
@@ -63,13 +63,9 @@ impl Device {
         name: &[u8],
     ) -> Result<(), Fault>
         ensures listed { OnOk result (listed_in self.new ≡ listed_in self.old ++ bare object_type instance name.now ∷ []) }
-        ensures again { IsErrOf result Fault.AlreadyStarted ↔ (self.old.node ≢ None) }
+        ensures fault { IsListFault self.old result }
         ensures bad { IsErrOf result Fault.BadObject ↔ IsIdle self.old × (can_list object_type instance name.now ≡ false) }
-        ensures few { IsTrue (is_one_of LISTING (status_of result)) }
-        ensures open { IsErrOf result Fault.NotOpen → ⊥ }
-        ensures kept { self.new.kept ≡ self.old.kept }
-        ensures node { self.new.node ≡ self.old.node }
-        ensures outcome { self.new.outcome ≡ self.old.outcome }
+        ensures rest { ChangesOnlyObjects self.old self.new }
         ensures err { OnErr result (listed_in self.new ≡ listed_in self.old) }
     {
         if self.node.is_some() {
@@ -92,13 +88,9 @@ impl Device {
         writable: bool,
     ) -> Result<(), Fault>
         ensures listed { OnOk result (IsLastChanged (with_property number octets.now writable) (listed_in self.old) (listed_in self.new)) }
-        ensures again { IsErrOf result Fault.AlreadyStarted ↔ (self.old.node ≢ None) }
+        ensures fault { IsListFault self.old result }
         ensures bad { IsErrOf result Fault.BadObject ↔ IsIdle self.old × (can_add octets.now (listed_in self.old) ≡ false) }
-        ensures few { IsTrue (is_one_of LISTING (status_of result)) }
-        ensures open { IsErrOf result Fault.NotOpen → ⊥ }
-        ensures kept { self.new.kept ≡ self.old.kept }
-        ensures node { self.new.node ≡ self.old.node }
-        ensures outcome { self.new.outcome ≡ self.old.outcome }
+        ensures rest { ChangesOnlyObjects self.old self.new }
         ensures err { OnErr result (listed_in self.new ≡ listed_in self.old) }
     {
         if self.node.is_some() {
@@ -132,13 +124,9 @@ impl Device {
     #[tactic(auto, using(crate::proofs::Lists::last_changed))]
     pub fn add_file(&mut self, alloc: Global, octets: &[u8], writable: bool) -> Result<(), Fault>
         ensures listed { OnOk result (IsLastChanged (with_file octets.now writable) (listed_in self.old) (listed_in self.new)) }
-        ensures again { IsErrOf result Fault.AlreadyStarted ↔ (self.old.node ≢ None) }
+        ensures fault { IsListFault self.old result }
         ensures bad { IsErrOf result Fault.BadObject ↔ IsIdle self.old × (listed_in self.old ≡ []) }
-        ensures few { IsTrue (is_one_of LISTING (status_of result)) }
-        ensures open { IsErrOf result Fault.NotOpen → ⊥ }
-        ensures kept { self.new.kept ≡ self.old.kept }
-        ensures node { self.new.node ≡ self.old.node }
-        ensures outcome { self.new.outcome ≡ self.old.outcome }
+        ensures rest { ChangesOnlyObjects self.old self.new }
         ensures err { OnErr result (listed_in self.new ≡ listed_in self.old) }
     {
         if self.node.is_some() {
@@ -168,10 +156,8 @@ pub extern "C" fn bac_add_object(
     name: &[u8],
 ) -> u32
     ensures went { result ≡ DONE → HasListed (λ a b. b ≡ a ++ bare object_type instance name.now ∷ []) handle.old.parked.device handle.new.parked.device }
-    ensures closed { (result ≡ NOT_OPEN) ↔ (handle.old.parked.device ≡ None) }
-    ensures again { (result ≡ ALREADY_STARTED) ↔ Holds (λ d. d.node ≢ None) handle.old.parked.device }
+    ensures status { IsListStatus handle.old.parked.device result }
     ensures bad { (result ≡ BAD_OBJECT) ↔ Holds (λ d. IsIdle d × (can_list object_type instance name.now ≡ false)) handle.old.parked.device }
-    ensures few { IsTrue (is_one_of LISTING result) }
     ensures err { result ≢ DONE → StaysListed handle.old.parked.device handle.new.parked.device }
 {
     let Some(mut device) = handle.take(alloc) else {
@@ -192,10 +178,8 @@ pub extern "C" fn bac_add_property(
     writable: bool,
 ) -> u32
     ensures went { result ≡ DONE → HasListed (IsLastChanged (with_property number octets.now writable)) handle.old.parked.device handle.new.parked.device }
-    ensures closed { (result ≡ NOT_OPEN) ↔ (handle.old.parked.device ≡ None) }
-    ensures again { (result ≡ ALREADY_STARTED) ↔ Holds (λ d. d.node ≢ None) handle.old.parked.device }
+    ensures status { IsListStatus handle.old.parked.device result }
     ensures bad { (result ≡ BAD_OBJECT) ↔ Holds (λ d. IsIdle d × (can_add octets.now (listed_in d) ≡ false)) handle.old.parked.device }
-    ensures few { IsTrue (is_one_of LISTING result) }
     ensures err { result ≢ DONE → StaysListed handle.old.parked.device handle.new.parked.device }
 {
     let Some(mut device) = handle.take(alloc) else {
@@ -215,10 +199,8 @@ pub extern "C" fn bac_add_file(
     writable: bool,
 ) -> u32
     ensures went { result ≡ DONE → HasListed (IsLastChanged (with_file octets.now writable)) handle.old.parked.device handle.new.parked.device }
-    ensures closed { (result ≡ NOT_OPEN) ↔ (handle.old.parked.device ≡ None) }
-    ensures again { (result ≡ ALREADY_STARTED) ↔ Holds (λ d. d.node ≢ None) handle.old.parked.device }
+    ensures status { IsListStatus handle.old.parked.device result }
     ensures bad { (result ≡ BAD_OBJECT) ↔ Holds (λ d. IsIdle d × (listed_in d ≡ [])) handle.old.parked.device }
-    ensures few { IsTrue (is_one_of LISTING result) }
     ensures err { result ≢ DONE → StaysListed handle.old.parked.device handle.new.parked.device }
 {
     let Some(mut device) = handle.take(alloc) else {

@@ -1,9 +1,10 @@
 //! The kept cells of a node that is to be started.
-ghost use Rattle.std.specs.Prelude.{◌≡◌, ◌≢◌, ◌↔◌, false, IsErrOf, IsTrue, None, OnErr, OnOk};
+ghost use Rattle.std.specs.Prelude.{◌≡◌, ◌≢◌, ◌↔◌, false, IsErrOf, OnErr, OnOk};
 ghost use Rattle.bac_c.specs.Devices.{Holds, IsIdle};
 ghost use Rattle.bac_c.specs.Keeping.{HasPut, IsPut};
 ghost use Rattle.bac_c.specs.Kept.{is_place};
-ghost use Rattle.bac_c.specs.Statuses.{is_one_of, status_of, ALREADY_STARTED, BAD_OBJECT, DONE, LISTING, NOT_OPEN};
+ghost use Rattle.bac_c.specs.Listing.{IsListFault, IsListStatus};
+ghost use Rattle.bac_c.specs.Statuses.{BAD_OBJECT, DONE};
 
 use crate::device::Device;
 use crate::fault::{Fault, status};
@@ -15,10 +16,8 @@ impl Device {
     /// Lists a cell, instead of the one that is listed at its place.
     pub fn add_kept(&mut self, alloc: Global, place: u64, octets: &[u8]) -> Result<(), Fault>
         ensures put { OnOk result (IsPut place octets.now self.old self.new) }
-        ensures again { IsErrOf result Fault.AlreadyStarted ↔ (self.old.node ≢ None) }
+        ensures fault { IsListFault self.old result }
         ensures bad { IsErrOf result Fault.BadObject ↔ IsIdle self.old × (is_place place ≡ false) }
-        ensures few { IsTrue (is_one_of LISTING (status_of result)) }
-        ensures open { IsErrOf result Fault.NotOpen → ⊥ }
         ensures err { OnErr result (self.new ≡ self.old) }
     {
         if self.node.is_some() {
@@ -36,10 +35,8 @@ impl Device {
 #[unsafe(no_mangle)]
 pub extern "C" fn bac_add_kept(alloc: Global, handle: &mut Handle, place: u64, octets: &[u8]) -> u32
     ensures went { result ≡ DONE → HasPut place octets.now handle.old.parked.device handle.new.parked.device }
-    ensures closed { (result ≡ NOT_OPEN) ↔ (handle.old.parked.device ≡ None) }
-    ensures again { (result ≡ ALREADY_STARTED) ↔ Holds (λ d. d.node ≢ None) handle.old.parked.device }
+    ensures status { IsListStatus handle.old.parked.device result }
     ensures bad { (result ≡ BAD_OBJECT) ↔ Holds (λ d. IsIdle d × (is_place place ≡ false)) handle.old.parked.device }
-    ensures few { IsTrue (is_one_of LISTING result) }
     ensures err { result ≢ DONE → handle.new.parked.device ≡ handle.old.parked.device }
 {
     let Some(mut device) = handle.take(alloc) else {

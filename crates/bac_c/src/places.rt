@@ -1,46 +1,20 @@
-//! The places of cells, as `bac serve --keep` numbers them.
+//! What the places of cells are for, as `bac serve --keep` numbers them.
 ghost use Rattle.std.specs.Prelude.{◌≡◌, ◌≢◌, ◌↔◌, ◌<◌, ◌^◌, None, true, IfSome};
 ghost use Rattle.bac_value.specs.Views.{object_identifier_view};
-ghost use Rattle.bac_keep.specs.Cells.{file_place as plain_file_place, value_place as plain_value_place};
+ghost use Rattle.bac_keep.specs.Cells.{value_place};
 ghost use Rattle.bac_keep.specs.Parts.{IsSmall, place_for};
 ghost use Rattle.bac_c.specs.Kept.{is_place};
 
-use bac_keep::Part;
+use bac_keep::{FILES, NUMBERS, Part};
 use bac_value::ObjectIdentifier;
-
-/// How many numbers a property can have (clause 23.1): 22 bits.
-pub const NUMBERS: u64 = 0x40_0000;
 
 /// How many instances an object type can have: 22 bits.
 const INSTANCES: u64 = 0x40_0000;
 
-/// The first place of a file.
-const FILES: u64 = 0x40_0000_0000_0000;
-
-/// The greatest number of octets in a chunk of a file.
-pub const CHUNK: usize = 1024;
-
-/// The place of a property's values.
-pub fn value_place(object: ObjectIdentifier, number: u32) -> u64
-    requires { number < 2 ^ 22 }
-    ensures is { result ≡ plain_value_place (object_identifier_view object) number }
-    ensures short { result < 2 ^ 54 }
-{
-    (u64::from(object.kind) * INSTANCES + u64::from(object.instance)) * NUMBERS + u64::from(number)
-}
-
-/// The place of a part of a file: 0 for the number of its chunks, 1 for the first chunk, and so on.
-pub fn file_place(object: ObjectIdentifier, part: u32) -> u64
-    requires { part < 2 ^ 22 }
-    ensures { result ≡ plain_file_place (object_identifier_view object) part }
-{
-    FILES + value_place(object, part)
-}
-
 /// The object identifier and the number of 22 bits that are one number.
 fn object_of(number: u64) -> (ObjectIdentifier, u32)
     requires { number < 2 ^ 54 }
-    ensures is { number ≡ plain_value_place (object_identifier_view result.0) result.1 }
+    ensures is { number ≡ value_place (object_identifier_view result.0) result.1 }
     ensures small { result.1 < 2 ^ 22 }
 {
     let object = number / NUMBERS;

@@ -1,13 +1,12 @@
 //! What the node's own store holds.
-ghost use Rattle.std.specs.Prelude.{◌≡◌, ◌≢◌, ◌↔◌, ◌≤◌, false, length, IfErr, IfOk, IsErrOf, IsTrue, None, OnErr};
+ghost use Rattle.std.specs.Prelude.{◌≡◌, ◌≢◌, ◌↔◌, ◌≤◌, length, IfOk, IsErrOf, IsTrue, OnErr};
 ghost use Rattle.bac_service.specs.Views.{property_reference_view};
 ghost use Rattle.bac_value.specs.Views.{object_identifier_view};
-ghost use Rattle.bac_c.specs.Devices.{Holds, IsIdle, Runs};
-ghost use Rattle.bac_c.specs.Ranges.{is_instance, is_reference};
-ghost use Rattle.bac_c.specs.Reading.{Finds, FindsFile, LacksFile, LacksObject, LacksProperty, OfFile, OfValues};
+ghost use Rattle.bac_c.specs.Devices.{Holds};
+ghost use Rattle.bac_c.specs.Reading.{Finds, FindsFile, LacksFile, OfFile, OfValues};
+ghost use Rattle.bac_c.specs.Reading.{IsFileReadFault, IsFileReadStatus, IsReadFault, IsReadStatus, IsStoreFault, IsValuesFault};
 ghost use Rattle.bac_c.specs.Results.{IsCopied};
-ghost use Rattle.bac_c.specs.Statuses.{is_one_of, status_of, FILE_READING, READING};
-ghost use Rattle.bac_c.specs.Statuses.{BAD_REQUEST, DONE, NOT_OPEN, NOT_STARTED, NO_MEMORY, NO_SUCH_OBJECT, NO_SUCH_PROPERTY};
+ghost use Rattle.bac_c.specs.Statuses.{is_one_of, status_of, DONE, FILE_READING, READING};
 
 use crate::copying::copy_out;
 use crate::device::Device;
@@ -32,14 +31,9 @@ fn value_out(
     out: &mut [u8],
 ) -> Result<usize, Fault>
     ensures read { IfOk result (λ len. OfValues (λ octets. IsCopied octets out.old len out.new) (property_reference_view reference) store.now) }
-    ensures object { IsErrOf result Fault.NoSuchObject ↔ LacksObject (property_reference_view reference) store.now }
-    ensures property { IsErrOf result Fault.NoSuchProperty ↔ LacksProperty (property_reference_view reference) store.now }
-    ensures memory { IsErrOf result Fault.NoMemory → OfValues (λ octets. 1 ≤ length octets) (property_reference_view reference) store.now }
+    ensures fault { IsValuesFault (property_reference_view reference) store.now result }
     ensures kept { OnErr result (out.new ≡ out.old) }
     ensures few { IsTrue (is_one_of READING (status_of result)) }
-    ensures idle { IsErrOf result Fault.NotStarted → ⊥ }
-    ensures bad { IsErrOf result Fault.BadRequest → ⊥ }
-    ensures open { IsErrOf result Fault.NotOpen → ⊥ }
 {
     let Ok(plan) = store.prepare(alloc, &AnyRequest::ReadProperty(reference)) else {
         return Err(Fault::NoMemory);
@@ -62,11 +56,9 @@ fn file_out(
     ensures read { IfOk result (λ len. OfFile (λ octets. IsCopied octets out.old len out.new) (object_identifier_view file) store.now) }
     ensures object { IsErrOf result Fault.NoSuchObject ↔ LacksFile (object_identifier_view file) store.now }
     ensures memory { IsErrOf result Fault.NoMemory → OfFile (λ octets. 1 ≤ length octets) (object_identifier_view file) store.now }
+    ensures others { IsStoreFault result }
     ensures kept { OnErr result (out.new ≡ out.old) }
     ensures few { IsTrue (is_one_of FILE_READING (status_of result)) }
-    ensures idle { IsErrOf result Fault.NotStarted → ⊥ }
-    ensures bad { IsErrOf result Fault.BadRequest → ⊥ }
-    ensures open { IsErrOf result Fault.NotOpen → ⊥ }
 {
     let read = ReadFile {
         file,
@@ -94,14 +86,9 @@ impl Device {
         out: &mut [u8],
     ) -> Result<usize, Fault>
         ensures read { IfOk result (λ len. Finds (OfValues (λ octets. IsCopied octets out.old len out.new)) reference.now self.now) }
-        ensures idle { IsErrOf result Fault.NotStarted ↔ IsIdle self.now }
-        ensures bad { IsErrOf result Fault.BadRequest ↔ Runs (λ n. is_reference reference.now ≡ false) self.now }
-        ensures object { IsErrOf result Fault.NoSuchObject ↔ Finds LacksObject reference.now self.now }
-        ensures property { IsErrOf result Fault.NoSuchProperty ↔ Finds LacksProperty reference.now self.now }
-        ensures memory { IsErrOf result Fault.NoMemory → Finds (OfValues (λ octets. 1 ≤ length octets)) reference.now self.now }
+        ensures fault { IsReadFault reference.now self.now result }
         ensures kept { OnErr result (out.new ≡ out.old) }
         ensures few { IsTrue (is_one_of READING (status_of result)) }
-        ensures open { IsErrOf result Fault.NotOpen → ⊥ }
     {
         let Some(node) = &self.node else {
             return Err(Fault::NotStarted);
@@ -115,13 +102,9 @@ impl Device {
     /// Copies all octets of a file of the node's own store out: how many they are.
     pub fn get_file(&self, alloc: Global, file: u32, out: &mut [u8]) -> Result<usize, Fault>
         ensures read { IfOk result (λ len. FindsFile (OfFile (λ octets. IsCopied octets out.old len out.new)) file self.now) }
-        ensures idle { IsErrOf result Fault.NotStarted ↔ IsIdle self.now }
-        ensures bad { IsErrOf result Fault.BadRequest ↔ Runs (λ n. is_instance file ≡ false) self.now }
-        ensures object { IsErrOf result Fault.NoSuchObject ↔ FindsFile LacksFile file self.now }
-        ensures memory { IsErrOf result Fault.NoMemory → FindsFile (OfFile (λ octets. 1 ≤ length octets)) file self.now }
+        ensures fault { IsFileReadFault file self.now result }
         ensures kept { OnErr result (out.new ≡ out.old) }
         ensures few { IsTrue (is_one_of FILE_READING (status_of result)) }
-        ensures open { IsErrOf result Fault.NotOpen → ⊥ }
     {
         let Some(node) = &self.node else {
             return Err(Fault::NotStarted);
@@ -144,12 +127,7 @@ pub extern "C" fn bac_get_value(
     len: &mut usize,
 ) -> u32
     ensures went { result ≡ DONE → Holds (Finds (OfValues (λ octets. IsCopied octets out.old len.new out.new)) reference.now) handle.old.parked.device }
-    ensures closed { (result ≡ NOT_OPEN) ↔ (handle.old.parked.device ≡ None) }
-    ensures idle { (result ≡ NOT_STARTED) ↔ Holds IsIdle handle.old.parked.device }
-    ensures bad { (result ≡ BAD_REQUEST) ↔ Holds (Runs (λ n. is_reference reference.now ≡ false)) handle.old.parked.device }
-    ensures object { (result ≡ NO_SUCH_OBJECT) ↔ Holds (Finds LacksObject reference.now) handle.old.parked.device }
-    ensures property { (result ≡ NO_SUCH_PROPERTY) ↔ Holds (Finds LacksProperty reference.now) handle.old.parked.device }
-    ensures memory { result ≡ NO_MEMORY → Holds (Finds (OfValues (λ octets. 1 ≤ length octets)) reference.now) handle.old.parked.device }
+    ensures status { IsReadStatus reference.now handle.old.parked.device result }
     ensures few { IsTrue (is_one_of READING result) }
     ensures kept { result ≢ DONE → len.new ≡ len.old }
     ensures uncopied { result ≢ DONE → out.new ≡ out.old }
@@ -179,11 +157,7 @@ pub extern "C" fn bac_get_file(
     len: &mut usize,
 ) -> u32
     ensures went { result ≡ DONE → Holds (FindsFile (OfFile (λ octets. IsCopied octets out.old len.new out.new)) file) handle.old.parked.device }
-    ensures closed { (result ≡ NOT_OPEN) ↔ (handle.old.parked.device ≡ None) }
-    ensures idle { (result ≡ NOT_STARTED) ↔ Holds IsIdle handle.old.parked.device }
-    ensures bad { (result ≡ BAD_REQUEST) ↔ Holds (Runs (λ n. is_instance file ≡ false)) handle.old.parked.device }
-    ensures object { (result ≡ NO_SUCH_OBJECT) ↔ Holds (FindsFile LacksFile file) handle.old.parked.device }
-    ensures memory { result ≡ NO_MEMORY → Holds (FindsFile (OfFile (λ octets. 1 ≤ length octets)) file) handle.old.parked.device }
+    ensures status { IsFileReadStatus file handle.old.parked.device result }
     ensures few { IsTrue (is_one_of FILE_READING result) }
     ensures kept { result ≢ DONE → len.new ≡ len.old }
     ensures uncopied { result ≢ DONE → out.new ≡ out.old }

@@ -1,17 +1,15 @@
 //! Start of a node with kept cells over the store of its objects.
-ghost use Rattle.std.specs.Prelude.{◌≡◌, ◌≢◌, ◌↔◌, [], true, IfErr, IfOk, IsErrOf, IsTrue, None, OnErr, OnOk, Some};
+ghost use Rattle.std.specs.Prelude.{◌≡◌, ◌≢◌, true, IfErr, IfOk, IsErrOf, IsTrue, OnErr, OnOk, Some};
 ghost use Rattle.bac_keep.specs.Overlay.{overlay};
 ghost use Rattle.bac_node.specs.Fresh.{has_large_slots, made_node, window_fits};
-ghost use Rattle.bac_store.specs.Described.{AreDescribed, IsDescribedBy};
+ghost use Rattle.bac_store.specs.Described.{IsDescribedBy};
 ghost use Rattle.bac_store.specs.Made.{IsMadeOf};
-ghost use Rattle.bac_store.specs.Objects.{AreDistinct};
-ghost use Rattle.bac_c.specs.Devices.{Holds, IsIdle, IsQuiet};
-ghost use Rattle.bac_c.specs.Fitting.{AreFit, HasUnfit, IsUnfitAt};
-ghost use Rattle.bac_c.specs.Keeping.{HasRestored, IsRestoredNode};
+ghost use Rattle.bac_c.specs.Devices.{Holds, IsFreshWithCells};
+ghost use Rattle.bac_c.specs.Fitting.{AreFit, IsUnfitAt};
+ghost use Rattle.bac_c.specs.Keeping.{HasRestored, IsRestoredNode, PutsUnfit, TellsUnfit};
 ghost use Rattle.bac_c.specs.Kept.{cells_in};
-ghost use Rattle.bac_c.specs.Starting.{AreBad, HaveTwins, IsBad, IsReady, IsSetBy, is_right, kept_statuses, listed_in, makes};
-ghost use Rattle.bac_c.specs.Statuses.{fault_number, is_one_of, status_of, DESCRIBED_RESTORING, RESTORING, WITH_CELLS};
-ghost use Rattle.bac_c.specs.Statuses.{ALREADY_STARTED, BAD_OBJECT, BAD_SETTINGS, BAD_VALUE, DONE, DUPLICATE, NOT_OPEN, NO_MEMORY};
+ghost use Rattle.bac_c.specs.Starting.{IsSetBy, IsStartFault, IsStartStatus, kept_statuses, listed_in, makes};
+ghost use Rattle.bac_c.specs.Statuses.{fault_number, is_one_of, status_of, DESCRIBED_RESTORING, DONE, RESTORING, WITH_CELLS};
 
 use crate::device::{Device, no_outcome};
 use crate::fault::{Fault, status};
@@ -59,9 +57,7 @@ impl Device {
     fn run(&mut self, alloc: Global, node: Node, settings: &Settings)
         ensures node { self.new.node ≡ Some node }
         ensures reuse { IsSetBy settings.now self.new }
-        ensures quiet { IsQuiet self.new }
-        ensures unlisted { self.new.listed.items ≡ [] }
-        ensures unkept { self.new.kept ≡ [] }
+        ensures fresh { IsFreshWithCells self.new }
     {
         self.listed = Vec::new(alloc);
         self.kept = Kept::new(alloc);
@@ -82,19 +78,10 @@ impl Device {
     ) -> Result<(), Fault>
         ensures started { OnOk result (IsRestoredNode (makes rule) settings.now now (listed_in self.old) (cells_in self.old.kept) self.new.node) }
         ensures reuse { OnOk result (IsSetBy settings.now self.new) }
-        ensures quiet { OnOk result (IsQuiet self.new) }
-        ensures unlisted { OnOk result (self.new.listed.items ≡ []) }
-        ensures unkept { OnOk result (self.new.kept ≡ []) }
-        ensures again { IsErrOf result Fault.AlreadyStarted ↔ (self.old.node ≢ None) }
-        ensures settings { IsErrOf result Fault.BadSettings ↔ IsIdle self.old × (IsTrue (is_right settings.now) → ⊥) }
-        ensures duplicate { (IsErrOf result Fault.NoMemory → ⊥)
-            → (IsErrOf result Fault.Duplicate ↔ IsReady settings.now self.old × HaveTwins rule (listed_in self.old)) }
-        ensures bad { (IsErrOf result Fault.NoMemory → ⊥)
-            → (IsErrOf result Fault.BadObject ↔ IsReady settings.now self.old × AreBad rule (listed_in self.old)) }
-        ensures unfit { IsErrOf result Fault.BadValue → HasUnfit (makes rule) (listed_in self.old) (cells_in self.old.kept) place.new }
-        ensures kept { (IsErrOf result Fault.BadValue → ⊥) → place.new ≡ place.old }
+        ensures fresh { OnOk result (IsFreshWithCells self.new) }
+        ensures fault { IsStartFault rule settings.now self.old result }
+        ensures place { PutsUnfit (makes rule) self.old result place.old place.new }
         ensures few { IsTrue (is_one_of (kept_statuses rule) (status_of result)) }
-        ensures open { IsErrOf result Fault.NotOpen → ⊥ }
         ensures err { OnErr result (self.new ≡ self.old) }
     {
         if self.node.is_some() {
@@ -121,16 +108,9 @@ fn start_kept_by(
     place: &mut u64,
 ) -> u32
     ensures went { result ≡ DONE → HasRestored (makes rule) settings.now now handle.old.parked.device handle.new.parked.device }
-    ensures quiet { result ≡ DONE → Holds IsQuiet handle.new.parked.device }
-    ensures unlisted { result ≡ DONE → Holds (λ d. (d.listed.items ≡ []) × (d.kept ≡ [])) handle.new.parked.device }
-    ensures closed { (result ≡ NOT_OPEN) ↔ (handle.old.parked.device ≡ None) }
-    ensures again { (result ≡ ALREADY_STARTED) ↔ Holds (λ d. d.node ≢ None) handle.old.parked.device }
-    ensures settings { (result ≡ BAD_SETTINGS) ↔ Holds (λ d. IsIdle d × (IsTrue (is_right settings.now) → ⊥)) handle.old.parked.device }
-    ensures duplicate { result ≢ NO_MEMORY
-        → ((result ≡ DUPLICATE) ↔ Holds (λ d. IsReady settings.now d × HaveTwins rule (listed_in d)) handle.old.parked.device) }
-    ensures bad { result ≢ NO_MEMORY → ((result ≡ BAD_OBJECT) ↔ Holds (λ d. IsReady settings.now d × AreBad rule (listed_in d)) handle.old.parked.device) }
-    ensures unfit { result ≡ BAD_VALUE → Holds (λ d. HasUnfit (makes rule) (listed_in d) (cells_in d.kept) place.new) handle.old.parked.device }
-    ensures kept { result ≢ BAD_VALUE → place.new ≡ place.old }
+    ensures fresh { result ≡ DONE → Holds IsFreshWithCells handle.new.parked.device }
+    ensures status { IsStartStatus rule settings.now handle.old.parked.device result }
+    ensures place { TellsUnfit (makes rule) handle.old.parked.device result place.old place.new }
     ensures few { IsTrue (is_one_of (kept_statuses rule) result) }
     ensures err { result ≢ DONE → handle.new.parked.device ≡ handle.old.parked.device }
 {
@@ -153,16 +133,9 @@ pub extern "C" fn bac_start_kept(
     place: &mut u64,
 ) -> u32
     ensures went { result ≡ DONE → HasRestored IsMadeOf settings.now now handle.old.parked.device handle.new.parked.device }
-    ensures quiet { result ≡ DONE → Holds IsQuiet handle.new.parked.device }
-    ensures unlisted { result ≡ DONE → Holds (λ d. (d.listed.items ≡ []) × (d.kept ≡ [])) handle.new.parked.device }
-    ensures closed { (result ≡ NOT_OPEN) ↔ (handle.old.parked.device ≡ None) }
-    ensures again { (result ≡ ALREADY_STARTED) ↔ Holds (λ d. d.node ≢ None) handle.old.parked.device }
-    ensures settings { (result ≡ BAD_SETTINGS) ↔ Holds (λ d. IsIdle d × (IsTrue (is_right settings.now) → ⊥)) handle.old.parked.device }
-    ensures duplicate { result ≢ NO_MEMORY
-        → ((result ≡ DUPLICATE) ↔ Holds (λ d. IsReady settings.now d × (AreDistinct (listed_in d) → ⊥)) handle.old.parked.device) }
-    ensures bad { result ≢ NO_MEMORY → ((result ≡ BAD_OBJECT) ↔ Holds (λ d. IsReady settings.now d × IsBad (listed_in d)) handle.old.parked.device) }
-    ensures unfit { result ≡ BAD_VALUE → Holds (λ d. HasUnfit IsMadeOf (listed_in d) (cells_in d.kept) place.new) handle.old.parked.device }
-    ensures kept { result ≢ BAD_VALUE → place.new ≡ place.old }
+    ensures fresh { result ≡ DONE → Holds IsFreshWithCells handle.new.parked.device }
+    ensures status { IsStartStatus Rule.Plain settings.now handle.old.parked.device result }
+    ensures place { TellsUnfit IsMadeOf handle.old.parked.device result place.old place.new }
     ensures few { IsTrue (is_one_of RESTORING result) }
     ensures err { result ≢ DONE → handle.new.parked.device ≡ handle.old.parked.device }
 {
@@ -179,15 +152,9 @@ pub extern "C" fn bac_start_described_kept(
     place: &mut u64,
 ) -> u32
     ensures went { result ≡ DONE → HasRestored IsDescribedBy settings.now now handle.old.parked.device handle.new.parked.device }
-    ensures quiet { result ≡ DONE → Holds IsQuiet handle.new.parked.device }
-    ensures unlisted { result ≡ DONE → Holds (λ d. (d.listed.items ≡ []) × (d.kept ≡ [])) handle.new.parked.device }
-    ensures closed { (result ≡ NOT_OPEN) ↔ (handle.old.parked.device ≡ None) }
-    ensures again { (result ≡ ALREADY_STARTED) ↔ Holds (λ d. d.node ≢ None) handle.old.parked.device }
-    ensures settings { (result ≡ BAD_SETTINGS) ↔ Holds (λ d. IsIdle d × (IsTrue (is_right settings.now) → ⊥)) handle.old.parked.device }
-    ensures bad { result ≢ NO_MEMORY
-        → ((result ≡ BAD_OBJECT) ↔ Holds (λ d. IsReady settings.now d × (AreDescribed (listed_in d) → ⊥)) handle.old.parked.device) }
-    ensures unfit { result ≡ BAD_VALUE → Holds (λ d. HasUnfit IsDescribedBy (listed_in d) (cells_in d.kept) place.new) handle.old.parked.device }
-    ensures kept { result ≢ BAD_VALUE → place.new ≡ place.old }
+    ensures fresh { result ≡ DONE → Holds IsFreshWithCells handle.new.parked.device }
+    ensures status { IsStartStatus Rule.Described settings.now handle.old.parked.device result }
+    ensures place { TellsUnfit IsDescribedBy handle.old.parked.device result place.old place.new }
     ensures few { IsTrue (is_one_of DESCRIBED_RESTORING result) }
     ensures err { result ≢ DONE → handle.new.parked.device ≡ handle.old.parked.device }
 {

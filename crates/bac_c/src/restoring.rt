@@ -6,12 +6,12 @@ ghost use Rattle.bac_keep.specs.Cells.{file_place as plain_file_place};
 ghost use Rattle.bac_keep.specs.Overlay.{joined, overlay};
 ghost use Rattle.bac_keep.specs.Restored.{is_writable_file, is_writable_value, with_kept_octets, with_kept_values};
 ghost use Rattle.bac_keep.specs.Held.{IsRising, held};
-ghost use Rattle.bac_c.specs.Fitting.{AreFit, EachFits, IsWrong, has_parts, is_part as plain_is_part, octets_fit, values_fit};
+ghost use Rattle.bac_c.specs.Fitting.{AreFit, EachFits, HaveAllParts, IsWrong, is_part as plain_is_part, octets_fit, values_fit};
 ghost use Rattle.bac_c.specs.Kept.{IsFaultFor, IsPlaceAt, fault_at as plain_fault_at, states_count};
 
 use crate::kept_fault::KeptFault;
-use crate::places::{CHUNK, file_place, part_of};
-use bac_keep::{Cell, Part};
+use crate::places::part_of;
+use bac_keep::{CHUNK, Cell, Part, file_place};
 use bac_store::{ChangeFault, Store, stores_are_in_order};
 use bac_value::ObjectIdentifier;
 use std::alloc::Global;
@@ -38,9 +38,9 @@ fn octets_at(
     requires within { at < length cells.now }
     requires place { IsPlaceAt (plain_file_place (object_identifier_view object) 0) at cells.now }
     ensures made { IfOk result (λ v. IsRising cells.now → v.items ≡ joined (held (drop at cells.now)) (object_identifier_view object) count) }
-    ensures fits { OnOk result (IsRising cells.now → has_parts (held cells.now) (object_identifier_view object) count count ≡ true) }
+    ensures fits { OnOk result (HaveAllParts cells.now (object_identifier_view object) count true) }
     ensures fault { IfErr result (IsFaultFor (plain_file_place (object_identifier_view object) 0)
-        (IsRising cells.now → has_parts (held cells.now) (object_identifier_view object) count count ≡ false)) }
+        (HaveAllParts cells.now (object_identifier_view object) count false)) }
 {
     let wrong = KeptFault::Wrong {
         place: file_place(object, 0),

@@ -1,14 +1,13 @@
 //! Start.
-ghost use Rattle.std.specs.Prelude.{◌≡◌, ◌≢◌, ◌↔◌, [], false, true, IfOk, IsErrOf, IsTrue, None, OnErr, OnOk, Some};
+ghost use Rattle.std.specs.Prelude.{◌≡◌, ◌≢◌, ◌↔◌, false, true, IfOk, IsErrOf, IsTrue, None, OnErr, OnOk, Some};
 ghost use Rattle.bac_node.specs.Fresh.{has_large_slots, made_node, window_fits};
-ghost use Rattle.bac_store.specs.Described.{AreDescribed, IsDescribedBy};
+ghost use Rattle.bac_store.specs.Described.{IsDescribedBy};
 ghost use Rattle.bac_store.specs.Made.{IsMadeOf};
-ghost use Rattle.bac_store.specs.Objects.{AreDistinct};
-ghost use Rattle.bac_c.specs.Devices.{Holds, IsIdle, IsQuiet};
-ghost use Rattle.bac_c.specs.Starting.{AreBad, HasHouse, HasStarted, HaveTwins, IsBad, IsHouseWith, IsReady, IsSetBy, IsStartedNode};
-ghost use Rattle.bac_c.specs.Starting.{is_right, listed_in, makes, start_statuses};
+ghost use Rattle.bac_c.specs.Devices.{Holds, IsFresh};
+ghost use Rattle.bac_c.specs.Starting.{HasBadSettings, HasHouse, HasStarted, IsHouseWith, IsSetBy, IsStartFault, IsStartStatus, IsStartedNode};
+ghost use Rattle.bac_c.specs.Starting.{listed_in, makes, start_statuses};
 ghost use Rattle.bac_c.specs.Statuses.{is_one_of, status_of, DESCRIBED_STARTING, HOUSE_STARTING, STARTING};
-ghost use Rattle.bac_c.specs.Statuses.{ALREADY_STARTED, BAD_OBJECT, BAD_SETTINGS, DONE, DUPLICATE, NOT_OPEN, NO_MEMORY};
+ghost use Rattle.bac_c.specs.Statuses.{ALREADY_STARTED, BAD_SETTINGS, DONE, NOT_OPEN};
 
 use crate::device::{Device, no_outcome};
 use crate::fault::{Fault, status};
@@ -69,16 +68,9 @@ impl Device {
     ) -> Result<(), Fault>
         ensures started { OnOk result (IsStartedNode (makes rule) settings.now restart (listed_in self.old) self.new.node) }
         ensures reuse { OnOk result (IsSetBy settings.now self.new) }
-        ensures quiet { OnOk result (IsQuiet self.new) }
-        ensures unlisted { OnOk result (self.new.listed.items ≡ []) }
-        ensures again { IsErrOf result Fault.AlreadyStarted ↔ (self.old.node ≢ None) }
-        ensures settings { IsErrOf result Fault.BadSettings ↔ IsIdle self.old × (IsTrue (is_right settings.now) → ⊥) }
-        ensures duplicate { (IsErrOf result Fault.NoMemory → ⊥)
-            → (IsErrOf result Fault.Duplicate ↔ IsReady settings.now self.old × HaveTwins rule (listed_in self.old)) }
-        ensures bad { (IsErrOf result Fault.NoMemory → ⊥)
-            → (IsErrOf result Fault.BadObject ↔ IsReady settings.now self.old × AreBad rule (listed_in self.old)) }
+        ensures fresh { OnOk result (IsFresh self.new) }
+        ensures fault { IsStartFault rule settings.now self.old result }
         ensures few { IsTrue (is_one_of (start_statuses rule) (status_of result)) }
-        ensures open { IsErrOf result Fault.NotOpen → ⊥ }
         ensures err { OnErr result (self.new ≡ self.old) }
     {
         if self.node.is_some() {
@@ -101,10 +93,9 @@ impl Device {
     pub fn start_house(&mut self, alloc: Global, settings: &Settings) -> Result<(), Fault>
         ensures started { OnOk result (IsHouseWith settings.now self.new.node) }
         ensures reuse { OnOk result (IsSetBy settings.now self.new) }
-        ensures quiet { OnOk result (IsQuiet self.new) }
-        ensures unlisted { OnOk result (self.new.listed.items ≡ []) }
+        ensures fresh { OnOk result (IsFresh self.new) }
         ensures again { IsErrOf result Fault.AlreadyStarted ↔ (self.old.node ≢ None) }
-        ensures settings { IsErrOf result Fault.BadSettings ↔ IsIdle self.old × (IsTrue (is_right settings.now) → ⊥) }
+        ensures settings { IsErrOf result Fault.BadSettings ↔ HasBadSettings settings.now self.old }
         ensures few { IsTrue (is_one_of HOUSE_STARTING (status_of result)) }
         ensures open { IsErrOf result Fault.NotOpen → ⊥ }
         ensures err { OnErr result (self.new ≡ self.old) }
@@ -134,14 +125,8 @@ fn start_by(
     restart: Option<u64>,
 ) -> u32
     ensures went { result ≡ DONE → HasStarted (makes rule) settings.now restart handle.old.parked.device handle.new.parked.device }
-    ensures quiet { result ≡ DONE → Holds IsQuiet handle.new.parked.device }
-    ensures unlisted { result ≡ DONE → Holds (λ d. d.listed.items ≡ []) handle.new.parked.device }
-    ensures closed { (result ≡ NOT_OPEN) ↔ (handle.old.parked.device ≡ None) }
-    ensures again { (result ≡ ALREADY_STARTED) ↔ Holds (λ d. d.node ≢ None) handle.old.parked.device }
-    ensures settings { (result ≡ BAD_SETTINGS) ↔ Holds (λ d. IsIdle d × (IsTrue (is_right settings.now) → ⊥)) handle.old.parked.device }
-    ensures duplicate { result ≢ NO_MEMORY
-        → ((result ≡ DUPLICATE) ↔ Holds (λ d. IsReady settings.now d × HaveTwins rule (listed_in d)) handle.old.parked.device) }
-    ensures bad { result ≢ NO_MEMORY → ((result ≡ BAD_OBJECT) ↔ Holds (λ d. IsReady settings.now d × AreBad rule (listed_in d)) handle.old.parked.device) }
+    ensures fresh { result ≡ DONE → Holds IsFresh handle.new.parked.device }
+    ensures status { IsStartStatus rule settings.now handle.old.parked.device result }
     ensures few { IsTrue (is_one_of (start_statuses rule) result) }
     ensures err { result ≢ DONE → handle.new.parked.device ≡ handle.old.parked.device }
 {
@@ -157,14 +142,8 @@ fn start_by(
 #[unsafe(no_mangle)]
 pub extern "C" fn bac_start(alloc: Global, handle: &mut Handle, settings: &Settings) -> u32
     ensures went { result ≡ DONE → HasStarted IsMadeOf settings.now None handle.old.parked.device handle.new.parked.device }
-    ensures quiet { result ≡ DONE → Holds IsQuiet handle.new.parked.device }
-    ensures unlisted { result ≡ DONE → Holds (λ d. d.listed.items ≡ []) handle.new.parked.device }
-    ensures closed { (result ≡ NOT_OPEN) ↔ (handle.old.parked.device ≡ None) }
-    ensures again { (result ≡ ALREADY_STARTED) ↔ Holds (λ d. d.node ≢ None) handle.old.parked.device }
-    ensures settings { (result ≡ BAD_SETTINGS) ↔ Holds (λ d. IsIdle d × (IsTrue (is_right settings.now) → ⊥)) handle.old.parked.device }
-    ensures duplicate { result ≢ NO_MEMORY
-        → ((result ≡ DUPLICATE) ↔ Holds (λ d. IsReady settings.now d × (AreDistinct (listed_in d) → ⊥)) handle.old.parked.device) }
-    ensures bad { result ≢ NO_MEMORY → ((result ≡ BAD_OBJECT) ↔ Holds (λ d. IsReady settings.now d × IsBad (listed_in d)) handle.old.parked.device) }
+    ensures fresh { result ≡ DONE → Holds IsFresh handle.new.parked.device }
+    ensures status { IsStartStatus Rule.Plain settings.now handle.old.parked.device result }
     ensures few { IsTrue (is_one_of STARTING result) }
     ensures err { result ≢ DONE → handle.new.parked.device ≡ handle.old.parked.device }
 {
@@ -181,14 +160,8 @@ pub extern "C" fn bac_start_restarted(
     now: u64,
 ) -> u32
     ensures went { result ≡ DONE → HasStarted IsMadeOf settings.now (Some now) handle.old.parked.device handle.new.parked.device }
-    ensures quiet { result ≡ DONE → Holds IsQuiet handle.new.parked.device }
-    ensures unlisted { result ≡ DONE → Holds (λ d. d.listed.items ≡ []) handle.new.parked.device }
-    ensures closed { (result ≡ NOT_OPEN) ↔ (handle.old.parked.device ≡ None) }
-    ensures again { (result ≡ ALREADY_STARTED) ↔ Holds (λ d. d.node ≢ None) handle.old.parked.device }
-    ensures settings { (result ≡ BAD_SETTINGS) ↔ Holds (λ d. IsIdle d × (IsTrue (is_right settings.now) → ⊥)) handle.old.parked.device }
-    ensures duplicate { result ≢ NO_MEMORY
-        → ((result ≡ DUPLICATE) ↔ Holds (λ d. IsReady settings.now d × (AreDistinct (listed_in d) → ⊥)) handle.old.parked.device) }
-    ensures bad { result ≢ NO_MEMORY → ((result ≡ BAD_OBJECT) ↔ Holds (λ d. IsReady settings.now d × IsBad (listed_in d)) handle.old.parked.device) }
+    ensures fresh { result ≡ DONE → Holds IsFresh handle.new.parked.device }
+    ensures status { IsStartStatus Rule.Plain settings.now handle.old.parked.device result }
     ensures few { IsTrue (is_one_of STARTING result) }
     ensures err { result ≢ DONE → handle.new.parked.device ≡ handle.old.parked.device }
 {
@@ -203,13 +176,8 @@ pub extern "C" fn bac_start_described(
     settings: &Settings,
 ) -> u32
     ensures went { result ≡ DONE → HasStarted IsDescribedBy settings.now None handle.old.parked.device handle.new.parked.device }
-    ensures quiet { result ≡ DONE → Holds IsQuiet handle.new.parked.device }
-    ensures unlisted { result ≡ DONE → Holds (λ d. d.listed.items ≡ []) handle.new.parked.device }
-    ensures closed { (result ≡ NOT_OPEN) ↔ (handle.old.parked.device ≡ None) }
-    ensures again { (result ≡ ALREADY_STARTED) ↔ Holds (λ d. d.node ≢ None) handle.old.parked.device }
-    ensures settings { (result ≡ BAD_SETTINGS) ↔ Holds (λ d. IsIdle d × (IsTrue (is_right settings.now) → ⊥)) handle.old.parked.device }
-    ensures bad { result ≢ NO_MEMORY
-        → ((result ≡ BAD_OBJECT) ↔ Holds (λ d. IsReady settings.now d × (AreDescribed (listed_in d) → ⊥)) handle.old.parked.device) }
+    ensures fresh { result ≡ DONE → Holds IsFresh handle.new.parked.device }
+    ensures status { IsStartStatus Rule.Described settings.now handle.old.parked.device result }
     ensures few { IsTrue (is_one_of DESCRIBED_STARTING result) }
     ensures err { result ≢ DONE → handle.new.parked.device ≡ handle.old.parked.device }
 {
@@ -226,13 +194,8 @@ pub extern "C" fn bac_start_described_restarted(
     now: u64,
 ) -> u32
     ensures went { result ≡ DONE → HasStarted IsDescribedBy settings.now (Some now) handle.old.parked.device handle.new.parked.device }
-    ensures quiet { result ≡ DONE → Holds IsQuiet handle.new.parked.device }
-    ensures unlisted { result ≡ DONE → Holds (λ d. d.listed.items ≡ []) handle.new.parked.device }
-    ensures closed { (result ≡ NOT_OPEN) ↔ (handle.old.parked.device ≡ None) }
-    ensures again { (result ≡ ALREADY_STARTED) ↔ Holds (λ d. d.node ≢ None) handle.old.parked.device }
-    ensures settings { (result ≡ BAD_SETTINGS) ↔ Holds (λ d. IsIdle d × (IsTrue (is_right settings.now) → ⊥)) handle.old.parked.device }
-    ensures bad { result ≢ NO_MEMORY
-        → ((result ≡ BAD_OBJECT) ↔ Holds (λ d. IsReady settings.now d × (AreDescribed (listed_in d) → ⊥)) handle.old.parked.device) }
+    ensures fresh { result ≡ DONE → Holds IsFresh handle.new.parked.device }
+    ensures status { IsStartStatus Rule.Described settings.now handle.old.parked.device result }
     ensures few { IsTrue (is_one_of DESCRIBED_STARTING result) }
     ensures err { result ≢ DONE → handle.new.parked.device ≡ handle.old.parked.device }
 {
@@ -243,11 +206,10 @@ pub extern "C" fn bac_start_described_restarted(
 #[unsafe(no_mangle)]
 pub extern "C" fn bac_start_house(alloc: Global, handle: &mut Handle, settings: &Settings) -> u32
     ensures went { result ≡ DONE → HasHouse settings.now handle.new.parked.device }
-    ensures quiet { result ≡ DONE → Holds IsQuiet handle.new.parked.device }
-    ensures unlisted { result ≡ DONE → Holds (λ d. d.listed.items ≡ []) handle.new.parked.device }
+    ensures fresh { result ≡ DONE → Holds IsFresh handle.new.parked.device }
     ensures closed { (result ≡ NOT_OPEN) ↔ (handle.old.parked.device ≡ None) }
     ensures again { (result ≡ ALREADY_STARTED) ↔ Holds (λ d. d.node ≢ None) handle.old.parked.device }
-    ensures settings { (result ≡ BAD_SETTINGS) ↔ Holds (λ d. IsIdle d × (IsTrue (is_right settings.now) → ⊥)) handle.old.parked.device }
+    ensures settings { (result ≡ BAD_SETTINGS) ↔ Holds (HasBadSettings settings.now) handle.old.parked.device }
     ensures few { IsTrue (is_one_of HOUSE_STARTING result) }
     ensures err { result ≢ DONE → handle.new.parked.device ≡ handle.old.parked.device }
 {

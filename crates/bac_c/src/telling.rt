@@ -13,7 +13,7 @@ ghost use Rattle.bac_c.specs.Results.{IsCopied, IsTold};
 ghost use Rattle.bac_c.specs.Telling.{HasPlaces, count_told, octets_in, part_told, place_in, put_made, told};
 
 use crate::copying::copy_out;
-use crate::places::{CHUNK, NUMBERS, file_place, value_place};
+use bac_keep::{CHUNK, NUMBERS, file_place, value_place};
 use bac_store::Store;
 use bac_value::ObjectIdentifier;
 

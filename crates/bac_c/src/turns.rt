@@ -1,11 +1,11 @@
 //! Datagrams and time.
-ghost use Rattle.std.specs.Prelude.{◌≡◌, ◌≢◌, ◌↔◌, ◌<◌, ◌≤◌, None, Some, IfSome, MatchOption};
+ghost use Rattle.std.specs.Prelude.{◌≡◌, ◌≢◌, ◌≤◌, IfSome};
 ghost use Rattle.bac_node.specs.Calls.{IsNotHeard};
 ghost use Rattle.bac_node.specs.Waiting.{MovesAt, RestsUntil};
 ghost use Rattle.bac_requester.specs.Timers.{LAST_MOMENT};
 ghost use Rattle.bac_world.specs.Node.{NodeTick};
-ghost use Rattle.bac_c.specs.Devices.{HasHeard, HasKept, HasRun, Holds, IsIdle, Runs};
-ghost use Rattle.bac_c.specs.Statuses.{CLOCK_BACK, DONE, NOT_OPEN, NOT_STARTED, NO_MEMORY};
+ghost use Rattle.bac_c.specs.Devices.{HasHeard, HasKept, HasRun, Holds, IsTurnStatus, Runs};
+ghost use Rattle.bac_c.specs.Statuses.{DONE, NOT_STARTED, NO_MEMORY};
 
 use crate::fault::{Fault, status};
 use crate::handle::Handle;
@@ -22,9 +22,7 @@ pub extern "C" fn bac_on(
 ) -> u32
     ensures went { result ≡ DONE → HasHeard now from.now octets.now handle.old.parked.device handle.new.parked.device }
     ensures within { result ≡ DONE → HasKept handle.old.parked.device handle.new.parked.device }
-    ensures closed { (result ≡ NOT_OPEN) ↔ (handle.old.parked.device ≡ None) }
-    ensures idle { (result ≡ NOT_STARTED) ↔ Holds IsIdle handle.old.parked.device }
-    ensures early { (result ≡ CLOCK_BACK) ↔ Holds (Runs (λ n. now < n.latest)) handle.old.parked.device }
+    ensures status { IsTurnStatus now handle.old.parked.device result }
     ensures dropped { result ≡ NO_MEMORY → Holds (Runs (λ n. IsNotHeard n.link from.now octets.now → ⊥)) handle.old.parked.device }
     ensures few { result ≤ NOT_STARTED }
     ensures err { result ≢ DONE → handle.new.parked.device ≡ handle.old.parked.device }
@@ -41,9 +39,7 @@ pub extern "C" fn bac_on(
 #[unsafe(no_mangle)]
 pub extern "C" fn bac_tick(alloc: Global, handle: &mut Handle, now: u64) -> u32
     ensures went { result ≡ DONE → HasRun (NodeTick now) handle.old.parked.device handle.new.parked.device }
-    ensures closed { (result ≡ NOT_OPEN) ↔ (handle.old.parked.device ≡ None) }
-    ensures idle { (result ≡ NOT_STARTED) ↔ Holds IsIdle handle.old.parked.device }
-    ensures early { (result ≡ CLOCK_BACK) ↔ Holds (Runs (λ n. now < n.latest)) handle.old.parked.device }
+    ensures status { IsTurnStatus now handle.old.parked.device result }
     ensures few { result ≤ NOT_STARTED }
     ensures err { result ≢ DONE → handle.new.parked.device ≡ handle.old.parked.device }
 {

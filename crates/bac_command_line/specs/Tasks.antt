@@ -55,7 +55,7 @@ IsPerformed IsAt IsOn IsClock IsOnDatabase (task.Ask asking peer words) s old ne
 IsPerformed IsAt IsOn IsClock IsOnDatabase (task.AskLines asking default path) s old new =
     AreAskedFrom IsAt IsOn IsClock s asking (option_map peer_view default) path.now old new
 IsPerformed IsAt IsOn IsClock IsOnDatabase (task.Files file work) s old new = IsFiled s
-IsPerformed IsAt IsOn IsClock IsOnDatabase (task.Points points) s old new = ArePoints IsOn IsClock points s old new
+IsPerformed IsAt IsOn IsClock IsOnDatabase (task.Points points) s old new = ArePoints IsAt IsOn IsClock points s old new
 IsPerformed IsAt IsOn IsClock IsOnDatabase task.Pair s old new = IsPair IsOn IsClock s old new
 IsPerformed IsAt IsOn IsClock IsOnDatabase (task.Tell telling) s old new = IsTold s
 

@@ -6,7 +6,7 @@ ghost use Rattle.bac_command_line.specs.Outputs.{has_reader_ended};
 
 use crate::command::run;
 use crate::piped::Piped;
-use bac_serving::RegularFiles;
+use bac_environment::RegularFiles;
 use bac_system::Machine;
 use bac_text::Status;
 use std::alloc::Global;

@@ -2,11 +2,10 @@
 ghost use Rattle.std.specs.Prelude.{◌≡◌};
 ghost use Rattle.bac_text.specs.declared.status.Status.TheVariants as status;
 
-use bac_asking::{bad_pace, print_bad_pace};
+use bac_asking::{bad_pace, bad_timeout, print_bad_pace, print_bad_timeout};
+use bac_environment::{EVERY_HOST, is_of_node, read_end, read_host, read_link, read_route};
 use bac_forms::FORM_NAMES;
 use bac_guard::SourcesFault;
-use bac_lists::{EVERY_HOST, is_of_node, read_end, read_host, read_link, read_route};
-use bac_points::{bad_timeout, print_bad_timeout};
 use bac_reading::{MOST_SLOWER, read_slower};
 use bac_serving::{bad_peers, read_memory, remembers_in_vain};
 use bac_text::{Status, complain};
@@ -150,6 +149,23 @@ fn print_bad_form<E: Write>(form: Option<&str>, err: &mut E) -> Status
     status
 }
 
+/// Complains of what was given to a command that asks a node: the time between rounds, the time to wait, or the address.
+fn print_no_asking<E: Write>(given: &ArgMatches<'_>, err: &mut E) -> Status
+    ensures { result ≡ status.CommandLine }
+{
+    if let Some(text) = bad_pace(given) {
+        print_bad_pace(text, err);
+        return Status::CommandLine;
+    }
+    match bad_timeout(given) {
+        Some(text) => {
+            print_bad_timeout(text, err);
+            Status::CommandLine
+        }
+        None => print_bad_address(bad_node(given), err),
+    }
+}
+
 /// Complains of a command line that clap takes and that asks for nothing.
 pub(crate) fn print_no_task<E: Write>(matches: &ArgMatches<'_>, err: &mut E) -> Status
     ensures { result ≡ status.CommandLine }
@@ -161,24 +177,8 @@ pub(crate) fn print_no_task<E: Write>(matches: &ArgMatches<'_>, err: &mut E) -> 
             None => print_bad_address(bad_peer(given), err),
         },
         Some(("serve", given)) => print_no_serving(given, err),
-        Some(("ask", given)) => match bad_pace(given) {
-            Some(text) => {
-                print_bad_pace(text, err);
-                Status::CommandLine
-            }
-            None => print_bad_address(bad_node(given), err),
-        },
-        Some(("get" | "put" | "backup" | "restore", given)) => print_bad_address(
-            bad_node(given),
-            err,
-        ),
-        Some(("read" | "write" | "points", given)) => match bad_timeout(given) {
-            Some(text) => {
-                print_bad_timeout(text, err);
-                Status::CommandLine
-            }
-            None => print_bad_address(bad_node(given), err),
-        },
+        Some(("read" | "write" | "points" | "get" | "put" | "backup" | "restore" | "ask", given)) =>
+            print_no_asking(given, err),
         _ => complain(err, "no command", Status::CommandLine),
     }
 }

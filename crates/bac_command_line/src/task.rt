@@ -1,5 +1,5 @@
 //! What a command line asks for.
-use bac_asking::{Asking, asking_of, bad_pace, default_of, peer_of};
+use bac_asking::{Asking, asking_of, default_of, peer_of};
 use bac_files::{FileTask, FileWork, file_task_of, file_work_of, work_of};
 use bac_keep_file::Loss;
 use bac_npdu::Peer;
@@ -135,7 +135,7 @@ impl<'m, 'a> Task<'m, 'a> {
     }
 }
 
-/// None where there is no subcommand, or its word is missing; clap refuses such words itself. Also where an address is none of IPv4. On a terminal
+/// None where there is no subcommand, or its word is missing; clap refuses such words itself. Also where an address is none of IPv4, or a time is none. On a terminal
 /// the progress of asks is shown. Where the command line tells why it fails, so does the task.
 pub(crate) fn task_of<'m, 'a>(
     matches: &'m ArgMatches<'a>,
@@ -205,9 +205,8 @@ pub(crate) fn task_of<'m, 'a>(
             };
             Some(Task::Keep { path, loss, form })
         }
-        ("ask", given) if bad_pace(given).is_some() => None,
         ("ask", given) => {
-            let asking = asking_of(given, is_terminal);
+            let asking = asking_of(given, is_terminal)?;
             if let Some(path) = given.get_str("lines") {
                 let default = default_of(given)?;
                 return Some(Task::AskLines {

@@ -12,7 +12,7 @@ use Rattle.bac_service.specs.Values.{Request, choice_of}
 use Rattle.bac_transaction.specs.Ends.{Accepted, AskOutcome, AskRefusal, ClientEnd, accepts, asks_by_way, asks_for, asks_with_id, free_id, is_id_taken, least_not}
 use Rattle.bac_requester.specs.declared.ask_fault.AskFault.{AskFault}
 use Rattle.bac_requester.specs.declared.ask_fault.AskFault.TheVariants as fault
-use Rattle.bac_world.specs.Node.{Node, NodeRefuses, Refusal}
+use Rattle.bac_driver.specs.Nodes.{Node, NodeRefuses, Refusal}
 use Rattle.bac_driver.specs.Asking.{IsRefused, Question}
 use Rattle.bac_driver.specs.Runs.{Timed}
 use Rattle.bac_commands.specs.Houses.{client_node}
@@ -69,22 +69,22 @@ not_wanting c now first_id peer choice octets (Way.InSegments pieces) why want r
 not_wanting c now first_id peer choice octets (Way.Refused f) why no_slot refused = absurd cc
 not_wanting c now first_id peer choice octets (Way.Refused f) why no_id refused = absurd cc
 
-not_refusing : (now first_id : ℕ) (peer : PeerView) (limits : Limits) (r : Request) (address : Octets) (node : Node) (why : AskRefusal)
-    → IsWant why → node ≡ client_node first_id address → NodeRefuses now peer limits r node (Refusal.CannotAsk why) → ⊥
-not_refusing now first_id peer limits r address node why want is refuses =
-    let n : NodeRefuses now peer limits r (client_node first_id address) (Refusal.CannotAsk why) =
+not_refusing : (now begun first_id : ℕ) (peer : PeerView) (limits : Limits) (r : Request) (address : Octets) (node : Node) (why : AskRefusal)
+    → IsWant why → node ≡ client_node begun first_id address → NodeRefuses now peer limits r node (Refusal.CannotAsk why) → ⊥
+not_refusing now begun first_id peer limits r address node why want is refuses =
+    let n : NodeRefuses now peer limits r (client_node begun first_id address) (Refusal.CannotAsk why) =
     subst (λ (m : Node). NodeRefuses now peer limits r m (Refusal.CannotAsk why)) is refuses in
-    let c = (client_node first_id address).settings in
+    let c = (client_node begun first_id address).settings in
     not_wanting c now first_id peer (choice_of r) n.octets (request_way_of c limits n.octets) why want n.refused
 
-pub never_spent : (q : Question) (why : AskFault) (old new : Timed) (first_id : ℕ) (address : Octets)
-    → old.bound_node.node ≡ client_node first_id address → IsRefused q why old new → is_spent why ≡ false
-never_spent q fault.NoSlot old new first_id address is refused =
-    absurd (not_refusing refused.now first_id q.peer q.limits q.request address old.bound_node.node AskRefusal.NoSlot no_slot is refused.refuses)
-never_spent q fault.NoInvokeId old new first_id address is refused =
-    absurd (not_refusing refused.now first_id q.peer q.limits q.request address old.bound_node.node AskRefusal.NoInvokeId no_id is refused.refuses)
-never_spent q fault.NeedsSegments old new first_id address is refused = refl
-never_spent q fault.TooLong old new first_id address is refused = refl
-never_spent q fault.SelfPeer old new first_id address is refused = refl
-never_spent q fault.ClockBack old new first_id address is refused = refl
-never_spent q fault.NoMemory old new first_id address is refused = refl
+pub never_spent : (q : Question) (why : AskFault) (old new : Timed) (begun first_id : ℕ) (address : Octets)
+    → old.bound_node.node ≡ client_node begun first_id address → IsRefused q why old new → is_spent why ≡ false
+never_spent q fault.NoSlot old new begun first_id address is refused =
+    absurd (not_refusing refused.now begun first_id q.peer q.limits q.request address old.bound_node.node AskRefusal.NoSlot no_slot is refused.refuses)
+never_spent q fault.NoInvokeId old new begun first_id address is refused =
+    absurd (not_refusing refused.now begun first_id q.peer q.limits q.request address old.bound_node.node AskRefusal.NoInvokeId no_id is refused.refuses)
+never_spent q fault.NeedsSegments old new begun first_id address is refused = refl
+never_spent q fault.TooLong old new begun first_id address is refused = refl
+never_spent q fault.SelfPeer old new begun first_id address is refused = refl
+never_spent q fault.ClockBack old new begun first_id address is refused = refl
+never_spent q fault.NoMemory old new begun first_id address is refused = refl

@@ -22,9 +22,8 @@ use Rattle.bac_transaction.specs.Ends.{context_of}
 use Rattle.bac_transaction.specs.Keys.{PeerKey}
 use Rattle.bac_transaction.specs.Sends.{Datagram, Pairwise, IsSent, to_peer}
 use Rattle.bac_transaction.specs.Services.{outcome_of}
-use Rattle.bac_world.specs.Node.{Node}
-use Rattle.bac_world.specs.Laws.{Gets, IsPerformedNow}
-use Rattle.bac_world.proofs.NodeLaws.{new_is_performed, stores_reply}
+use Rattle.bac_driver.specs.Nodes.{Node, Gets, IsPerformedNow}
+use Rattle.bac_driver.proofs.Nodes.{new_is_performed, stores_reply}
 use Rattle.bac_commands.specs.Answers.{AreAnswers, Asks, IsReplied}
 use Rattle.bac_commands.specs.Houses.{node_with}
 use Rattle.bac_commands.specs.ReplyApdus.{IsShort, reply_apdu}

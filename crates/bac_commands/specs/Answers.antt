@@ -10,7 +10,7 @@ use Rattle.bac_transaction.specs.Sends.{Datagram, Pairwise, IsSent, to_peer}
 use Rattle.bac_store.specs.House.{house}
 use Rattle.bac_store.specs.Replies.{reply_to}
 use Rattle.bac_store.specs.Stores.{Store}
-use Rattle.bac_world.specs.Node.{Node, Outcome, NodeOn}
+use Rattle.bac_driver.specs.Nodes.{Node, Outcome, NodeOn}
 use Rattle.bac_commands.specs.Houses.{node_with}
 use Rattle.bac_commands.specs.ReplyApdus.{reply_apdu}
 use Rattle.bac_commands.specs.declared.answering.TheConstants.{CLIENT, SERVER}

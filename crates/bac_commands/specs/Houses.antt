@@ -4,8 +4,7 @@ use Rattle.bac_apdu.specs.Apdu.{Limits}
 use Rattle.bac_protocol.specs.Service.{Octets}
 use Rattle.bac_store.specs.House.{house}
 use Rattle.bac_store.specs.Stores.{Store}
-use Rattle.bac_node.specs.Fresh.{with_first_id}
-use Rattle.bac_world.specs.Node.{Node, restarted}
+use Rattle.bac_driver.specs.Nodes.{with_first_id, Node, begun_again, restarted}
 
 -- APDUs of 1,476 octets (code 5 of clause 20.1.2.5), and any number of segments (code 7 of clause 20.1.2.4)
 abbrev pub most_limits : Limits
@@ -40,9 +39,10 @@ with_asks slots n = record n { clients = record n.clients { capacity = slots } }
 abbrev pub asking_node : (link : Octets) → Store → Node
 asking_node link store = with_asks 65536 (node_of 256 link store)
 
--- the one with the house store, whose invoke IDs begin at that one
-abbrev pub client_node : (first_id : ℕ) → (link : Octets) → Node
-client_node first_id link = with_first_id first_id (asking_node link house)
+-- the one with the house store, which begins at that moment, once all is over that was sent from there: its invoke IDs begin at that one, it may ask at once, and
+-- it turns requests away at first
+abbrev pub client_node : (now first_id : ℕ) → (link : Octets) → Node
+client_node now first_id link = begun_again now first_id house (asking_node link house)
 
 -- the one of 64 slots with the house store, whose invoke IDs begin at that one
 abbrev pub house_node : (first_id : ℕ) → (link : Octets) → Node

@@ -2,14 +2,13 @@
 ghost use Rattle.std.specs.Prelude.{◌≡◌, ℕ, IfOk};
 ghost use Rattle.bac_npdu.specs.Peers.{PeerView};
 ghost use Rattle.bac_service.specs.Values.{Request};
-ghost use Rattle.bac_node.specs.Views.{outcome_view};
-ghost use Rattle.bac_world.specs.Node.{NodeOn};
+ghost use Rattle.bac_driver.specs.Nodes.{outcome_view, NodeOn};
 ghost use Rattle.bac_commands.specs.Answers.{AreAnswers, AreAnswersOf, Asks, IsReplied};
 
 mod printing;
 
 use crate::fresh_node::node_with;
-use bac_node::{Node, NodeFault, Outcome};
+use bac_driver::{Node, NodeFault, Outcome};
 use bac_npdu::LinkAddress;
 use bac_store::{Store, house};
 use bac_transaction::Datagram;

@@ -1,10 +1,10 @@
 //! The node that each command makes.
 ghost use Rattle.std.specs.Prelude.{◌≡◌, true, false, IfOk, IsErrOf};
-ghost use Rattle.bac_node.specs.Fresh.{large_slots_fit};
+ghost use Rattle.bac_driver.specs.Nodes.{large_slots_fit};
 ghost use Rattle.bac_commands.specs.Houses.{asking_node, node_of, node_with, server_node};
 
 use bac_apdu::Limits;
-use bac_node::{Config, NewNodeFault, Node};
+use bac_driver::{Config, NewNodeFault, Node};
 use bac_npdu::LinkAddress;
 use bac_store::Store;
 use bac_value::NoMemory;

@@ -6,3 +6,4 @@ pub mod HeldTurns
 pub mod ChangesOfTurns
 pub mod RoundsTaken
 pub mod RoundsStopped
+pub mod Nodes

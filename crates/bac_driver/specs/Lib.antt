@@ -16,3 +16,4 @@ pub mod Udp
 pub mod Moments
 pub mod Clocks
 pub mod Changes
+pub mod Nodes

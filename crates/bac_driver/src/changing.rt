@@ -10,7 +10,7 @@ ghost use Rattle.bac_driver.specs.Views.{turn_view};
 
 use crate::turn::Turn;
 use bac_keep::{KeepFault, Keeper, note_request};
-use bac_responder::Act;
+use bac_node::Act;
 use bac_service::{AnyReply, OwnedReply, is_read_choice};
 use bac_store::{Store, writes_change_one_thing};
 

@@ -35,3 +35,7 @@ pub use round::Round;
 pub use turn::{Turn, sends_of};
 pub use udp::UdpLink;
 pub use wait_limit::{RunLimit, WaitLimit};
+
+// what programs that run nodes name of them
+pub use bac_keep::KeepFault;
+pub use bac_node::{Config, MEMORY, NewNodeFault, Node, NodeFault, Outcome};

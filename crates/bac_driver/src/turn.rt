@@ -6,9 +6,8 @@ ghost use Rattle.bac_driver.specs.Serving.{count_of};
 ghost use Rattle.bac_driver.specs.Turns.{dropped_of, performed_of, sends_of, skipped_in};
 ghost use Rattle.bac_driver.specs.Views.{turn_view};
 
-use bac_node::{Cause, Outcome};
+use bac_node::{Act, Cause, Outcome};
 use bac_npdu::LinkAddress;
-use bac_responder::Act;
 use bac_transaction::Datagram;
 
 /// The sender of the datagram that came, and how many octets it has: they are the first of `BoundNode::buffer`. None where no datagram came.

@@ -3,8 +3,8 @@ use Rattle.std.proofs.Common.{◌≡◌, ◌∙◌, ℕ, ◌<◌, ◌^◌, ◌*�
 use Rattle.std.specs.Prelude.{MatchOption, SomeIff}
 use Rattle.std.specs.Char.{digit_value}
 use Rattle.std.specs.Str.Parse.{AllDigits, IsNumeral, without_leading_plus}
-use Rattle.bac_lists.proofs.Numerals.{decimal_is_number, one_number}
-use Rattle.bac_lists.specs.Addresses.{IsNoNumber, IsNumber}
+use Rattle.bac_environment.proofs.Numerals.{decimal_is_number, one_number}
+use Rattle.bac_environment.specs.Addresses.{IsNoNumber, IsNumber}
 use Rattle.std.proofs.lemmas.List.{append-nil}
 use Rattle.bac_environment.specs.Times.{IsCutAtUnit, IsNoTime, IsTime, TimeUnit, Own, Milliseconds, Seconds, Minutes, unit_length, unit_text}
 
@@ -116,6 +116,37 @@ counted own text front each count milliseconds cut number time =
     let one = cut.only time.front time.unit time.count time.text_is time.number in
     let same : time.count ≡ count = one_number 64 front time.count count (subst (λ (t : List ℕ). IsNumber 64 t time.count) one.0 time.number) number in
     time.is ∙ ap (λ (n : ℕ). n * unit_length own time.unit) same ∙ ap (λ (e : ℕ). count * e) one.1
+
+-- where the unit of a time begins is where the text is cut
+cut_by : (own : ℕ) (text front : List ℕ) (unit : TimeUnit) (count : ℕ) → text ≡ front ++ unit_text unit → IsNumber 64 front count
+    → IsCutAtUnit own text front (unit_length own unit)
+cut_by own text front Own count is n =
+    let same : text ≡ front = is ∙ append-nil front in
+    let number : IsNumber 64 text count = subst (λ (t : List ℕ). IsNumber 64 t count) (sym same) n in
+    let no_ms : (f : List ℕ) → text ≡ f ++ codes "ms" → ⊥ =
+    λ f e. no_s (f ++ 109 ∷ []) count (subst (λ (t : List ℕ). IsNumber 64 t count) (e ∙ letters f) number) in
+    let no_seconds : (f : List ℕ) → text ≡ f ++ codes "s" → ⊥ = λ f e. no_s f count (subst (λ (t : List ℕ). IsNumber 64 t count) e number) in
+    let no_minutes : (f : List ℕ) → text ≡ f ++ codes "m" → ⊥ = λ f e. no_m f count (subst (λ (t : List ℕ). IsNumber 64 t count) e number) in
+    subst (λ (f : List ℕ). IsCutAtUnit own text f own) same (not_cut own text no_ms no_seconds no_minutes)
+cut_by own text front Milliseconds count is n = cut_at_milliseconds own text front is
+cut_by own text front Seconds count is n =
+    cut_at_seconds own text front
+    (λ f e. no_m f count
+    (subst (λ (t : List ℕ). IsNumber 64 t count) (same_last front (f ++ 109 ∷ []) 115 115 (sym is ∙ e ∙ letters f)).0 n))
+    is
+cut_by own text front Minutes count is n =
+    cut_at_minutes own text front
+    (λ f e. let other : 109 ≡ 115 = (same_last front (f ++ 109 ∷ []) 109 115 (sym is ∙ e ∙ letters f)).1 in absurd (omega (arith, other)))
+    (λ f e. let other : 109 ≡ 115 = (same_last front f 109 115 (sym is ∙ e)).1 in absurd (omega (arith, other)))
+    is
+
+-- a text is one time
+pub same_time : (own : ℕ) (text : List ℕ) (a b : ℕ) → IsTime own text a → IsTime own text b → a ≡ b
+same_time own text a b one other =
+    one.is
+    ∙ sym
+    (counted own text one.front (unit_length own one.unit) one.count b (cut_by own text one.front one.unit one.count one.text_is one.number) one.number
+    other)
 
 -- what the product is, if it fits
 pub time_told : (own : ℕ) (text front : List ℕ) (each count : ℕ) (r : Option ℕ) → IsCutAtUnit own text front each → IsNumber 64 front count

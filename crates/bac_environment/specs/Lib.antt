@@ -1,3 +1,7 @@
+pub mod Addresses
+pub mod LineWords
+pub mod LineNames
+pub mod QuestionLines
 pub mod Files
 pub mod Sockets
 pub mod Limits

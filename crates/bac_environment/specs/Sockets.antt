@@ -1,11 +1,9 @@
 -- Links that a machine bound, clocks that it made, and nodes on such links.
 use Rattle.std.specs.Prelude.{◌≡◌, ℕ}
-use Rattle.bac_protocol.specs.Service.{Octets}
-use Rattle.bac_transaction.specs.declared.rules.Rules.{Rules}
+use Rattle.bac_driver.specs.Nodes.{Octets, Rules, Node}
 use Rattle.bac_driver.specs.BoundNodes.{BoundNode}
 use Rattle.bac_driver.specs.Calls.{Calls}
 use Rattle.bac_driver.specs.Moments.{Told}
-use Rattle.bac_world.specs.Node.{Node}
 
 -- a link that the machine bound to a port of an IPv4 address, by its address, the count of its failures and the calls that were made
 pub record OnPort {Link : Type 0} (IsBound : (host : Octets) → (port : ℕ) → Link → (address : Octets) → Type 0) (failures_of : Link → ℕ)

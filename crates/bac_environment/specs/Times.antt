@@ -1,6 +1,6 @@
 -- Times as people write them.
 use Rattle.std.specs.Prelude.{◌≡◌, ℕ, ◌^◌, ◌*◌, ◌<◌, List, [], ◌++◌, codes}
-use Rattle.bac_lists.specs.Addresses.{IsNumber}
+use Rattle.bac_environment.specs.Addresses.{IsNumber}
 
 -- what stands behind the number of a time; a number alone is one of a unit that is given
 pub data TimeUnit : Type 0 where

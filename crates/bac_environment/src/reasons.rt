@@ -3,8 +3,8 @@ ghost use Rattle.std.specs.Prelude.{◌≡◌};
 ghost use Rattle.bac_text.specs.Statuses.{IsStop};
 ghost use Rattle.bac_text.specs.declared.status.Status.TheVariants as status;
 
+use crate::bad_word_text;
 use bac_commands::link_fault;
-use bac_lists::bad_word_text;
 use bac_service_text::BadWord;
 use bac_text::{Status, complain, no_memory};
 use std::alloc::Global;

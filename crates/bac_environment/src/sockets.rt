@@ -1,6 +1,6 @@
 //! Links and clocks.
 ghost use Rattle.std.specs.Prelude.{ℕ, IfOk, IfSome};
-ghost use Rattle.bac_protocol.specs.Service.{Octets};
+ghost use Rattle.bac_driver.specs.Nodes.{Octets};
 
 use bac_driver::{Clock, Link};
 use bac_guard::Guard;

@@ -2,7 +2,7 @@
 ghost use Rattle.std.specs.Prelude.{◌≡◌, ◌<◌, ◌*◌, ◌^◌, ◌++◌, ℕ, List, MatchOption, Some, decimal};
 ghost use Rattle.bac_environment.specs.Times.{IsCutAtUnit, IsNoTime, IsTime};
 
-use bac_lists::read_number;
+use crate::read_number;
 
 /// What stands before the text of a unit, at whose end that stands.
 fn before_unit<'a>(text: &'a str, unit: &str) -> Option<&'a str>

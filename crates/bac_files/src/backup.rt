@@ -16,9 +16,9 @@ use crate::saved_files::{are_saved, has_object, manifest_of};
 use crate::whole_files::client_of;
 use crate::whole_reading::{Got, read_whole};
 use crate::whole_writing::{Put, replace_whole};
-use bac_asking::{Asking, Client, ClientSockets, outcome_of, tell_no_answer};
+use bac_asking::{Asking, Client, outcome_of, tell_no_answer, tells_unheard};
 use bac_driver::AskEnd;
-use bac_environment::{Environment, OpenFiles};
+use bac_environment::{ClientSockets, Environment, OpenFiles};
 use bac_npdu::Peer;
 use bac_point_report::is_silent;
 use bac_text::{Status, no_memory};
@@ -682,6 +682,9 @@ fn back_up_named<F: OpenFiles, M: ClientSockets, O: Write, E: Write>(
 ) -> Result<bool, Status>
     ensures told { IfErr result IsStop }
 {
+    if tells_unheard(environment, task.peer, err) {
+        return Ok(false);
+    }
     let mut backup = backup_in(environment, task, path, err)?;
     backup.save_all(Wanted::named(objects), out, err)
 }
@@ -697,6 +700,9 @@ fn back_up_listed<F: OpenFiles, M: ClientSockets, O: Write, E: Write>(
 ) -> Result<bool, Status>
     ensures told { IfErr result IsStop }
 {
+    if tells_unheard(environment, task.peer, err) {
+        return Ok(false);
+    }
     let mut backup = backup_in(environment, task, path, err)?;
     backup.save_listed(device, out, err)
 }
@@ -734,6 +740,9 @@ fn restore_listed<F: OpenFiles, M: ClientSockets, O: Write, E: Write>(
 {
     if files.is_empty() {
         print_empty_manifest(path, err);
+        return Ok(false);
+    }
+    if tells_unheard(environment, task.peer, err) {
         return Ok(false);
     }
     let mut backup = backup_in(environment, task, path, err)?;

@@ -8,9 +8,8 @@ use crate::backup::{back_up, restore};
 use crate::named_file::{fetch, send};
 use crate::reasons::print_no_whole_file;
 use crate::whole_files::{get, put};
-use bac_asking::{Asking, ClientSockets, asking_of, peer_of, tell_unsent};
-use bac_environment::{Environment, OpenFiles};
-use bac_lists::BACNET_PORT;
+use bac_asking::{Asking, asking_of, peer_of, tell_unsent};
+use bac_environment::{BACNET_PORT, ClientSockets, Environment, OpenFiles};
 use bac_npdu::Peer;
 use bac_text::Status;
 use bac_value_text::object_in;
@@ -105,12 +104,13 @@ pub fn work_of<'m, 'a>(given: &'m ArgMatches<'a>, asking: &Asking) -> Option<Fil
     whole_work(given.get_strs("WORDS")?, given.get_str("out"))
 }
 
-/// How the arguments of `get`, `put`, `backup` or `restore` say that a peer is asked: by default the node on this machine at the port of BACnet/IP. None if an address is invalid.
+/// How the arguments of `get`, `put`, `backup` or `restore` say that a peer is asked: by default the node on this machine at the port of BACnet/IP. None if an address or the time to
+/// wait is invalid.
 pub fn file_task_of(given: &ArgMatches<'_>, shows_progress: bool) -> Option<FileTask>
     ensures { IfSome result (λ t. IsGiven given.now t.asking × IsPeerGiven given.now (Some BACNET_PORT) (peer_view t.peer)) }
 {
     Some(FileTask {
-        asking: asking_of(given, shows_progress),
+        asking: asking_of(given, shows_progress)?,
         peer: peer_of(given, Some(BACNET_PORT))?,
     })
 }

@@ -3,8 +3,8 @@ ghost use Rattle.std.specs.Prelude.{IfErr};
 ghost use Rattle.bac_text.specs.Statuses.{IsStop};
 
 use crate::peer_file::{Asked, ask_words, end_words};
-use bac_asking::{Asking, Client, ClientSockets, outcome_of, reply_of, tell_no_answer};
-use bac_environment::print_bad_name;
+use bac_asking::{Asking, Client, outcome_of, reply_of, tell_no_answer};
+use bac_environment::{ClientSockets, print_bad_name};
 use bac_npdu::Peer;
 use bac_point_report::is_silent;
 use bac_service::{AnyComplex, AnyReply, Reply};

@@ -9,8 +9,8 @@ use crate::peer_file::{Asked, PeerFile, end_words};
 use crate::whole_files::{Target, client_of, has_no_more, write_out};
 use crate::whole_reading::{Got, read_whole};
 use crate::whole_writing::{Put, replace_whole};
-use bac_asking::{Asking, Client, ClientSockets, outcome_of, tell_no_answer};
-use bac_environment::{Environment, OpenFiles, octets_of, opened};
+use bac_asking::{Asking, Client, outcome_of, tell_no_answer, tells_unheard};
+use bac_environment::{ClientSockets, Environment, OpenFiles, octets_of, opened};
 use bac_point_report::is_silent;
 use bac_text::{Status, no_memory, output_failed};
 use bac_value::ObjectIdentifier;
@@ -120,6 +120,9 @@ pub(crate) fn fetch<F: OpenFiles, M: ClientSockets, O: Write, E: Write>(
 {
     let alloc = environment.alloc;
     let named = named_by(alloc, task, word, err)?;
+    if tells_unheard(environment, task.peer, err) {
+        return Ok(false);
+    }
     let got = read_named(environment, task, &named, err)?;
     if got.is_whole {
         deliver(environment.files, path, &got.octets, out, err)
@@ -230,5 +233,8 @@ pub(crate) fn send<F: OpenFiles, M: ClientSockets, O: Write, E: Write>(
     let named = named_by(environment.alloc, task, word, err)?;
     let file = opened(environment.files, path, err)?;
     let octets = octets_of(environment.alloc, path, file, err)?;
+    if tells_unheard(environment, task.peer, err) {
+        return Ok(false);
+    }
     send_octets(environment, task, &named, &octets, out, err)
 }

@@ -3,10 +3,10 @@ ghost use Rattle.std.specs.Prelude.{IfErr};
 ghost use Rattle.bac_text.specs.Statuses.{IsStop};
 
 use crate::part_size::PartSize;
-use bac_asking::{Asking, Client, ClientSockets, ask_on, outcome_of, question_in, reply_of};
+use bac_asking::{Asking, Client, ask_on, outcome_of, question_in, reply_of};
 use bac_commands::Style;
 use bac_driver::{AskEnd, Question};
-use bac_lists::print_bad_words;
+use bac_environment::{ClientSockets, print_bad_words};
 use bac_npdu::Peer;
 use bac_point_report::failure_words;
 use bac_requester::Ending;

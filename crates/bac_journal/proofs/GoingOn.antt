@@ -378,7 +378,7 @@ module _ (links : ℕ → Option Octets) (apart : (i j : ℕ) (l : Octets) → l
       (subst (λ (i : ℕ). links i ≡ Some l) between.0 link) k.invoke
       (subst (λ (i : ℕ). IsHeardInBy (u i) false (peer_at l) p.copy.apdu (told w i) a b o) between.1 turn))
 
-  copy_enters : (number : ℕ) (c : Copy) → slice_get w.copies number ≡ Some c → (l : Octets) → link_at w.nodes c.from ≡ Some l → (a b : Node) (o : Outcome)
+  pub copy_enters : (number : ℕ) (c : Copy) → slice_get w.copies number ≡ Some c → (l : Octets) → link_at w.nodes c.from ≡ Some l → (a b : Node) (o : Outcome)
       → slice_get w.nodes c.to ≡ Some a → NodeHears (u c.to) (told w c.to) l c.octets a b o → Enters links apart W x bound mode w n h c.to b o
   copy_enters number c at l link a b o node on = go (heard_in (told w c.to) l c.octets a b o (u c.to) on)
     where
@@ -392,7 +392,7 @@ module _ (links : ℕ → Option Octets) (apart : (i j : ℕ) (l : Octets) → l
           (subst (λ (q : PeerView). IsHeardInBy (u c.to) (is_from_client p.other.copy.apdu) q p.other.copy.apdu (told w c.to) a b o) one.0
           (subst (λ (y : Apdu). IsHeardInBy (u c.to) (is_from_client y) d.peer y (told w c.to) a b o) one.1 d.heard))
 
-  outside_enters : (i : ℕ) (from octets : Octets) → IsOutside w.nodes from octets → (a b : Node) (o : Outcome) → slice_get w.nodes i ≡ Some a
+  pub outside_enters : (i : ℕ) (from octets : Octets) → IsOutside w.nodes from octets → (a b : Node) (o : Outcome) → slice_get w.nodes i ≡ Some a
       → NodeHears (u i) (told w i) from octets a b o → Enters links apart W x bound mode w n h i b o
   outside_enters i from octets out a b o node on = go out (heard_in (told w i) from octets a b o (u i) on)
     where

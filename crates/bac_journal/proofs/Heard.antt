@@ -17,7 +17,6 @@ use Rattle.bac_protocol.specs.Pace.{Clock}
 use Rattle.bac_protocol.specs.World.{Net, Post, is_lost}
 use Rattle.bac_protocol.specs.Claims.{IsBounded}
 use Rattle.bac_protocol.specs.Steps.{IsSameReaction}
-use Rattle.bac_protocol.proofs.Dead.{same_of, same_then, same_back}
 use Rattle.bac_protocol.proofs.Own.{client_sends_own}
 use Rattle.bac_slots.specs.Slots.{value_at}
 use Rattle.bac_transaction.specs.Keys.{PeerKey, same_key}
@@ -36,7 +35,7 @@ use Rattle.bac_world.proofs.Bridge.{IsWay, TicketFits, here_at, there_at, key_of
 use Rattle.bac_world.proofs.Steps.{Over, Fits}
 use Rattle.bac_world.proofs.Serving.{each_of_server}
 use Rattle.bac_world.proofs.Settings.{free_for, hears_at, Mode}
-use Rattle.bac_world.proofs.Reused.{hears_own, hears_same}
+use Rattle.bac_world.proofs.Reused.{alike_by_live, hears_own, hears_same}
 use Rattle.bac_world.proofs.Hearing.{ticket_at}
 use Rattle.bac_journal.specs.Entering.{Every, CanLeave, IsNoted, IsOfClient, AreOfPeerSo, CanEnterSo}
 use Rattle.bac_journal.proofs.Few.{client_gets_few, hears_few, entries_few}
@@ -133,14 +132,8 @@ module _ (links : ℕ → Option Octets) (apart : (i j : ℕ) (l : Octets) → l
         so (Some e) y = y.key ∙ ap (slot_key l) invoke
 
     same : IsSameReaction (there_at n p.key.server) v u
-    same =
-        let y : Option ServerTransaction = value_at same_key q a.servers.slots in
-        let e : Option ServerTransaction = n.entries key in
-        same_then (there_at n p.key.server) v (gets (server.live_entry (there_at n p.key.server) y)) u (hears_same context service free reuse y apdu)
-        (same_then (there_at n p.key.server) (gets (server.live_entry (there_at n p.key.server) y)) (gets (server.live_entry (there_at n p.key.server) e)) u
-        (same_of (there_at n p.key.server) (gets (server.live_entry (there_at n p.key.server) y)) (gets (server.live_entry (there_at n p.key.server) e))
-        (ap gets (fits.servers.found key.client l key.invoke_id client_at)))
-        (same_back (there_at n p.key.server) u (gets (server.live_entry (there_at n p.key.server) e)) (hears_same context service free reuse e apdu)))
+    same = alike_by_live (there_at n p.key.server) gets (λ e. hears_same context service free reuse e apdu)
+        (value_at same_key q a.servers.slots) (n.entries key) (fits.servers.found key.client l key.invoke_id client_at)
 
     sent : Pairwise IsSent (to_all (peer_at l) u.sends) o.sends
     sent = subst (λ (l' : List Apdu). Pairwise IsSent (to_all (peer_at l) l') o.sends) same.sends sends_is

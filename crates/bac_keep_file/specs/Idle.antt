@@ -4,6 +4,7 @@ use Rattle.bac_value.specs.Views.{object_identifier_view}
 use Rattle.bac_store.specs.Stores.{Store}
 use Rattle.bac_store.specs.Writes.{file_at, listed_at}
 use Rattle.sqlite_value.specs.Order.{Row}
+use Rattle.sqlite_trees.specs.View.{IsClean, View}
 use Rattle.bac_keep.specs.declared.cell.Cell.{Cell}
 use Rattle.bac_keep.specs.declared.part.Part.{Part}
 use Rattle.bac_keep.specs.declared.part.Part.TheVariants as part
@@ -48,3 +49,7 @@ pub record AreIdleRows (document : Store) (rows : List Row) (idle : List Part) :
   pub cells : List Cell
   pub are : AreCells rows cells
   pub told : AreIdle document cells idle
+
+-- of a database before and after it is read, unless a wrong answer of the disk was taken as true
+abbrev pub TellsIdle : Store → (old new : View) → List Part → Type 0
+TellsIdle document old new idle = IsClean new → AreIdleRows document (old.trees 0) idle

@@ -1,8 +1,8 @@
 -- When the table of cells is made.
-use Rattle.std.specs.Prelude.{◌≡◌, []}
+use Rattle.std.specs.Prelude.{◌≡◌, Bool, false, true, IsTrue, []}
 use Rattle.sqlite_schema.specs.declared.schema.Schema.{Schema}
 use Rattle.sqlite_trees.specs.Tree.{Trees}
-use Rattle.sqlite_trees.specs.View.{View}
+use Rattle.sqlite_trees.specs.View.{IsClean, View}
 use Rattle.sqlite.specs.Effect.{IsDatabase}
 use Rattle.bac_keep.specs.Cells.{no_cells}
 use Rattle.bac_keep_file.specs.Rows.{cells_of}
@@ -24,3 +24,15 @@ pub record HasNone (may_find : Trees → Type 0) : Type 0 where
 pub record HasEmptyTable (v : View) : Type 0 where
   pub ready : IsReady v
   pub empty : cells_of v.committed ≡ no_cells
+
+-- what an open has, of files that had the table; `holds` says what their whole image is, and `may_find` what they recover to
+pub record HasTable (holds may_find : Trees → Type 0) (is_new : Bool) (v : View) : Type 0 where
+  -- just what the files hold
+  pub found : is_new ≡ false → IsClean v → IsTrue v.is_open → (db : Trees) → holds db → v.committed ≡ db
+  pub read : is_new ≡ false → IsClean v → IsTrue v.is_open → may_find v.committed
+
+-- what it has, of files that had no table: it made one
+pub record MakesTable (holds may_find : Trees → Type 0) (is_new : Bool) (v : View) : Type 0 where
+  pub made : is_new ≡ true → IsClean v → (db : Trees) → holds db → HasNoTable db
+  pub bare : is_new ≡ true → IsClean v → HasNone may_find
+  pub empty : is_new ≡ true → IsClean v → HasEmptyTable v

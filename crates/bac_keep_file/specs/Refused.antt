@@ -1,9 +1,12 @@
 -- Why a start from a document and a database is refused.
-use Rattle.std.specs.Prelude.{◌≡◌, ◌≤◌, ◌⊎◌, false, ℕ, List, [], ◌∷◌, ⊤}
+use Rattle.std.specs.Prelude.{◌≡◌, ◌<◌, ◌≤◌, ◌⊎◌, false, true, ℕ, List, [], ◌∷◌, IfSome, ⊤}
 use Rattle.bac_value.specs.Views.{object_identifier_view}
+use Rattle.bac_value.specs.Value.{ObjectId}
 use Rattle.bac_store.specs.Stores.{Store}
+use Rattle.bac_store.specs.Writes.{listed_at}
 use Rattle.sqlite_value.specs.Order.{Row}
-use Rattle.sqlite_trees.specs.View.{View}
+use Rattle.sqlite_disk.specs.Disk.{MoreFaults}
+use Rattle.sqlite_trees.specs.View.{IsClean, View}
 use Rattle.sqlite_trees.specs.declared.store.Shape.TheVariants.{Table}
 use Rattle.bac_keep.specs.Cells.{NUMBERS}
 use Rattle.bac_keep.specs.Refused.{HasBadCell, IsBadOctets, IsBadValues}
@@ -50,6 +53,10 @@ IsUnput failed (fault.Database e) = (e ≡ OutOfMemory) ⊎ failed
 IsUnput failed fault.NoMemory = ⊤
 IsUnput failed _ = ⊥
 
+-- a property that the network may write has a number that a place has room for
+abbrev pub HasRoom : Store → ObjectId → (number : ℕ) → Type 0
+HasRoom store id number = IfSome (listed_at store id number) (λ p. p.writable ≡ true → number < NUMBERS)
+
 -- why the values of the property with this number are not noted
 abbrev pub IsUnnotedValue : (number : ℕ) → (failed : Type 0) → KeepFault → Type 0
 IsUnnotedValue number failed fault.HighNumber = NUMBERS ≤ number
@@ -65,3 +72,7 @@ IsRefused document old new failed (fault.Database e) = (e ≡ OutOfMemory) ⊎ f
 IsRefused document old new failed fault.BadRow = HasOtherRow (old.committed 0) ⊎ HasBadCell document (cells_of old.committed)
 IsRefused document old new failed fault.NoMemory = ⊤
 IsRefused document old new failed fault.HighNumber = ⊥
+
+-- that, of a database before and after the start, unless a wrong answer of the disk was taken as true
+abbrev pub RefusesStart : {S : Type 0} → (view : S → View) → (faults : S → ℕ) → Store → (old new : S) → KeepFault → Type 0
+RefusesStart view faults document old new e = IsClean (view new) → IsRefused document (view old) (view new) (MoreFaults (faults old) (faults new)) e

@@ -1,16 +1,15 @@
 //! A keeper over the table of a database.
-ghost use Rattle.std.specs.Prelude.{◌≡◌, ◌≤◌, IsTrue, IfErr, IfOk, OnOk};
+ghost use Rattle.std.specs.Prelude.{◌≡◌, IfErr, IfOk, OnOk};
 ghost use Rattle.sqlite_disk.specs.Disk.{MoreFaults};
-ghost use Rattle.sqlite_trees.specs.Tree.{Trees};
-ghost use Rattle.sqlite_trees.specs.View.{IsClean, doubt};
+ghost use Rattle.sqlite_trees.specs.View.{IsClean};
 ghost use Rattle.bac_store.specs.Stores.{Store as Overlaid};
 ghost use Rattle.bac_keep.specs.Causes.{IsUnnoted};
-ghost use Rattle.bac_keep.specs.Made.{IsKeepable, after_made, made_view};
+ghost use Rattle.bac_keep.specs.Made.{made_view};
 ghost use Rattle.bac_keep.specs.Overlay.{overlay};
-ghost use Rattle.bac_keep_file.specs.Refused.{IsRefused, IsUnready};
+ghost use Rattle.bac_keep_file.specs.Refused.{IsUnready, RefusesStart};
 ghost use Rattle.bac_keep_file.specs.Rows.{cells_of};
 ghost use Rattle.bac_keep_file.specs.Settling.{MayFind, settles};
-ghost use Rattle.bac_keep_file.specs.Steps.{IsReady, NoMore};
+ghost use Rattle.bac_keep_file.specs.Steps.{CommitsNothing, FindsStore, HasNoted, IsMadeOver, IsReady, IsReadyIfClean, StaysCommitted};
 
 use crate::fault::keep_fault;
 use crate::noting::{note_octets, note_values};
@@ -32,14 +31,11 @@ pub struct CellKeeper<S: Store> {
 
 /// Makes a database ready: what no commit has finished is rolled back.
 pub(crate) fn make_ready<S: Store>(database: &mut S) -> Result<(), KeepFault>
-    ensures clean { doubt (S.view database.old).is_clean ≤ doubt (S.view database.new).is_clean }
-    ensures ready { OnOk result (IsClean (S.view database.new) → IsReady (S.view database.new)) }
+    ensures quiet { CommitsNothing S.view S.faults S.recovers database.old database.new }
+    ensures ready { OnOk result (IsReadyIfClean (S.view database.new)) }
     ensures trees { OnOk result (IsClean (S.view database.new) → (S.view database.new).trees ≡ (S.view database.old).committed) }
-    ensures committed { IsClean (S.view database.new) → IsTrue (S.view database.new).is_open
-        → (S.view database.new).committed ≡ (S.view database.old).committed }
+    ensures committed { StaysCommitted (S.view database.old) (S.view database.new) }
     ensures refused { IfErr result (λ e. IsClean (S.view database.new) → IsUnready (S.view database.old) (S.view database.new) e) }
-    ensures counts { S.faults database.old ≤ S.faults database.new }
-    ensures crash { NoMore S.recovers database.old database.new }
 {
     database.rollback();
     if database.is_broken() {
@@ -59,18 +55,12 @@ fn note_made<S: Store>(
     made: &Made<'_>,
     store: &Objects,
 ) -> Result<(), KeepFault>
-    requires ready { IsClean (S.view database.old) → IsReady (S.view database.old) }
-    requires made { IsClean (S.view database.old)
-        → store.now ≡ after_made (made_view made.now) (overlay (cells_of (S.view database.old).trees) document.now) }
-    requires keepable { IsClean (S.view database.old) → IsKeepable (made_view made.now) (overlay (cells_of (S.view database.old).trees) document.now) }
-    ensures clean { doubt (S.view database.old).is_clean ≤ doubt (S.view database.new).is_clean }
-    ensures ready { OnOk result (IsClean (S.view database.new) → IsReady (S.view database.new)) }
-    ensures noted { OnOk result (IsClean (S.view database.new) → overlay (cells_of (S.view database.new).trees) document.now ≡ store.now) }
-    ensures committed { OnOk result (IsClean (S.view database.new) → (S.view database.new).committed ≡ (S.view database.old).committed) }
+    requires ready { IsReadyIfClean (S.view database.old) }
+    requires made { IsClean (S.view database.old) → IsMadeOver document.now (made_view made.now) (S.view database.old) store.now }
+    ensures quiet { CommitsNothing S.view S.faults S.recovers database.old database.new }
+    ensures noted { OnOk result (IsClean (S.view database.new) → HasNoted document.now store.now (S.view database.old) (S.view database.new)) }
     ensures refused { IfErr result (λ e. IsClean (S.view database.new)
         → IsUnnoted (made_view made.now) (MoreFaults (S.faults database.old) (S.faults database.new)) e) }
-    ensures counts { S.faults database.old ≤ S.faults database.new }
-    ensures crash { NoMore S.recovers database.old database.new }
 {
     // so that an identifier finds its object in both
     stores_are_in_order(document);
@@ -115,16 +105,10 @@ fn found_store<S: Store>(
     database: &mut S,
     document: &Objects,
 ) -> Result<Objects, KeepFault>
-    ensures clean { doubt (S.view database.old).is_clean ≤ doubt (S.view database.new).is_clean }
-    ensures open { OnOk result (IsClean (S.view database.new) → IsReady (S.view database.new)) }
-    ensures kept { IfOk result (λ s. IsClean (S.view database.new) → overlay (cells_of (S.view database.new).committed) document.now ≡ s) }
-    ensures noted { IfOk result (λ s. IsClean (S.view database.new) → overlay (cells_of (S.view database.new).trees) document.now ≡ s) }
-    ensures found { IfOk result (λ s. IsClean (S.view database.new) → s ≡ overlay (cells_of (S.view database.old).committed) document.now) }
-    ensures committed { IsClean (S.view database.new) → IsTrue (S.view database.new).is_open
-        → (S.view database.new).committed ≡ (S.view database.old).committed }
-    ensures refused { IfErr result (λ e. IsClean (S.view database.new) → IsRefused document.now (S.view database.old) (S.view database.new)
-        (MoreFaults (S.faults database.old) (S.faults database.new)) e) }
-    ensures crash { NoMore S.recovers database.old database.new }
+    ensures quiet { CommitsNothing S.view S.faults S.recovers database.old database.new }
+    ensures found { IfOk result (λ s. FindsStore document.now (S.view database.old) s (S.view database.new)) }
+    ensures committed { StaysCommitted (S.view database.old) (S.view database.new) }
+    ensures refused { IfErr result (RefusesStart S.view S.faults document.now database.old database.new) }
 {
     make_ready(database)?;
     let cells = read_cells(alloc, database)?;
@@ -144,19 +128,12 @@ impl<S: Store + Drop> CellKeeper<S> {
         document: Objects,
         mut database: S,
     ) -> Result<(CellKeeper<S>, Objects), (KeepFault, S)>
-        ensures honest { IfOk result (λ r. doubt (S.view database).is_clean ≤ doubt (S.view r.0.database).is_clean) }
-        ensures open { IfOk result (λ r. IsClean (S.view r.0.database) → IsReady (S.view r.0.database)) }
+        ensures quiet { IfOk result (λ r. CommitsNothing S.view S.faults S.recovers database r.0.database) }
         ensures document { IfOk result (λ r. r.0.document ≡ document) }
-        ensures kept { IfOk result (λ r. IsClean (S.view r.0.database) → overlay (cells_of (S.view r.0.database).committed) document ≡ r.1) }
-        ensures noted { IfOk result (λ r. IsClean (S.view r.0.database) → overlay (cells_of (S.view r.0.database).trees) document ≡ r.1) }
-        ensures found { IfOk result (λ r. IsClean (S.view r.0.database) → r.1 ≡ overlay (cells_of (S.view database).committed) document) }
-        ensures crash { IfOk result (λ r. NoMore S.recovers database r.0.database) }
-        ensures refused { IfErr result (λ e. IsClean (S.view e.1) → IsRefused document (S.view database) (S.view e.1)
-            (MoreFaults (S.faults database) (S.faults e.1)) e.0) }
-        ensures refused_honest { IfErr result (λ e. doubt (S.view database).is_clean ≤ doubt (S.view e.1).is_clean) }
-        ensures refused_kept { IfErr result (λ e. IsClean (S.view e.1) → IsTrue (S.view e.1).is_open
-            → (S.view e.1).committed ≡ (S.view database).committed) }
-        ensures refused_crash { IfErr result (λ e. NoMore S.recovers database e.1) }
+        ensures found { IfOk result (λ r. FindsStore document (S.view database) r.1 (S.view r.0.database)) }
+        ensures refused { IfErr result (λ e. RefusesStart S.view S.faults document database e.1 e.0) }
+        ensures refused_quiet { IfErr result (λ e. CommitsNothing S.view S.faults S.recovers database e.1) }
+        ensures refused_kept { IfErr result (λ e. StaysCommitted (S.view database) (S.view e.1)) }
     {
         match found_store(alloc, &mut database, &document) {
             Ok(store) => {

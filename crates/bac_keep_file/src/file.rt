@@ -1,10 +1,9 @@
 //! Opening a file.
-ghost use Rattle.std.specs.Prelude.{◌≡◌, ◌^◌, false, true, IsTrue, IfOk};
-ghost use Rattle.sqlite_trees.specs.Tree.{Trees};
+ghost use Rattle.std.specs.Prelude.{◌≡◌, ◌^◌, true, IsTrue, IfOk};
 ghost use Rattle.sqlite_trees.specs.View.{IsClean};
 ghost use Rattle.sqlite_store.specs.FileStore.{view};
 ghost use Rattle.sqlite.specs.Files.{AreFound, HoldsDatabase, image_of};
-ghost use Rattle.bac_keep_file.specs.Made.{HasEmptyTable, HasNoTable, HasNone};
+ghost use Rattle.bac_keep_file.specs.Made.{HasEmptyTable, HasTable, MakesTable};
 
 use crate::fault::OpenFault;
 use crate::table::{marked, store_of, whole};
@@ -37,12 +36,8 @@ pub fn open_files<D: Disk + Drop>(
 ) -> Result<(FileStore<D>, bool), OpenFault>
     requires log { IsTrue (D.Disk.is_usable files.log) }
     requires db { IsTrue (D.Disk.is_usable files.db) }
-    ensures found { IfOk result (λ r. r.1 ≡ false → IsClean (view r.0) → IsTrue (view r.0).is_open
-        → (db : Trees) → HoldsDatabase (image_of D.Disk files) db → (view r.0).committed ≡ db) }
-    ensures read { IfOk result (λ r. r.1 ≡ false → IsClean (view r.0) → IsTrue (view r.0).is_open → AreFound D.Disk files (view r.0).committed) }
-    ensures made { IfOk result (λ r. r.1 ≡ true → IsClean (view r.0) → (db : Trees) → HoldsDatabase (image_of D.Disk files) db → HasNoTable db) }
-    ensures bare { IfOk result (λ r. r.1 ≡ true → IsClean (view r.0) → HasNone (AreFound D.Disk files)) }
-    ensures empty { IfOk result (λ r. r.1 ≡ true → IsClean (view r.0) → HasEmptyTable (view r.0)) }
+    ensures found { IfOk result (λ r. HasTable (HoldsDatabase (image_of D.Disk files)) (AreFound D.Disk files) r.1 (view r.0)) }
+    ensures made { IfOk result (λ r. MakesTable (HoldsDatabase (image_of D.Disk files)) (AreFound D.Disk files) r.1 (view r.0)) }
 {
     check_files(alloc, &mut files, loss)?;
     let conn = match Connection::open_files_with(alloc, files, options, true) {

@@ -1,11 +1,9 @@
 //! Forgetting what is kept.
-ghost use Rattle.std.specs.Prelude.{◌≡◌, ◌≤◌, ◌⊎◌, IsTrue, IfOk, OnOk, OnErr};
-ghost use Rattle.sqlite_trees.specs.Tree.{Trees};
+ghost use Rattle.std.specs.Prelude.{◌≡◌, ◌≤◌, IfOk, OnOk, OnErr};
 ghost use Rattle.sqlite_trees.specs.View.{IsClean, doubt};
-ghost use Rattle.bac_value.specs.Views.{object_identifier_view};
 ghost use Rattle.bac_keep_file.specs.Rows.{cells_of};
-ghost use Rattle.bac_keep_file.specs.Steps.{HasCells, IsReady, NoMore};
-ghost use Rattle.bac_keep_file.specs.Forgotten.{AreSelected, has_place, is_place, is_selected, without};
+ghost use Rattle.bac_keep_file.specs.Steps.{GetsCells, IsReadyIfClean, NoMore, StaysCommitted};
+ghost use Rattle.bac_keep_file.specs.Forgotten.{AreSelected, HasForgotten, MayForget, has_place, is_of, is_place, without};
 
 use crate::cells::make_ready;
 use crate::fault::keep_fault;
@@ -23,12 +21,10 @@ fn selected_cells<S: Store>(
     selection: Selection,
 ) -> Result<Vec<Cell>, KeepFault>
     ensures clean { doubt (S.view database.old).is_clean ≤ doubt (S.view database.new).is_clean }
-    ensures cells { IfOk result (λ cs. IsClean (S.view database.new)
-        → AreSelected (is_selected (object_identifier_view selection.object) selection.property) ((S.view database.old).committed 0) cs.items) }
-    ensures ready { OnOk result (IsClean (S.view database.new) → IsReady (S.view database.new)) }
+    ensures cells { IfOk result (λ cs. IsClean (S.view database.new) → AreSelected (is_of selection) ((S.view database.old).committed 0) cs.items) }
+    ensures ready { OnOk result (IsReadyIfClean (S.view database.new)) }
     ensures trees { OnOk result (IsClean (S.view database.new) → (S.view database.new).trees ≡ (S.view database.old).committed) }
-    ensures committed { IsClean (S.view database.new) → IsTrue (S.view database.new).is_open
-        → (S.view database.new).committed ≡ (S.view database.old).committed }
+    ensures committed { StaysCommitted (S.view database.old) (S.view database.new) }
     ensures crash { NoMore S.recovers database.old database.new }
 {
     make_ready(database)?;
@@ -40,10 +36,9 @@ fn selected_cells<S: Store>(
 
 /// Deletes the cell at a place, if there is one.
 fn delete_cell<S: Store>(database: &mut S, place: u64) -> Result<(), KeepFault>
-    requires { IsClean (S.view database.old) → IsReady (S.view database.old) }
+    requires { IsReadyIfClean (S.view database.old) }
     ensures clean { doubt (S.view database.old).is_clean ≤ doubt (S.view database.new).is_clean }
-    ensures deleted { OnOk result (IsClean (S.view database.new)
-        → HasCells (S.view database.old) (without (is_place place) (cells_of (S.view database.old).trees)) (S.view database.new)) }
+    ensures deleted { OnOk result (GetsCells (S.view database.old) (without (is_place place) (cells_of (S.view database.old).trees)) (S.view database.new)) }
     ensures crash { NoMore S.recovers database.old database.new }
 {
     let Ok(key) = i64::try_from(place) else {
@@ -55,10 +50,9 @@ fn delete_cell<S: Store>(database: &mut S, place: u64) -> Result<(), KeepFault>
 
 /// Deletes the cells at the places of these.
 fn delete_cells<S: Store>(database: &mut S, cells: &[Cell]) -> Result<(), KeepFault>
-    requires { IsClean (S.view database.old) → IsReady (S.view database.old) }
+    requires { IsReadyIfClean (S.view database.old) }
     ensures clean { doubt (S.view database.old).is_clean ≤ doubt (S.view database.new).is_clean }
-    ensures deleted { OnOk result (IsClean (S.view database.new)
-        → HasCells (S.view database.old) (without (has_place cells.now) (cells_of (S.view database.old).trees)) (S.view database.new)) }
+    ensures deleted { OnOk result (GetsCells (S.view database.old) (without (has_place cells.now) (cells_of (S.view database.old).trees)) (S.view database.new)) }
     ensures crash { NoMore S.recovers database.old database.new }
 {
     for at in 0..cells.len() {
@@ -81,15 +75,11 @@ pub fn forget<S: Store>(
     selection: Selection,
 ) -> Result<Vec<Cell>, KeepFault>
     ensures clean { doubt (S.view database.old).is_clean ≤ doubt (S.view database.new).is_clean }
-    ensures cells { IfOk result (λ cs. IsClean (S.view database.new)
-        → AreSelected (is_selected (object_identifier_view selection.object) selection.property) ((S.view database.old).committed 0) cs.items) }
-    ensures forgot { OnOk result (IsClean (S.view database.new) → cells_of (S.view database.new).committed
-        ≡ without (is_selected (object_identifier_view selection.object) selection.property) (cells_of (S.view database.old).committed)) }
-    ensures ready { OnOk result (IsClean (S.view database.new) → IsReady (S.view database.new)) }
-    ensures kept { OnErr result (IsClean (S.view database.new) → IsTrue (S.view database.new).is_open
-        → (S.view database.new).committed ≡ (S.view database.old).committed) }
-    ensures crash { IsClean (S.view database.new) → (db : Trees) → S.recovers database.new db → S.recovers database.old db
-        ⊎ (cells_of db ≡ without (is_selected (object_identifier_view selection.object) selection.property) (cells_of (S.view database.old).committed)) }
+    ensures cells { IfOk result (λ cs. IsClean (S.view database.new) → AreSelected (is_of selection) ((S.view database.old).committed 0) cs.items) }
+    ensures forgot { OnOk result (HasForgotten selection (S.view database.old) (S.view database.new)) }
+    ensures ready { OnOk result (IsReadyIfClean (S.view database.new)) }
+    ensures kept { OnErr result (StaysCommitted (S.view database.old) (S.view database.new)) }
+    ensures crash { MayForget S.view S.recovers selection database.old database.new }
 {
     let cells = selected_cells(alloc, database, selection)?;
     if cells.is_empty() {

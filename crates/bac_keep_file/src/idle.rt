@@ -1,11 +1,10 @@
 //! What is kept and has no effect, since the document has no place for it.
-ghost use Rattle.std.specs.Prelude.{◌≡◌, ◌≤◌, IfOk, OnOk};
-ghost use Rattle.sqlite_trees.specs.View.{IsClean, doubt};
+ghost use Rattle.std.specs.Prelude.{◌≡◌, IfOk, OnOk};
 ghost use Rattle.bac_value.specs.Views.{object_identifier_view};
 ghost use Rattle.bac_store.specs.Writes.{file_at, listed_at};
 ghost use Rattle.bac_keep.specs.Restored.{is_writable_file, is_writable_value};
-ghost use Rattle.bac_keep_file.specs.Idle.{AreIdle, AreIdleRows, TellsOne, is_told as is_told_in};
-ghost use Rattle.bac_keep_file.specs.Steps.{IsReady, NoMore};
+ghost use Rattle.bac_keep_file.specs.Idle.{AreIdle, TellsIdle, TellsOne, is_told as is_told_in};
+ghost use Rattle.bac_keep_file.specs.Steps.{CommitsNothing, IsReadyIfClean, SameCommitted, SameTrees};
 
 use crate::cells::CellKeeper;
 use crate::reading::read_cells;
@@ -76,15 +75,13 @@ impl<S: Store + Drop> CellKeeper<S> {
     ///
     /// Returns `Database` if the database fails; `BadRow` if its table has a row that no write makes; `NoMemory` if an allocation fails. The keeper keeps and has noted what it did before.
     pub fn idle(&mut self) -> Result<Vec<Part>, KeepFault>
-        requires { IsClean (S.view self.old.database) → IsReady (S.view self.old.database) }
-        ensures honest { doubt (S.view self.old.database).is_clean ≤ doubt (S.view self.new.database).is_clean }
-        ensures open { OnOk result (IsClean (S.view self.new.database) → IsReady (S.view self.new.database)) }
+        requires { IsReadyIfClean (S.view self.old.database) }
+        ensures quiet { CommitsNothing S.view S.faults S.recovers self.old.database self.new.database }
+        ensures open { OnOk result (IsReadyIfClean (S.view self.new.database)) }
         ensures document { self.new.document ≡ self.old.document }
-        ensures noted { OnOk result (IsClean (S.view self.new.database) → (S.view self.new.database).trees ≡ (S.view self.old.database).trees) }
-        ensures kept { OnOk result (IsClean (S.view self.new.database) → (S.view self.new.database).committed ≡ (S.view self.old.database).committed) }
-        ensures idle { IfOk result (λ v. IsClean (S.view self.new.database)
-            → AreIdleRows self.old.document ((S.view self.old.database).trees 0) v.items) }
-        ensures crash { NoMore S.recovers self.old.database self.new.database }
+        ensures noted { OnOk result (SameTrees (S.view self.old.database) (S.view self.new.database)) }
+        ensures kept { OnOk result (SameCommitted (S.view self.old.database) (S.view self.new.database)) }
+        ensures idle { IfOk result (λ v. TellsIdle self.old.document (S.view self.old.database) (S.view self.new.database) v.items) }
     {
         let cells = read_cells(self.alloc, &mut self.database)?;
         let idle = idle_among(self.alloc, &self.document, &cells)?;

@@ -3,6 +3,7 @@
 
 mod cells;
 mod checkpoint;
+mod databases;
 mod fault;
 mod file;
 mod forgetting;
@@ -19,6 +20,7 @@ mod whole;
 
 pub use cells::CellKeeper;
 pub use checkpoint::Checkpoint;
+pub use databases::Databases;
 pub use fault::OpenFault;
 pub use file::{KeptFile, open, open_files};
 pub use forgetting::forget;

@@ -1,16 +1,14 @@
 //! Noting what a store has now, in the table of a database.
-ghost use Rattle.std.specs.Prelude.{◌≡◌, ◌≤◌, ◌<◌, ◌+◌, ◌*◌, true, length, OnOk, IfErr, IfSome};
+ghost use Rattle.std.specs.Prelude.{◌≡◌, ◌≤◌, ◌+◌, ◌*◌, length, OnOk, IfErr};
 ghost use Rattle.sqlite_disk.specs.Disk.{MoreFaults};
-ghost use Rattle.sqlite_trees.specs.View.{IsClean, doubt};
+ghost use Rattle.sqlite_trees.specs.View.{IsClean};
 ghost use Rattle.bac_value.specs.Views.{object_identifier_view};
 ghost use Rattle.bac_store.specs.Limits.{FILE_LIMIT as FILE_MOST};
-ghost use Rattle.bac_store.specs.Writes.{listed_at};
-ghost use Rattle.bac_keep.specs.Cells.{NUMBERS as MOST_NUMBERS};
 ghost use Rattle.bac_keep.specs.Noted.{chunk_count, octets_noted, values_noted};
 ghost use Rattle.bac_keep.specs.Overlay.{CHUNK as CHUNK_SIZE, chunk, with_chunks, with_file};
-ghost use Rattle.bac_keep_file.specs.Refused.{IsUnnotedValue, IsUnput};
+ghost use Rattle.bac_keep_file.specs.Refused.{HasRoom, IsUnnotedValue, IsUnput};
 ghost use Rattle.bac_keep_file.specs.Rows.{cells_of};
-ghost use Rattle.bac_keep_file.specs.Steps.{HasCells, IsReady, NoMore};
+ghost use Rattle.bac_keep_file.specs.Steps.{CommitsNothing, GetsCells, IsReadyIfClean};
 
 use crate::putting::put_cell;
 use bac_keep::{CHUNK, KeepFault, NUMBERS, file_place, value_place};
@@ -27,15 +25,12 @@ pub(crate) fn note_values<S: Store>(
     object: ObjectIdentifier,
     number: u32,
 ) -> Result<(), KeepFault>
-    requires { IsClean (S.view database.old) → IsReady (S.view database.old) }
-    ensures clean { doubt (S.view database.old).is_clean ≤ doubt (S.view database.new).is_clean }
-    ensures fits { OnOk result (IfSome (listed_at store.now (object_identifier_view object) number) (λ p. p.writable ≡ true → number < MOST_NUMBERS)) }
-    ensures noted { OnOk result (IsClean (S.view database.new)
-        → HasCells (S.view database.old) (values_noted store.now (object_identifier_view object) number (cells_of (S.view database.old).trees))
-        (S.view database.new)) }
+    requires { IsReadyIfClean (S.view database.old) }
+    ensures quiet { CommitsNothing S.view S.faults S.recovers database.old database.new }
+    ensures fits { OnOk result (HasRoom store.now (object_identifier_view object) number) }
+    ensures noted { OnOk result (GetsCells (S.view database.old)
+        (values_noted store.now (object_identifier_view object) number (cells_of (S.view database.old).trees)) (S.view database.new)) }
     ensures refused { IfErr result (λ e. IsClean (S.view database.new) → IsUnnotedValue number (MoreFaults (S.faults database.old) (S.faults database.new)) e) }
-    ensures counts { S.faults database.old ≤ S.faults database.new }
-    ensures crash { NoMore S.recovers database.old database.new }
 {
     let Some(listed) = store.listed(object, number) else {
         return Ok(());
@@ -74,15 +69,12 @@ fn put_chunks<S: Store>(
     octets: &[u8],
     count: u8,
 ) -> Result<(), KeepFault>
-    requires ready { IsClean (S.view database.old) → IsReady (S.view database.old) }
+    requires ready { IsReadyIfClean (S.view database.old) }
     requires within { count * CHUNK_SIZE ≤ length octets.now + 1023 }
-    ensures clean { doubt (S.view database.old).is_clean ≤ doubt (S.view database.new).is_clean }
-    ensures put { OnOk result (IsClean (S.view database.new)
-        → HasCells (S.view database.old) (with_chunks (object_identifier_view object) octets.now count (cells_of (S.view database.old).trees))
-        (S.view database.new)) }
+    ensures quiet { CommitsNothing S.view S.faults S.recovers database.old database.new }
+    ensures put { OnOk result (GetsCells (S.view database.old)
+        (with_chunks (object_identifier_view object) octets.now count (cells_of (S.view database.old).trees)) (S.view database.new)) }
     ensures refused { IfErr result (λ e. IsClean (S.view database.new) → IsUnput (MoreFaults (S.faults database.old) (S.faults database.new)) e) }
-    ensures counts { S.faults database.old ≤ S.faults database.new }
-    ensures crash { NoMore S.recovers database.old database.new }
 {
     for at in 0..count {
         let part = u32::from(at) + 1;
@@ -99,15 +91,12 @@ fn put_file<S: Store>(
     object: ObjectIdentifier,
     octets: &[u8],
 ) -> Result<(), KeepFault>
-    requires ready { IsClean (S.view database.old) → IsReady (S.view database.old) }
+    requires ready { IsReadyIfClean (S.view database.old) }
     requires short { length octets.now ≤ FILE_MOST }
-    ensures clean { doubt (S.view database.old).is_clean ≤ doubt (S.view database.new).is_clean }
-    ensures put { OnOk result (IsClean (S.view database.new)
-        → HasCells (S.view database.old) (with_file (object_identifier_view object) octets.now (chunk_count octets.now) (cells_of (S.view database.old).trees))
-        (S.view database.new)) }
+    ensures quiet { CommitsNothing S.view S.faults S.recovers database.old database.new }
+    ensures put { OnOk result (GetsCells (S.view database.old)
+        (with_file (object_identifier_view object) octets.now (chunk_count octets.now) (cells_of (S.view database.old).trees)) (S.view database.new)) }
     ensures refused { IfErr result (λ e. IsClean (S.view database.new) → IsUnput (MoreFaults (S.faults database.old) (S.faults database.new)) e) }
-    ensures counts { S.faults database.old ≤ S.faults database.new }
-    ensures crash { NoMore S.recovers database.old database.new }
 {
     // at most 60,000 octets, so at most 59 chunks
     let count = ((octets.len() + 1023) / CHUNK) as u8;
@@ -124,14 +113,11 @@ pub(crate) fn note_octets<S: Store>(
     store: &Objects,
     object: ObjectIdentifier,
 ) -> Result<(), KeepFault>
-    requires { IsClean (S.view database.old) → IsReady (S.view database.old) }
-    ensures clean { doubt (S.view database.old).is_clean ≤ doubt (S.view database.new).is_clean }
-    ensures noted { OnOk result (IsClean (S.view database.new)
-        → HasCells (S.view database.old) (octets_noted store.now (object_identifier_view object) (cells_of (S.view database.old).trees))
-        (S.view database.new)) }
+    requires { IsReadyIfClean (S.view database.old) }
+    ensures quiet { CommitsNothing S.view S.faults S.recovers database.old database.new }
+    ensures noted { OnOk result (GetsCells (S.view database.old)
+        (octets_noted store.now (object_identifier_view object) (cells_of (S.view database.old).trees)) (S.view database.new)) }
     ensures refused { IfErr result (λ e. IsClean (S.view database.new) → IsUnput (MoreFaults (S.faults database.old) (S.faults database.new)) e) }
-    ensures counts { S.faults database.old ≤ S.faults database.new }
-    ensures crash { NoMore S.recovers database.old database.new }
 {
     let Some(file) = store.file(object) else {
         return Ok(());

@@ -2,12 +2,12 @@
 ghost use Rattle.std.specs.Prelude.{◌≡◌, ◌≤◌, ◌<◌, ◌^◌, [], ◌∷◌, length, pos, true, Some, OnOk, IfErr, IfOk};
 ghost use Rattle.sqlite_value.specs.declared.value.Value.TheVariants as value;
 ghost use Rattle.sqlite_disk.specs.Disk.{MoreFaults};
-ghost use Rattle.sqlite_trees.specs.View.{IsClean, doubt};
+ghost use Rattle.sqlite_trees.specs.View.{IsClean};
 ghost use Rattle.bac_store.specs.Limits.{VALUE_LIMIT as VALUE_MOST};
 ghost use Rattle.bac_keep.specs.Cells.{with_cell};
 ghost use Rattle.bac_keep_file.specs.Refused.{IsUnput};
 ghost use Rattle.bac_keep_file.specs.Rows.{cells_of};
-ghost use Rattle.bac_keep_file.specs.Steps.{HasCells, IsReady, NoMore};
+ghost use Rattle.bac_keep_file.specs.Steps.{CommitsNothing, GetsCells, IsReadyIfClean};
 
 use crate::fault::keep_fault;
 use bac_keep::KeepFault;
@@ -62,14 +62,12 @@ fn has_cell<S: Store>(
     place: u64,
     octets: &[u8],
 ) -> Result<bool, KeepFault>
-    requires ready { IsClean (S.view database.old) → IsReady (S.view database.old) }
+    requires ready { IsReadyIfClean (S.view database.old) }
     requires short { place < 2 ^ 63 }
-    ensures clean { doubt (S.view database.old).is_clean ≤ doubt (S.view database.new).is_clean }
+    ensures quiet { CommitsNothing S.view S.faults S.recovers database.old database.new }
     ensures same { OnOk result (IsClean (S.view database.new) → S.view database.new ≡ S.view database.old) }
     ensures there { IfOk result (λ b. b ≡ true → IsClean (S.view database.new) → cells_of (S.view database.old).trees place ≡ Some octets.now) }
     ensures refused { IfErr result (λ e. IsClean (S.view database.new) → IsUnput (MoreFaults (S.faults database.old) (S.faults database.new)) e) }
-    ensures counts { S.faults database.old ≤ S.faults database.new }
-    ensures crash { NoMore S.recovers database.old database.new }
 {
     let mut row = Row::new(alloc);
     let found = database
@@ -93,15 +91,12 @@ pub(crate) fn put_cell<S: Store>(
     object: ObjectIdentifier,
     number: u32,
 ) -> Result<(), KeepFault>
-    requires ready { IsClean (S.view database.old) → IsReady (S.view database.old) }
+    requires ready { IsReadyIfClean (S.view database.old) }
     requires short { place < 2 ^ 63 }
     requires few { length octets.now ≤ VALUE_MOST }
-    ensures clean { doubt (S.view database.old).is_clean ≤ doubt (S.view database.new).is_clean }
-    ensures put { OnOk result (IsClean (S.view database.new)
-        → HasCells (S.view database.old) (with_cell place octets.now (cells_of (S.view database.old).trees)) (S.view database.new)) }
+    ensures quiet { CommitsNothing S.view S.faults S.recovers database.old database.new }
+    ensures put { OnOk result (GetsCells (S.view database.old) (with_cell place octets.now (cells_of (S.view database.old).trees)) (S.view database.new)) }
     ensures refused { IfErr result (λ e. IsClean (S.view database.new) → IsUnput (MoreFaults (S.faults database.old) (S.faults database.new)) e) }
-    ensures counts { S.faults database.old ≤ S.faults database.new }
-    ensures crash { NoMore S.recovers database.old database.new }
 {
     if has_cell(alloc, database, place, octets)? {
         return Ok(());

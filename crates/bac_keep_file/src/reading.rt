@@ -1,12 +1,12 @@
 //! Reading the cells of a database.
-ghost use Rattle.std.specs.Prelude.{◌≡◌, ◌≤◌, ◌<◌, ◌^◌, ℕ, pos, None, IfErr, IfOk, IfSome, OnOk};
+ghost use Rattle.std.specs.Prelude.{◌≡◌, ◌<◌, ◌^◌, ℕ, pos, None, IfErr, IfOk, IfSome};
 ghost use Rattle.sqlite_value.specs.Order.{column};
 ghost use Rattle.sqlite_value.specs.declared.value.Value.TheVariants.{Int};
 ghost use Rattle.sqlite_disk.specs.Disk.{MoreFaults};
-ghost use Rattle.sqlite_trees.specs.View.{IsClean, doubt};
+ghost use Rattle.sqlite_trees.specs.View.{IsClean};
 ghost use Rattle.bac_keep_file.specs.Refused.{IsNoCell, IsUnreadable};
-ghost use Rattle.bac_keep_file.specs.Rows.{AreCells, IsRowOf};
-ghost use Rattle.bac_keep_file.specs.Steps.{IsReady, NoMore};
+ghost use Rattle.bac_keep_file.specs.Rows.{IsRowOf};
+ghost use Rattle.bac_keep_file.specs.Steps.{CommitsNothing, HasRead, IsReadyIfClean};
 
 use crate::fault::keep_fault;
 use crate::putting::{OCTETS, TABLE};
@@ -44,15 +44,11 @@ fn cell_of(alloc: Global, row: &Row) -> Result<Option<Cell>, AllocError>
 
 /// The cells of the table, in ascending order of place.
 pub(crate) fn read_cells<S: Store>(alloc: Global, database: &mut S) -> Result<Vec<Cell>, KeepFault>
-    requires { IsClean (S.view database.old) → IsReady (S.view database.old) }
-    ensures clean { doubt (S.view database.old).is_clean ≤ doubt (S.view database.new).is_clean }
-    ensures cells { IfOk result (λ cs. IsClean (S.view database.new) → AreCells ((S.view database.old).trees 0) cs.items) }
-    ensures ready { OnOk result (IsClean (S.view database.new) → IsReady (S.view database.new)) }
-    ensures trees { OnOk result (IsClean (S.view database.new) → (S.view database.new).trees ≡ (S.view database.old).trees) }
-    ensures committed { OnOk result (IsClean (S.view database.new) → (S.view database.new).committed ≡ (S.view database.old).committed) }
-    ensures refused { IfErr result (λ e. IsClean (S.view database.new) → IsUnreadable ((S.view database.old).trees 0) (MoreFaults (S.faults database.old) (S.faults database.new)) e) }
-    ensures counts { S.faults database.old ≤ S.faults database.new }
-    ensures crash { NoMore S.recovers database.old database.new }
+    requires { IsReadyIfClean (S.view database.old) }
+    ensures quiet { CommitsNothing S.view S.faults S.recovers database.old database.new }
+    ensures read { IfOk result (λ cs. IsClean (S.view database.new) → HasRead (S.view database.old) cs.items (S.view database.new)) }
+    ensures refused { IfErr result (λ e. IsClean (S.view database.new)
+        → IsUnreadable ((S.view database.old).trees 0) (MoreFaults (S.faults database.old) (S.faults database.new)) e) }
 {
     let mut cells = Vec::new(alloc);
     let mut row = Row::new(alloc);

@@ -1,30 +1,22 @@
 -- Runs that are computed.
-use Rattle.std.proofs.Common.{◌≡◌, ℕ, zero, suc, List, [], ◌∷◌, Some, None, slice_get, refl, sym, ap, subst, inl, inr, ◌≢◌, IsTrue, true, not, nat_lt, arith}
+use Rattle.std.proofs.Common.{◌≡◌, ℕ, List, [], ◌∷◌, Some, None, refl, sym, subst, inl, inr, true, not, nat_lt, arith}
 use Rattle.std.proofs.lemmas.Bool.Decides.{nat_tests}
 use Rattle.bac_apdu.specs.Apdu.{Apdu}
-use Rattle.bac_apdu.specs.Spelling.{SpellsApdu, apdu_fits, apdu_spelling}
+use Rattle.bac_apdu.specs.Spelling.{SpellsApdu}
 use Rattle.bac_npdu.specs.Datagram.{Means}
 use Rattle.bac_service.specs.Services.{reads_reply}
-use Rattle.bac_service.proofs.Wholes.{request_again}
-use Rattle.bac_protocol.specs.Context.{Context}
-use Rattle.bac_protocol.specs.Short.{IsShort}
-use Rattle.bac_protocol.specs.Server as server
-use Rattle.bac_protocol.specs.Server.{performs_so, begins}
 use Rattle.bac_protocol.specs.Service as machine
 use Rattle.bac_protocol.proofs.AtDrift.{lives}
-use Rattle.bac_transaction.specs.Keys.{PeerKey}
 use Rattle.bac_transaction.specs.Meanings.Ending.{Answered, Expired}
-use Rattle.bac_transaction.specs.Ends.{requester_tick, responder_tick, context_of, server_goes, requester_on_apdu}
-use Rattle.bac_transaction.specs.Services.{service_of, outcome_by}
+use Rattle.bac_transaction.specs.Ends.{requester_tick, responder_tick, requester_on_apdu}
 use Rattle.bac_world.proofs.Bridge.{each_copied}
-use Rattle.bac_world.specs.Node.{Node, Outcome, IsServerTurn}
-use Rattle.bac_world.specs.Once.{Fact}
+use Rattle.bac_world.specs.Node.{Node, NodeTick, Outcome}
 use Rattle.bac_world.specs.Once.Fact.{Performed, Ended}
-use Rattle.bac_world.specs.World.{World, Time, passes, Copy, Hears, Life, Ticks, IsAsked, IsCopied, link_at, peer_at, transaction_of, with_act, with_ask}
-use Rattle.bac_world.specs.Examples.{REQUEST, REPLY, STORE, ASKED}
-use Rattle.bac_world.specs.AnsweredRun.{TIME, LIMITS, SETTINGS, LOG, link, node}
-use Rattle.bac_world.proofs.Answered.{SERVICE_DATA, ASK, ANSWER, apart, spelled, datagram, ASKED_NODE, copy, NOTES, SECOND, THIRD, LAST, ask_fits, ask_short}
-use Rattle.bac_world.proofs.Answered.{ask_copied, sent, means, others_first, ACCEPTED, asks, asked, answered_run, request_delivered, answer_delivered}
+use Rattle.bac_world.specs.World.{World, Time, passes, Copy, Hears, Life, Ticks, IsCopied, link_at, peer_at, told, transaction_of, with_act, with_ask}
+use Rattle.bac_world.specs.Examples.{REQUEST, REPLY, ASKED}
+use Rattle.bac_world.specs.AnsweredRun.{TIME, SETTINGS, LOG, link, node}
+use Rattle.bac_world.proofs.Answered.{ASK, ANSWER, apart, datagram, ASKED_NODE, copy, NOTES, SECOND, THIRD, LAST, answer_fits, answer_short, ask_fits, ask_short}
+use Rattle.bac_world.proofs.Answered.{request_served, served_node, served_outcome, sent, means, others_first, others_second, asked, asked_at, answered_run, request_delivered, answer_delivered}
 use Rattle.bac_liveness.specs.WorldRoundTrip.{CanPerform, IsRequest}
 use Rattle.bac_liveness.specs.WorldExamples.{DRIFTS, LateTick, SlowTick, LateAnswer, OneRoundTrip, SecondSending}
 
@@ -43,30 +35,38 @@ at_time by = passes TIME by (λ i. by)
 
 -- A tick at 60,001.
 
-abbrev LATE : World
-LATE = record (SECOND) { time = at_time 60001 }
+abbrev EXPIRES : Outcome
+EXPIRES = record { sends = []; performed = None; ended = record { ticket = 0; how = Expired } ∷ []; dropped = None }
 
-abbrev EXPIRED : World
-EXPIRED =
+-- the world after the ask, at another time
+abbrev waiting : Time → (ℕ → Life) → World
+waiting time lived = record (SECOND) { time = time; lives = lived }
+
+-- the ask has expired
+abbrev expired : Time → (ℕ → Life) → World
+expired time lived =
     record {
       nodes = ticked_node 60001 ∷ node 1 ∷ [];
-      time = at_time 60001;
-      lives = with_act SECOND.lives 0;
+      time = time;
+      lives = with_act lived 0;
       copies = SECOND.copies;
       log = Ended 0 Expired ∷ ASKED;
       notes = NOTES;
     }
 
-abbrev EXPIRES : Outcome
-EXPIRES = record { sends = []; performed = None; ended = record { ticket = 0; how = Expired } ∷ []; dropped = None }
-
-expires : Ticks LATE 0 EXPIRED
-expires = record {
+expires : (time : Time) (lived : ℕ → Life) → 60001 ≡ told (waiting time lived) 0 → Ticks (waiting time lived) 0 (expired time lived)
+expires time lived late = record {
   before = ASKED_NODE;
   at = refl;
   after = ticked_node 60001;
   outcome = EXPIRES;
-  tick = record { node = refl; sends = tt; ended = (record { ticket = refl; how = tt }, tt); performed = refl; dropped = refl };
+  tick = subst (λ (now : ℕ). NodeTick now ASKED_NODE (ticked_node 60001) EXPIRES) late (record {
+    node = refl;
+    sends = tt;
+    ended = (record { ticket = refl; how = tt }, tt);
+    performed = refl;
+    dropped = refl;
+  });
   acts = record {
     nodes = record { here = refl; others = others_first (ticked_node 60001) ASKED_NODE (node 1) };
     time = refl;
@@ -80,6 +80,9 @@ expires = record {
     logged = refl;
   };
 }
+
+abbrev LATE : World
+LATE = waiting (at_time 60001) SECOND.lives
 
 pub late_tick : LateTick
 late_tick = record {
@@ -89,8 +92,8 @@ late_tick = record {
   waits = (LATE, refl, refl);
   passed = omega arith;
   before = refl;
-  ticked = EXPIRED;
-  ticks = expires;
+  ticked = expired (at_time 60001) SECOND.lives;
+  ticks = expires (at_time 60001) SECOND.lives refl;
   after = refl;
 }
 
@@ -99,57 +102,13 @@ late_tick = record {
 abbrev drifts : (by own : ℕ) → Time
 drifts by own = passes DRIFTS.time by (λ i. own)
 
-abbrev slow_world : Time → (ℕ → Life) → List Node → List Fact → World
-slow_world time lives nodes log = record { nodes = nodes; time = time; lives = lives; copies = SECOND.copies; log = log; notes = NOTES }
-
 -- what both nodes did by then
 abbrev SLOW_LIVES : ℕ → Life
 SLOW_LIVES = with_ask DRIFTS.time DRIFTS.lives 0
 
-asked_slowly : IsAsked DRIFTS 0 1 LIMITS REQUEST (slow_world DRIFTS.time SLOW_LIVES SECOND.nodes ASKED)
-asked_slowly = record {
-  before = node 0;
-  at = refl;
-  link = link 1;
-  peer = refl;
-  after = ASKED_NODE;
-  accepted = ACCEPTED;
-  sends = datagram (link 1) ASK ∷ [];
-  asks = asks;
-  nodes = record { here = refl; others = others_first ASKED_NODE (node 0) (node 1) };
-  time = refl;
-  lives = refl;
-  sent = copy 0 1 ASK ∷ [];
-  copies = refl;
-  copied = (ask_copied, tt);
-  notes = refl;
-  log = refl;
-}
-
 -- 60,060 ms pass, and then one more
 abbrev late_time : Time
 late_time = passes (drifts 60060 60000) 1 (λ i. 1)
-
-expires_slowly : Ticks (slow_world late_time SLOW_LIVES SECOND.nodes ASKED) 0 (slow_world late_time (with_act SLOW_LIVES 0) (ticked_node 60001 ∷ node 1 ∷ []) (Ended 0 Expired ∷ ASKED))
-expires_slowly = record {
-  before = ASKED_NODE;
-  at = refl;
-  after = ticked_node 60001;
-  outcome = EXPIRES;
-  tick = record { node = refl; sends = tt; ended = (record { ticket = refl; how = tt }, tt); performed = refl; dropped = refl };
-  acts = record {
-    nodes = record { here = refl; others = others_first (ticked_node 60001) ASKED_NODE (node 1) };
-    time = refl;
-    lives = refl;
-    notes = refl;
-    sent = [];
-    copies = refl;
-    copied = refl;
-    between = Ended 0 Expired ∷ ASKED;
-    ended = (0, refl, refl);
-    logged = refl;
-  };
-}
 
 pub slow_tick : SlowTick
 slow_tick = record {
@@ -165,18 +124,18 @@ slow_tick = record {
   };
   timely = lives.at_thousandth;
   bounded = record { some = omega arith; windows = answered_run.bounded.windows; room = omega arith };
-  second = slow_world DRIFTS.time SLOW_LIVES SECOND.nodes ASKED;
-  asks = asked_slowly;
-  early = slow_world (drifts 60060 60000) SLOW_LIVES SECOND.nodes ASKED;
-  waits = (slow_world (drifts 60060 60000) SLOW_LIVES SECOND.nodes ASKED, refl, refl);
+  second = waiting DRIFTS.time SLOW_LIVES;
+  asks = asked_at DRIFTS.time.pace;
+  early = waiting (drifts 60060 60000) SLOW_LIVES;
+  waits = (waiting (drifts 60060 60000) SLOW_LIVES, refl, refl);
   last = refl;
-  late = slow_world late_time SLOW_LIVES SECOND.nodes ASKED;
-  goes_on = (slow_world late_time SLOW_LIVES SECOND.nodes ASKED, refl, refl);
+  late = waiting late_time SLOW_LIVES;
+  goes_on = (waiting late_time SLOW_LIVES, refl, refl);
   real = refl;
   passed = omega arith;
   before = refl;
-  ticked = slow_world late_time (with_act SLOW_LIVES 0) (ticked_node 60001 ∷ node 1 ∷ []) (Ended 0 Expired ∷ ASKED);
-  ticks = expires_slowly;
+  ticked = expired late_time SLOW_LIVES;
+  ticks = expires late_time SLOW_LIVES refl;
   after = refl;
 }
 
@@ -233,14 +192,6 @@ AGAIN =
       notes = NOTES;
     }
 
-answer_fits : IsTrue (apdu_fits ANSWER)
-unfolding apdu_fits
-answer_fits = refl
-
-answer_short : IsShort ANSWER
-unfolding apdu_spelling
-answer_short = omega arith
-
 ask_means : Means SpellsApdu (link 0) (datagram (link 1) ASK).octets (peer_at (link 0)) ASK
 ask_means = means (link 0) (link 1) ASK ask_fits ask_short
 
@@ -280,48 +231,8 @@ sends_again = record {
   };
 }
 
-others_second : {A : Type 0} (a b c : A) (j : ℕ) → j ≢ 1 → slice_get (c ∷ a ∷ []) j ≡ slice_get (c ∷ b ∷ []) j
-others_second a b c zero ne = refl
-others_second a b c (suc zero) ne = absurd (ne refl)
-others_second a b c (suc (suc j)) ne = refl
-
-abbrev CLIENT_KEY : PeerKey
-CLIENT_KEY = record { peer = peer_at (link 0); invoke_id = 0 }
-
-abbrev CONTEXT : Context
-CONTEXT = context_of SETTINGS 3000 CLIENT_KEY
-
-abbrev done_by : machine.Outcome → server.Reaction
-done_by o = performs_so CONTEXT (begins CONTEXT 12 LIMITS (Some SERVICE_DATA)) [] SERVICE_DATA o
-
-abbrev REPLIES : machine.Outcome
-REPLIES = machine.Outcome.Replies (machine.Reply.Error 1 31)
-
-says : service_of STORE 12 SERVICE_DATA ≡ REPLIES
-says = ap (outcome_by STORE) (request_again 12 SERVICE_DATA REQUEST spelled)
-
 abbrev SERVED_NODE : Node
-SERVED_NODE = record (node 1) { latest = 3000; servers = (server_goes 3000 (node 1).servers CLIENT_KEY (done_by REPLIES)).end }
-
-abbrev SERVED_OUTCOME : Outcome
-SERVED_OUTCOME = record {
-  sends = datagram (link 0) ANSWER ∷ [];
-  performed = Some (record { key = CLIENT_KEY; request = REQUEST; reply = REPLY });
-  ended = [];
-  dropped = None;
-}
-
-abbrev ServerTurn : machine.Outcome → Type 0
-ServerTurn o = IsServerTurn (server_goes 3000 (node 1).servers CLIENT_KEY (done_by o)) 3000 (node 1) SERVED_NODE SERVED_OUTCOME
-
-turn : ServerTurn REPLIES
-turn = record {
-  node = refl;
-  sends = (sent (link 0) ANSWER answer_fits answer_short, tt);
-  ended = refl;
-  performed = record { key = refl; what = record { request = spelled; reply = refl; means = (refl, refl) } };
-  dropped = refl;
-}
+SERVED_NODE = served_node 3000 0
 
 abbrev ANSWER_COPY : Copy
 ANSWER_COPY = record (copy 1 0 ANSWER) { moment = 3000 }
@@ -341,13 +252,13 @@ serves = record {
   before = node 1;
   at = refl;
   after = SERVED_NODE;
-  outcome = SERVED_OUTCOME;
+  outcome = served_outcome 0;
   on = inr (record {
     peer = peer_at (link 0);
     apdu = ASK;
     foreign = apart;
     means = ask_means;
-    heard = subst ServerTurn (sym says) turn;
+    heard = request_served 3000 0;
   });
   acts = record {
     nodes = record { here = refl; others = others_second SERVED_NODE (node 1) (ticked_node 3000) };
@@ -356,7 +267,7 @@ serves = record {
     notes = refl;
     sent = ANSWER_COPY ∷ [];
     copies = refl;
-    copied = each_copied AGAIN.nodes 3000 1 SERVED_OUTCOME.sends (ANSWER_COPY ∷ []) (copied AGAIN.nodes 1 0 ANSWER refl refl refl answer_means, tt);
+    copied = each_copied AGAIN.nodes 3000 1 (served_outcome 0).sends (ANSWER_COPY ∷ []) (copied AGAIN.nodes 1 0 ANSWER refl refl refl answer_means, tt);
     between = ASKED;
     ended = refl;
     logged = inl (record { client = 0; number = 0; link = refl; noted = refl; log = refl });

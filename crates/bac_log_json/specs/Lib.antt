@@ -2,3 +2,4 @@ pub mod Logs
 pub mod LogMembers
 pub mod Events
 pub mod EventMembers
+pub mod Cells

@@ -5,7 +5,7 @@ use Rattle.bac_json_report.specs.TimeForms.{IsTimeForm}
 use Rattle.bac_json.specs.Forms.{optional_number, text_form}
 use Rattle.bac_json.specs.Replies.{IsReplyForm}
 use Rattle.bac_json.specs.Requests.{IsRequestForm}
-use Rattle.bac_keep_json.specs.Cells.{IsCellForm, KeptPart, part_view}
+use Rattle.bac_log_json.specs.Cells.{IsCellForm, KeptPart, part_view}
 use Rattle.bac_npdu.specs.Peers.{PeerView}
 use Rattle.bac_npdu.specs.Views.{peer_view}
 use Rattle.bac_service.specs.Replies.{Reply}

@@ -1,23 +1,12 @@
 -- Where there is nothing of strangers, and no node changes its own store or restarts, the log has asks, performed requests and endings alone.
-use Rattle.std.proofs.Common.{◌≡◌, ℕ, Bool, true, false, List, [], ◌∷◌, ◌++◌, length, Option, Some, None, if◌then◌else◌, nat_eq, refl, sym, ap, subst}
-use Rattle.std.proofs.Common.{inl, inr, ◌∙◌}
-use Rattle.std.specs.Prelude.{is_some}
+use Rattle.std.proofs.Common.{ℕ, Bool, true, false, List, [], ◌∷◌, ◌++◌, length, None, refl, sym, subst, inl, inr}
 use Rattle.bac_liveness.proofs.StraightRuns.Growing.{Grows, acts_grow}
-use Rattle.bac_protocol.specs.Service.{Octets}
-use Rattle.bac_protocol.specs.Server.{Effect}
-use Rattle.bac_protocol.specs.Wire.{is_from_client}
-use Rattle.bac_store.specs.Stores.{Store}
-use Rattle.bac_transaction.specs.Ends.{act_at, key_of as heard_key}
-use Rattle.bac_transaction.specs.Keys.{PeerKey}
-use Rattle.bac_transaction.specs.Meanings.{EndedView}
-use Rattle.bac_world.specs.Node.{IsHeardBy, Node, NodeOn, Outcome}
+use Rattle.bac_world.specs.Node.{Node, Outcome}
 use Rattle.bac_world.specs.Once.{Fact, HasNoStranger, HasRequestsAlone, IsOnce, Stores}
 use Rattle.bac_world.specs.Once.Fact.{Asked, Performed, Ended, Changed, Restarted, Served, AskedAway, EndedAway}
-use Rattle.bac_world.specs.Services as service
-use Rattle.bac_world.specs.Services.{ArePerformed}
-use Rattle.bac_world.specs.World.{Acts, AreEnded, AreLogged, Copy, DeliversIf, Event, IsFresh, IsOfNone, MakeNoStray, Note, World, WorldRun, WorldStep}
-use Rattle.bac_world.specs.World.{ending_fact, is_away, is_deliverable, told}
+use Rattle.bac_world.specs.World.{Acts, Copy, DeliversIf, Event, IsFresh, MakeNoStray, World, WorldRun, WorldStep, is_deliverable}
 use Rattle.bac_world.specs.World.Event.{Ask, AskAway, Deliver, Noise, Stray, Tick, Advance, Change, Restart, Begin, BeginAgain}
+use Rattle.bac_world.proofs.WithoutStrangers.{AreNear, after_run, near_more}
 use Rattle.bac_network.specs.AsksAlone.{HasAsksAlone, IsOnceOfAsks}
 
 -- Logs.
@@ -68,17 +57,6 @@ older_near (EndedAway n how ∷ newer) older none = absurd none
 
 -- Notes.
 
--- no ask of a stranger is noted
-abbrev AreNear : List Note → Type 0
-AreNear notes = (n : ℕ) → is_away n notes ≡ false
-
-near_more : (note : Note) (notes : List Note) → is_some note.away ≡ false → AreNear notes → AreNear (note ∷ notes)
-near_more note notes near all n = go (nat_eq n (length notes))
-  where
-    go : (b : Bool) → (if b then is_some note.away else is_away n notes) ≡ false
-    go true = near
-    go false = all n
-
 -- while the log has nothing of strangers, no ask of one is noted
 abbrev TellsNear : World → Type 0
 TellsNear w = HasNoStranger w.log → AreNear w.notes
@@ -121,96 +99,10 @@ run_tells : (overtake : ℕ) (events : List Event) (w v : World) → WorldRun ov
 run_tells overtake [] w v run h = subst TellsNear (sym run) h
 run_tells overtake (e ∷ es) w v run h = run_tells overtake es run.0 v run.2 (step_tells overtake w run.0 e run.1 h)
 
--- Events without strangers.
-
-performed_for : (store : Store) (p : PeerKey) (e : Option Effect) (d : Option service.Performed) → ArePerformed store (act_at p e) d → (q : service.Performed)
-    → d ≡ Some q → q.key ≡ p
-performed_for store p None None done q is = absurd cc
-performed_for store p None (Some d) done q is = absurd done
-performed_for store p (Some e) None done q is = absurd done
-performed_for store p (Some e) (Some d) done q is = let same : d ≡ q = cc in ap (λ (y : service.Performed). y.key) (sym same) ∙ done.key
-
--- what a node performs as it hears a datagram is of a peer at the link from which that comes
-from_there : (now : ℕ) (from octets : Octets) (a b : Node) (o : Outcome) → NodeOn now from octets a b o → (q : service.Performed) → o.performed ≡ Some q
-    → q.key.peer.link ≡ from
-from_there now from octets a b o (inl d) q is = absurd (let none : o.performed ≡ None = ap (λ (y : Outcome). y.performed) d.outcome in cc)
-from_there now from octets a b o (inr z) q is = go (is_from_client z.apdu) z.heard
-  where
-    go : (up : Bool) → IsHeardBy up z.peer z.apdu now a b o → q.key.peer.link ≡ from
-    go true turn = ap (λ (y : PeerKey). y.peer.link) (performed_for a.store (heard_key z.peer z.apdu) _ o.performed turn.performed q is)
-        ∙ ap (λ y. y.link) z.means.carries.sender
-    go false turn = absurd (let none : o.performed ≡ None = turn.performed in cc)
-
-ended_near : (notes : List Note) → AreNear notes → (node : ℕ) (fs : List EndedView) (old new : List Fact) → AreEnded notes node fs old new
-    → HasNoStranger old → HasNoStranger new
-ended_near notes near node [] old new h none = subst HasNoStranger (sym h) none
-ended_near notes near node (f ∷ fs) old new h none = ended_near notes near node fs (ending_fact (is_away h.0 notes) h.0 f.how ∷ old) new h.2
-    (subst (λ (b : Bool). HasNoStranger (ending_fact b h.0 f.how ∷ old)) (sym (near h.0)) none)
-
-logged_near : (nodes : List Node) (notes : List Note) (node : ℕ) (after : Node) (o : Option service.Performed)
-    → ((q : service.Performed) → o ≡ Some q → IsOfNone nodes q.key.peer.link → ⊥) → (old new : List Fact)
-    → AreLogged nodes notes node after o old new → HasNoStranger old → HasNoStranger new
-logged_near nodes notes node after None near old new h none = subst HasNoStranger (sym h) none
-logged_near nodes notes node after (Some q) near old new (inl h) none = subst HasNoStranger (sym h.log) none
-logged_near nodes notes node after (Some q) near old new (inr h) none = absurd (near q refl h.stranger)
-
-acts_near : (w v : World) (i : ℕ) (b : Node) (o : Outcome) → Acts w i b o v
-    → ((q : service.Performed) → o.performed ≡ Some q → IsOfNone w.nodes q.key.peer.link → ⊥) → TellsNear w → HasNoStranger w.log → HasNoStranger v.log
-acts_near w v i b o acts near tells none = logged_near w.nodes w.notes i b o.performed near acts.between v.log acts.logged
-    (ended_near w.notes (tells none) i o.ended w.log acts.between acts.ended none)
-
-delivery_near : (b : Bool) (w : World) (c : Copy) (v : World) → DeliversIf b w c v → TellsNear w → HasNoStranger w.log → HasNoStranger v.log
-delivery_near true w c v d = acts_near w v c.to d.hears.after d.hears.outcome d.hears.acts
-    (λ q is none. none c.from (d.sender ∙ ap Some (sym (from_there (told w c.to) d.link c.octets d.hears.before d.hears.after d.hears.outcome d.hears.on q is))))
-delivery_near false w c v same = λ tells none. subst (λ (y : World). HasNoStranger y.log) (sym same) none
-
-step_near : (overtake : ℕ) (w v : World) (e : Event) → MakeNoStray (e ∷ []) → WorldStep overtake w e v → TellsNear w → HasNoStranger w.log
-    → HasNoStranger v.log
-step_near overtake w v (Ask client server limits r) calm (inl s) tells none = subst HasNoStranger (sym s.log) none
-step_near overtake w v (Ask client server limits r) calm (inr s) tells none = subst (λ (y : World). HasNoStranger y.log) (sym s.same) none
-step_near overtake w v (AskAway client peer limits r) calm s tells none = absurd calm
-step_near overtake w v (Deliver number) calm s tells none =
-    delivery_near (is_deliverable overtake w.time.pace.life w.time.now number w.copies s.copy) w s.copy v s.goes tells none
-step_near overtake w v (Noise node from octets) calm (inl s) tells none =
-    acts_near w v node s.hears.after s.hears.outcome s.hears.acts (go s.hears.on) tells none
-  where
-    go : NodeOn (told w node) from octets s.hears.before s.hears.after s.hears.outcome → (q : service.Performed) → s.hears.outcome.performed ≡ Some q
-        → IsOfNone w.nodes q.key.peer.link → ⊥
-    go (inl d) q is far = let nothing : s.hears.outcome.performed ≡ None = ap (λ (y : Outcome). y.performed) d.outcome in absurd cc
-    go (inr z) q is far = s.meaningless z.peer z.apdu z.means
-step_near overtake w v (Noise node from octets) calm (inr s) tells none = subst (λ (y : World). HasNoStranger y.log) (sym s.same) none
-step_near overtake w v (Stray node from octets) calm s tells none = absurd calm
-step_near overtake w v (Tick node) calm s tells none =
-    acts_near w v node s.after s.outcome s.acts (λ q is far. let nothing : s.outcome.performed ≡ None = s.tick.performed in absurd cc) tells none
-step_near overtake w v (Advance by own) calm s tells none = subst (λ (y : World). HasNoStranger y.log) (sym s) none
-step_near overtake w v (Change node c) calm s tells none = subst HasNoStranger (sym s.log) none
-step_near overtake w v (Restart node exact store) calm s tells none = subst HasNoStranger (sym s.log) none
-step_near overtake w v (Begin node exact) calm s tells none = subst (λ (y : World). HasNoStranger y.log) (sym s.is) none
-step_near overtake w v (BeginAgain node exact first_id store) calm s tells none = subst HasNoStranger (sym s.log) none
-
-first_calm : (e : Event) (es : List Event) → MakeNoStray (e ∷ es) → MakeNoStray (e ∷ []) × MakeNoStray es
-first_calm (Ask client server limits r) es calm = (tt, calm)
-first_calm (AskAway client peer limits r) es calm = absurd calm
-first_calm (Deliver number) es calm = (tt, calm)
-first_calm (Noise node from octets) es calm = (tt, calm)
-first_calm (Stray node from octets) es calm = absurd calm
-first_calm (Tick node) es calm = (tt, calm)
-first_calm (Advance by own) es calm = (tt, calm)
-first_calm (Change node c) es calm = (tt, calm)
-first_calm (Restart node exact store) es calm = (tt, calm)
-first_calm (Begin node exact) es calm = (tt, calm)
-first_calm (BeginAgain node exact first_id store) es calm = (tt, calm)
-
-run_near : (overtake : ℕ) (events : List Event) (w v : World) → MakeNoStray events → WorldRun overtake w events v → TellsNear w → HasNoStranger w.log
-    → HasNoStranger v.log
-run_near overtake [] w v calm run tells none = subst (λ (y : World). HasNoStranger y.log) (sym run) none
-run_near overtake (e ∷ es) w v calm run tells none =
-    let parts = first_calm e es calm in
-    run_near overtake es run.0 v parts.1 run.2 (step_tells overtake w run.0 e run.1 tells) (step_near overtake w run.0 e parts.0 run.1 tells none)
-
 -- after a run that a run of a fresh world led to
 pub no_stranger_after : (overtake : ℕ) (first w v : World) → IsFresh first → (before : List Event) → WorldRun overtake first before w → (events : List Event)
     → MakeNoStray events → WorldRun overtake w events v → HasNoStranger w.log → HasNoStranger v.log
-no_stranger_after overtake first w v fresh before led events calm run none =
-    run_near overtake events w v calm run
-    (run_tells overtake before first w led (λ none. subst AreNear (sym fresh.notes) (λ n. refl))) none
+no_stranger_after overtake first w v fresh before led events calm run none = (after_run overtake events w v calm run (record {
+  log = none;
+  notes = run_tells overtake before first w led (λ clean. subst AreNear (sym fresh.notes) (λ n. refl)) none;
+})).log

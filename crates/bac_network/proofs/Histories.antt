@@ -6,7 +6,7 @@ use Rattle.bac_store.specs.Stores.{Store}
 use Rattle.bac_requester.specs.declared.ask_fault.AskFault.{AskFault}
 use Rattle.bac_world.specs.Once.{Fact, Stores, IsOnce, HasRequestsAlone}
 use Rattle.bac_world.specs.World.{World, Event, MakeNoStray, WorldStep, IsFresh, IsBounded, MakeRequestsAlone, link_at, stores_of}
-use Rattle.bac_world.proofs.Claims.{among_nodes, by_requests_alone, performed_once}
+use Rattle.bac_world.proofs.Claims.{among_nodes, by_requests_alone, ended_so, performed_once, permitted_so, replayed_so}
 use Rattle.bac_world.proofs.Quiet.{alone_after_step}
 use Rattle.bac_world.proofs.Headline.{apart_in_run, run_over_so, rules_of, rules_bounded, fresh_over, headline, headline_so}
 use Rattle.bac_world.proofs.Settings.{always}
@@ -29,7 +29,6 @@ use Rattle.bac_network.specs.declared.event.Event as code
 use Rattle.bac_network.specs.declared.fault.WorldFault.{WorldFault}
 use Rattle.bac_network.specs.declared.network.Network.{Network}
 use Rattle.bac_network.proofs.AsksAlone.{asks_alone, no_stranger_after, of_asks, requests_of}
-use Rattle.bac_network.proofs.ReusingClaims.{ended_so, permitted_so, replayed_so}
 use Rattle.bac_network.proofs.Strictly.{step_strictly}
 
 -- Runs.

@@ -1,6 +1,5 @@
 pub mod Rules
 pub mod AsksAlone
-pub mod ReusingClaims
 pub mod Strictly
 pub mod Histories
 pub mod OfNone

@@ -4,7 +4,8 @@ use Rattle.bac_protocol.specs.Pace.{IsTimely}
 use Rattle.bac_protocol.specs.Service.{Octets}
 use Rattle.bac_store.specs.Stores.{Store}
 use Rattle.bac_world.specs.Node.{Node}
-use Rattle.bac_node.specs.Fresh.{fresh_node, has_large_slots, has_slots_within, window_fits}
+use Rattle.bac_node.specs.Fresh.{fresh_node, has_large_slots, has_slots_within}
+pub use Rattle.bac_node.specs.Fresh.{has_slots, window_fits}
 use Rattle.bac_node.specs.declared.config.Config.{Config}
 use Rattle.bac_journal.specs.Clocks.{fresh_clocks, own_pace}
 use Rattle.bac_journal.specs.Lives.{fresh_life}

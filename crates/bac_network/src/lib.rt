@@ -46,3 +46,6 @@ pub use running::{StraightRun, straight};
 pub use straight_laws::{log_tells, loop_goes_on, open_until_ended};
 pub use stranger_logs::logs_of_strangers;
 pub use world::World;
+
+// what a world is made of
+pub use bac_node::Config;

@@ -18,9 +18,8 @@ ghost use Rattle.bac_network.specs.Views.{fact_view, log_view};
 
 use crate::fact::Fact;
 use bac_journal::{Journal, Transaction};
-use bac_node::Node;
+use bac_node::{Act, Effect, Node};
 use bac_requester::{Ended, Ending};
-use bac_responder::{Act, Effect};
 use bac_transaction::PeerKey;
 
 /// The ending of an ask of that number, of a node or of a stranger.

@@ -21,3 +21,6 @@ pub use law::{capacities_stay, hears_by_rules};
 pub use memory::MEMORY;
 pub use node::Node;
 pub use outcome::Outcome;
+
+// what an outcome says of the server's end
+pub use bac_responder::{Act, Effect};

@@ -342,7 +342,8 @@ impl Node {
     /// request is taken to need room for its own, and for the longest reply and the place of a segment, 65,539 octets. With less than that, only what
     /// needs no room is heard. A repeat of a request that was received whole needs none, in segments or not. Nor, where reads are performed anew,
     /// does a read without segments whose reply is one APDU. What is kept already stays, but for entries that are not live, whose place a new one
-    /// takes.
+    /// takes. Where slots are shared, only a request whose IP address holds no live entry but that of its own peer and invoke ID gets the last sixteenth of
+    /// `memory`.
     pub fn hear(
         &mut self,
         rules: &Rules,

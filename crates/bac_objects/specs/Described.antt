@@ -6,15 +6,20 @@ use Rattle.bac_value.specs.Value.{ObjectId}
 use Rattle.bac_store.specs.Allowing.{Allowed}
 use Rattle.bac_store.specs.Kinds.{kind_of}
 use Rattle.bac_store.specs.Stores.{File, Object, Property}
+use Rattle.bac_point_text.specs.Enumerations.{Names}
 use Rattle.toml.specs.Data.{Data, Items, no_items, item, Members, no_members, member, as_bool, get_member}
+use Rattle.bac_objects.specs.Consistency.{consistent, fitting_values}
 use Rattle.bac_objects.specs.Held.{DESCRIBED_LIMIT, FORMS, count, found_in, mark_of, object_table, the_mark}
 use Rattle.bac_objects.specs.Held.{or_nothing as or_no_value}
 use Rattle.bac_objects.specs.Identifiers.{or_nothing, or_other, the_instance, the_type}
 use Rattle.bac_objects.specs.Objects.{Fault, Flaw, at, file_in, in_object, is_reserved, name_in}
-use Rattle.bac_objects.specs.Properties.{spelling_of}
+use Rattle.bac_objects.specs.Names.{is_bare, names_of}
+use Rattle.bac_objects.specs.Properties.{property_with, spelling_of}
 use Rattle.bac_objects.specs.Reading.{array_of, other, table_of}
 use Rattle.bac_objects.specs.Standard.{is_written, rows_of, with_rows}
+use Rattle.bac_objects.specs.declared.form.Kind.TheVariants.{Enumerated}
 use Rattle.bac_objects.specs.declared.form.ValueForm.{ValueForm}
+use Rattle.bac_objects.specs.declared.form.ValueForm.TheVariants.{Value}
 use Rattle.bac_objects.specs.declared.problem.Problem.{Problem}
 use Rattle.bac_objects.specs.declared.problem.Wanted.TheVariants as wanted
 use Rattle.bac_objects.specs.declared.problem.Given.TheVariants as given
@@ -34,35 +39,35 @@ is_described ms = says_true (get_member (codes "described") ms)
 
 -- ---- limits: `min` and `max`, or `one-of`, in the form of the value
 
-abbrev pub with_spelling : ValueForm → List (List ℕ) → Data → Result (List (List ℕ)) Problem
-with_spelling form done d = spelling_of form d >>= (λ values. Ok (done ++ values ∷ []))
+abbrev pub with_spelling : Option Names → ValueForm → List (List ℕ) → Data → Result (List (List ℕ)) Problem
+with_spelling names form done d = spelling_of names form d >>= (λ values. Ok (done ++ values ∷ []))
 
-abbrev pub spellings_on : ValueForm → List (List ℕ) → Items → Result (List (List ℕ)) Problem
-spellings_on form done no_items = Ok done
-spellings_on form done (item d ds) = with_spelling form done d >>= (λ more. spellings_on form more ds)
+abbrev pub spellings_on : Option Names → ValueForm → List (List ℕ) → Items → Result (List (List ℕ)) Problem
+spellings_on names form done no_items = Ok done
+spellings_on names form done (item d ds) = with_spelling names form done d >>= (λ more. spellings_on names form more ds)
 
-unfoldable pub between : ValueForm → (least greatest : Data) → Result Allowed Problem
-between form a b = do
-  least ← spelling_of form a
-  greatest ← spelling_of form b
+unfoldable pub between : Option Names → ValueForm → (least greatest : Data) → Result Allowed Problem
+between names form a b = do
+  least ← spelling_of names form a
+  greatest ← spelling_of names form b
   Ok (Allowed.Between least greatest)
 
-unfoldable pub one_of : ValueForm → Data → Result Allowed Problem
-one_of form d = do
+unfoldable pub one_of : Option Names → ValueForm → Data → Result Allowed Problem
+one_of names form d = do
   ds ← array_of wanted.List d
-  listed ← spellings_on form [] ds
+  listed ← spellings_on names form [] ds
   Ok (Allowed.OneOf listed)
 
-abbrev pub limits_with : ValueForm → (least greatest list : Option Data) → Result Allowed Problem
-limits_with form None None None = Ok Allowed.Any
-limits_with form (Some a) (Some b) None = between form a b
-limits_with form None None (Some d) = one_of form d
-limits_with form None (Some b) list = Err (other wanted.Limits)
-limits_with form (Some a) None list = Err (other wanted.Limits)
-limits_with form (Some a) (Some b) (Some d) = Err (other wanted.Limits)
+abbrev pub limits_with : Option Names → ValueForm → (least greatest list : Option Data) → Result Allowed Problem
+limits_with names form None None None = Ok Allowed.Any
+limits_with names form (Some a) (Some b) None = between names form a b
+limits_with names form None None (Some d) = one_of names form d
+limits_with names form None (Some b) list = Err (other wanted.Limits)
+limits_with names form (Some a) None list = Err (other wanted.Limits)
+limits_with names form (Some a) (Some b) (Some d) = Err (other wanted.Limits)
 
-abbrev pub limits_in : ValueForm → Members → Result Allowed Problem
-limits_in form ms = limits_with form (get_member (codes "min") ms) (get_member (codes "max") ms) (get_member (codes "one-of") ms)
+abbrev pub limits_in : Option Names → ValueForm → Members → Result Allowed Problem
+limits_in names form ms = limits_with names form (get_member (codes "min") ms) (get_member (codes "max") ms) (get_member (codes "one-of") ms)
 
 abbrev pub one_if : Option Data → ℕ
 one_if d = if is_some d then 1 else 0
@@ -78,16 +83,30 @@ no_more ms allowed = if count ms == its_own ms then Ok allowed else Err (record 
 
 -- ---- a property of any number
 
-unfoldable pub property_of : (key : List ℕ) → Data → Result Property Problem
-property_of key d = do
-  number ← or_other wanted.AnyProperty (property_word key)
+-- the name of its value alone, which is not writable
+abbrev pub named_property : (number : ℕ) → Option Names → Data → Result Property Problem
+named_property number names d = spelling_of names (Value Enumerated) d >>= (λ values. Ok (property_with number false values))
+
+-- a table with its values
+unfoldable pub tabled_property : (number : ℕ) → Option Names → Data → Result Property Problem
+tabled_property number names d = do
   ms ← table_of wanted.Value d
   writable ← mark_of (the_mark ms)
   found ← or_no_value (found_in FORMS ms)
-  values ← spelling_of found.0 found.1
-  allowed ← limits_in found.0 ms
+  values ← spelling_of names found.0 found.1
+  values ← fitting_values number found.0 values
+  allowed ← limits_in names found.0 ms
   allowed ← no_more ms allowed
   Ok (record { number = number; values = values; writable = writable; kind = kind_of values; allowed = allowed })
+
+abbrev pub numbered_property : (number : ℕ) → Option Names → Data → Result Property Problem
+numbered_property number names d = if is_bare names d then named_property number names d else tabled_property number names d
+
+-- a property of an object of this type
+unfoldable pub property_of : (kind : ℕ) → (key : List ℕ) → Data → Result Property Problem
+property_of kind key d = do
+  number ← or_other wanted.AnyProperty (property_word key)
+  numbered_property number (names_of kind number) d
 
 -- ---- an object of any type
 
@@ -99,24 +118,32 @@ identifier_in ms = do
 
 abbrev pub with_property : ObjectId → List Property → (key : List ℕ) → Data → Result (List Property) Flaw
 with_property id done key d =
-    if is_reserved id.kind key then Ok done else at (Some id) key (property_of key d) >>= (λ p. Ok (done ++ p ∷ []))
+    if is_reserved id.kind key then Ok done else at (Some id) key (property_of id.kind key d) >>= (λ p. Ok (done ++ p ∷ []))
 
 -- the properties, in the order of their keys, read after others
 abbrev pub properties_on : ObjectId → List Property → Members → Result (List Property) Flaw
 properties_on id done no_members = Ok done
 properties_on id done (member key d ms) = with_property id done key d >>= (λ more. properties_on id more ms)
 
--- the properties, and those that the standard requires and the table lacks
+-- a name of at least one character (clause 12)
+abbrev pub filled : List ℕ → Result (List ℕ) Problem
+filled name = if length name == 0 then Err (other wanted.FilledName) else Ok name
+
+abbrev pub filled_name : Members → Result (List ℕ) Problem
+filled_name ms = name_in ms >>= filled
+
+-- the properties, which fit together, and those that the standard requires and the table lacks
 unfoldable pub all_properties : ObjectId → Option File → Members → Result (List Property) Flaw
 all_properties id file ms = do
   properties ← properties_on id [] ms
+  properties ← at (Some id) (codes "present-value") (consistent id.kind properties)
   at (Some id) [] (with_rows properties (rows_of id.kind (is_written file)))
 
 unfoldable pub object_of : Data → Result Object Flaw
 object_of d = do
   ms ← at None [] (object_table d)
   id ← identifier_in ms
-  name ← at (Some id) (codes "name") (name_in ms)
+  name ← at (Some id) (codes "name") (filled_name ms)
   file ← at (Some id) (codes "file") (file_in id.kind ms)
   properties ← all_properties id file ms
   Ok (record { id = id; name = name; properties = properties; file = file })

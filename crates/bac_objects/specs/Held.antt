@@ -3,8 +3,12 @@ use Rattle.std.specs.Prelude.{ℕ, ◌+◌, nat_le, ◌==◌, Bool, false, List,
 use Rattle.std.specs.Borrow.{Bor}
 use Rattle.bac_value.specs.Steps.{◌>>=◌}
 use Rattle.toml.specs.Data.{Data, Items, no_items, item, Members, no_members, member, get_member}
+use Rattle.bac_point_text.specs.Enumerations.{Names}
+use Rattle.bac_objects.specs.Names.{is_bare}
 use Rattle.bac_objects.specs.Reading.{boolean_of, table_of}
+use Rattle.bac_objects.specs.declared.form.Kind.TheVariants.{Enumerated}
 use Rattle.bac_objects.specs.declared.form.ValueForm.{ValueForm}
+use Rattle.bac_objects.specs.declared.form.ValueForm.TheVariants.{Value}
 use Rattle.bac_objects.specs.declared.form.TheConstants as code
 use Rattle.bac_objects.specs.declared.problem.Problem.{Problem}
 use Rattle.bac_objects.specs.declared.problem.Given.TheVariants as given
@@ -93,3 +97,7 @@ held_by rows ms = do
 
 abbrev pub held_in : List Row → Data → Result Held Problem
 held_in rows d = table_of wanted.Value d >>= held_by rows
+
+-- the same of a property whose numbers have names: a text is the name of its value, which is not writable
+abbrev pub held_named : Option Names → Data → Result Held Problem
+held_named names d = if is_bare names d then Ok (record { form = Value Enumerated; value = d; writable = false }) else held_in FORMS d

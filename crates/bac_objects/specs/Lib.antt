@@ -1,9 +1,11 @@
 pub mod Answers
 pub mod Bits
+pub mod Consistency
 pub mod Described
 pub mod Documents
 pub mod Held
 pub mod Identifiers
+pub mod Names
 pub mod Objects
 pub mod Properties
 pub mod Reading

@@ -1,5 +1,5 @@
 -- The properties and the contents of a file of an object in a document (clause 12).
-use Rattle.std.specs.Prelude.{ℕ, nat_lt, ◌==◌, Bool, true, false, List, [], ◌∷◌, length, if◌then◌else◌, Result, Ok, Err}
+use Rattle.std.specs.Prelude.{ℕ, nat_lt, ◌==◌, Bool, true, false, List, [], ◌∷◌, length, if◌then◌else◌, Option, Result, Ok, Err}
 use Rattle.bac_value_text.specs.Reading.{property_of as property_word}
 use Rattle.bac_value.specs.declared.fault.FaultKind.{FaultKind}
 use Rattle.bac_value.specs.Reading.{data_of}
@@ -11,8 +11,10 @@ use Rattle.bac_store.specs.Allowing.{Allowed}
 use Rattle.bac_store.specs.Kinds.{kind_of}
 use Rattle.bac_store.specs.Stores.{Property, File, is_number}
 use Rattle.toml.specs.Data.{Data}
-use Rattle.bac_objects.specs.Held.{FORMS, FILE_FORMS, held_in}
+use Rattle.bac_point_text.specs.Enumerations.{Names}
+use Rattle.bac_objects.specs.Held.{FILE_FORMS, held_in, held_named}
 use Rattle.bac_objects.specs.Identifiers.{or_other}
+use Rattle.bac_objects.specs.Names.{names_of}
 use Rattle.bac_objects.specs.Reading.{other, text_of, too_long}
 use Rattle.bac_objects.specs.Values.{hex_of, value_of}
 use Rattle.bac_objects.specs.declared.form.Kind.TheVariants.{Real, Text}
@@ -41,9 +43,9 @@ whole_data octets (Ok (o ∷ rest)) = Err (other wanted.Spelling)
 whole_data octets (Err e) = Err (other wanted.Spelling)
 
 -- an encoded value of that kind, or octets that encode data (clause 20.2)
-abbrev pub spelling_of : ValueForm → Data → Result (List ℕ) Problem
-spelling_of (Value k) d = value_of k d >>= (λ v. Ok (value_spelling v))
-spelling_of Hex d = hex_of d >>= (λ octets. whole_data octets (data_of octets))
+abbrev pub spelling_of : Option Names → ValueForm → Data → Result (List ℕ) Problem
+spelling_of names (Value k) d = value_of names k d >>= (λ v. Ok (value_spelling v))
+spelling_of names Hex d = hex_of d >>= (λ octets. whole_data octets (data_of octets))
 
 -- what is expected as values of a property of an object type
 abbrev pub wanted_at : (kind number : ℕ) → Wanted
@@ -66,8 +68,8 @@ property_with number writable values = record { number = number; values = values
 unfoldable pub property_of : (kind : ℕ) → (key : List ℕ) → Data → Result Property Problem
 property_of kind key d = do
   number ← property_number key
-  held ← held_in FORMS d
-  values ← spelling_of held.form held.value
+  held ← held_named (names_of kind number) d
+  values ← spelling_of (names_of kind number) held.form held.value
   values ← right_at kind number held.form values
   Ok (property_with number held.writable values)
 

@@ -8,7 +8,9 @@ use Rattle.toml_datetime.specs.declared.datetime.Date.{Date}
 use Rattle.toml_datetime.specs.declared.datetime.Time.{Time}
 use Rattle.bac_value.specs.Steps.{◌>>=◌}
 use Rattle.bac_value.specs.Value.{Datum, null, boolean, unsigned, signed, real, double, octets, characters, enumerated, date, time, object}
-use Rattle.toml.specs.Data.{Data}
+use Rattle.toml.specs.Data.{Data, as_str}
+use Rattle.bac_point_text.specs.Enumerations.{Names}
+use Rattle.bac_point_text.specs.Enumerations.{number_of as number_named}
 use Rattle.bac_objects.specs.Bits.{bits_of}
 use Rattle.bac_objects.specs.Identifiers.{identifier_of}
 use Rattle.bac_objects.specs.Reading.{boolean_of, datetime_of, fitting, integer_of, number_of, number_up_to, other, text_of}
@@ -37,8 +39,21 @@ unsigned_of d = number_up_to (2 ^ 63 - 1) wanted.Unsigned d >>= (λ n. Ok (unsig
 abbrev pub signed_of : Data → Result Datum Problem
 signed_of d = integer_of wanted.Integer d >>= (λ z. Ok (signed z))
 
-abbrev pub enumerated_of : Data → Result Datum Problem
-enumerated_of d = number_up_to (2 ^ 32 - 1) wanted.Enumerated d >>= (λ n. Ok (enumerated n))
+abbrev pub numbered_of : Data → Result Datum Problem
+numbered_of d = number_up_to (2 ^ 32 - 1) wanted.Enumerated d >>= (λ n. Ok (enumerated n))
+
+abbrev pub or_unknown : Option ℕ → Result Datum Problem
+or_unknown (Some n) = Ok (enumerated n)
+or_unknown None = Err (other wanted.Name)
+
+abbrev pub named_or_numbered : Names → Data → Option (List ℕ) → Result Datum Problem
+named_or_numbered names d (Some name) = or_unknown (number_named names name)
+named_or_numbered names d None = numbered_of d
+
+-- a number, or where the standard has names for it the name of one
+abbrev pub enumerated_of : Option Names → Data → Result Datum Problem
+enumerated_of (Some names) d = named_or_numbered names d (as_str d)
+enumerated_of None d = numbered_of d
 
 -- clause 20.2.6: the float of 32 bits that is nearest to TOML's number as one of 64 bits, which itself is nearest to the number in the text
 abbrev pub single : Float → Float
@@ -114,17 +129,17 @@ object_of d = identifier_of d >>= (λ i. Ok (object i))
 
 -- ---- the kinds
 
-abbrev pub value_of : Kind → Data → Result Datum Problem
-value_of kind.Null d = null_of d
-value_of kind.Boolean d = truth_of d
-value_of kind.Unsigned d = unsigned_of d
-value_of kind.Signed d = signed_of d
-value_of kind.Real d = real_of d
-value_of kind.Double d = double_of d
-value_of kind.Octets d = octets_of d
-value_of kind.Text d = characters_of d
-value_of kind.Bits d = bits_of d
-value_of kind.Enumerated d = enumerated_of d
-value_of kind.Date d = date_of d
-value_of kind.Time d = time_of d
-value_of kind.Object d = object_of d
+abbrev pub value_of : Option Names → Kind → Data → Result Datum Problem
+value_of names kind.Null d = null_of d
+value_of names kind.Boolean d = truth_of d
+value_of names kind.Unsigned d = unsigned_of d
+value_of names kind.Signed d = signed_of d
+value_of names kind.Real d = real_of d
+value_of names kind.Double d = double_of d
+value_of names kind.Octets d = octets_of d
+value_of names kind.Text d = characters_of d
+value_of names kind.Bits d = bits_of d
+value_of names kind.Enumerated d = enumerated_of names d
+value_of names kind.Date d = date_of d
+value_of names kind.Time d = time_of d
+value_of names kind.Object d = object_of d

@@ -1,21 +1,25 @@
 //! Collecting all faults of a document, where its objects are not read.
-use crate::described::is_described;
+use crate::consistency::{NUMBER_OF_STATES, flaw_of, values_of};
+use crate::described::filled_name;
 use crate::described_property::described_property;
 use crate::document::few_objects;
 use crate::fault::{Place, ValueFault};
 use crate::finding::{Finding, Wrong};
-use crate::found::{found_words, refused, unknown_key};
+use crate::found::{Faulted, VENDORS, found_words, refused, unknown_key, wrong_value};
 use crate::held::{member, object_table};
+use crate::help::states_help;
 use crate::identifier::{the_instance, the_type};
-use crate::known_keys::{DESCRIBED_KEYS, DOCUMENT_KEYS, OBJECT_KEYS, nearest, nearest_of_value};
+use crate::known_keys::{
+    DESCRIBED_KEYS, DOCUMENT_KEYS, OBJECT_KEYS, nearest, nearest_of_file, nearest_of_value,
+    value_example,
+};
 use crate::mended::{Mended, read_mended};
 use crate::object::{file_of, is_reserved, kind_in, name_in};
 use crate::outline::Outline;
 use crate::problem::{Given, Problem, Wanted};
-use crate::property::own_property;
+use crate::property::{PRESENT_VALUE, own_property};
 use crate::refusals::{Reasons, refusals, right_id};
 use crate::scalars::array;
-use crate::type_names::nearest_type;
 use bac_store::{DescriptionFault, DescriptionFlaw, Property};
 use bac_value::{NoMemory, ObjectIdentifier};
 use bac_value_text::{property_in, property_name};
@@ -29,19 +33,8 @@ const DEVICE: u16 = 8;
 /// The object type file.
 const FILE: u16 = 10;
 
-/// An object type whose properties may have any values.
-const VENDORS: u16 = 128;
-
 /// How long a text may be of which all faults are told, in octets.
 const TOLD_LIMIT: usize = 262_144;
-
-/// The place of a key in a document.
-#[derive(Clone, Copy)]
-struct At<'a> {
-    object: usize,
-    id: Option<ObjectIdentifier>,
-    key: &'a str,
-}
 
 /// An object of a document: its number, and its type and its identifier, where they are allowed.
 #[derive(Clone, Copy)]
@@ -49,6 +42,24 @@ struct Whose {
     object: usize,
     kind: Option<u16>,
     id: Option<ObjectIdentifier>,
+}
+
+impl Whose {
+    /// The object with a number, of which no more is known; 0 stands for none.
+    fn numbered(object: usize) -> Whose {
+        Whose {
+            object,
+            kind: None,
+            id: None,
+        }
+    }
+}
+
+/// The place of a key in a document.
+#[derive(Clone, Copy)]
+struct At<'a> {
+    whose: Whose,
+    key: &'a str,
 }
 
 /// What was found so far.
@@ -71,11 +82,11 @@ impl Collecting {
     /// Notes what is wrong at a place, which stands on the line of that key.
     fn note(&mut self, at: At<'_>, line_key: &str, wrong: Wrong) -> Result<(), NoMemory> {
         let place = Place {
-            object: at.object,
-            id: at.id,
+            object: at.whose.object,
+            id: at.whose.id,
             key: String::from_str(self.alloc, at.key)?,
         };
-        let line = self.outline.line(at.object, line_key);
+        let line = self.outline.line(at.whose.object, line_key);
         Ok(self.findings.push(Finding { line, place, wrong })?)
     }
 
@@ -85,10 +96,32 @@ impl Collecting {
         at: At<'_>,
         key: &str,
         near: Option<&'static str>,
+        example: Option<&'static str>,
     ) -> Result<(), NoMemory> {
         let line_key = if at.key.is_empty() { key } else { at.key };
         let key = String::from_str(self.alloc, key)?;
-        self.note(at, line_key, Wrong::UnknownKey { key, near })
+        let wrong = Wrong::UnknownKey { key, near, example };
+        self.note(at, line_key, wrong)
+    }
+
+    /// Notes a key in the table of a value that has no meaning there.
+    fn note_unknown_in_value(
+        &mut self,
+        at: At<'_>,
+        key: &str,
+        problem: Problem,
+    ) -> Result<(), NoMemory> {
+        let near = if at.key == "file" {
+            nearest_of_file(self.alloc, key)?
+        } else {
+            self.hint(key, nearest_of_value(self.alloc, key)?)
+        };
+        let example = if near.is_none() && problem.given == Given::Nothing {
+            Some(value_example(at.key))
+        } else {
+            None
+        };
+        self.note_unknown(at, key, near, example)
     }
 
     /// Notes a value that is not allowed, or the unknown key in its table that is the reason.
@@ -99,20 +132,18 @@ impl Collecting {
         problem: Problem,
     ) -> Result<(), NoMemory> {
         if let Some(key) = unknown_key(value, problem, self.is_described) {
-            let near = self.hint(key, nearest_of_value(self.alloc, key)?);
-            return self.note_unknown(at, key, near);
+            return self.note_unknown_in_value(at, key, problem);
         }
         if value.is_none() && problem.given == Given::Nothing && !self.is_whole {
             return Ok(());
         }
-        let found = found_words(self.alloc, value, problem)?;
-        let near = nearest_type(self.alloc, value, problem)?;
-        let wanted = problem.wanted;
-        let wrong = Wrong::Value {
-            wanted,
-            found,
-            near,
+        let faulted = Faulted {
+            kind: at.whose.kind,
+            key: at.key,
+            value,
+            problem,
         };
+        let wrong = wrong_value(self.alloc, faulted)?;
         self.note(at, at.key, wrong)
     }
 
@@ -146,8 +177,7 @@ impl Collecting {
         table: &Table,
     ) -> Result<(Option<u16>, Option<u32>), NoMemory> {
         let mut at = At {
-            object,
-            id: None,
+            whose: Whose::numbered(object),
             key: "type",
         };
         let kind = match self.kind_of(table) {
@@ -180,9 +210,13 @@ impl Collecting {
     /// Notes that an earlier object has an identifier, where one has.
     fn note_again(&mut self, object: usize, id: ObjectIdentifier) -> Result<(), NoMemory> {
         if self.has_id(id) {
-            let at = At {
+            let whose = Whose {
                 object,
+                kind: Some(id.kind),
                 id: Some(id),
+            };
+            let at = At {
+                whose,
                 key: "instance",
             };
             let problem = Problem {
@@ -208,19 +242,27 @@ impl Collecting {
         Ok(Whose { object, kind, id })
     }
 
+    /// Reads the name of an object.
+    fn name_of(&self, table: &Table) -> Result<String, ValueFault> {
+        if self.is_described {
+            filled_name(self.alloc, table)
+        } else {
+            name_in(self.alloc, table)
+        }
+    }
+
     /// Notes what is wrong with the name of an object.
     fn read_name(&mut self, whose: Whose, table: &Table) -> Result<(), NoMemory> {
-        let Whose { object, id, .. } = whose;
         let key = "name";
-        match name_in(self.alloc, table) {
+        match self.name_of(table) {
             Ok(_) => Ok(()),
-            Err(fault) => self.note_fault(At { object, id, key }, member(table, key), fault),
+            Err(fault) => self.note_fault(At { whose, key }, member(table, key), fault),
         }
     }
 
     /// Notes what is wrong with the file of an object. Where its type is not known, a file is read if it has one.
     fn read_file(&mut self, whose: Whose, table: &Table) -> Result<(), NoMemory> {
-        let Whose { object, kind, id } = whose;
+        let kind = whose.kind;
         let key = "file";
         let file = member(table, key);
         if kind.is_none() && file.is_none() {
@@ -228,7 +270,7 @@ impl Collecting {
         }
         match file_of(self.alloc, kind.unwrap_or(FILE), table) {
             Ok(_) => Ok(()),
-            Err(fault) => self.note_fault(At { object, id, key }, file, fault),
+            Err(fault) => self.note_fault(At { whose, key }, file, fault),
         }
     }
 
@@ -240,10 +282,11 @@ impl Collecting {
         key: &str,
         value: &Value,
     ) -> Result<Property, ValueFault> {
+        let kind = kind.unwrap_or(VENDORS);
         if self.is_described {
-            described_property(self.alloc, key, value)
+            described_property(self.alloc, kind, key, value)
         } else {
-            own_property(self.alloc, kind.unwrap_or(VENDORS), done, key, value)
+            own_property(self.alloc, kind, done, key, value)
         }
     }
 
@@ -261,26 +304,81 @@ impl Collecting {
     fn note_no_property(&mut self, at: At<'_>) -> Result<(), NoMemory> {
         let key = at.key;
         let near = self.hint(key, nearest(self.alloc, key, DESCRIBED_KEYS)?);
-        self.note_unknown(At { key: "", ..at }, key, near)
+        self.note_unknown(At { key: "", ..at }, key, near, None)
+    }
+
+    /// Notes a present-value that is none of the states of its object.
+    fn note_no_state(
+        &mut self,
+        at: At<'_>,
+        value: Option<&Value>,
+        problem: Problem,
+        states: &[u8],
+    ) -> Result<(), NoMemory> {
+        let faulted = Faulted {
+            kind: at.whose.kind,
+            key: at.key,
+            value,
+            problem,
+        };
+        let found = found_words(self.alloc, faulted)?;
+        let help = states_help(self.alloc, states)?;
+        let wrong = Wrong::Value {
+            wanted: problem.wanted,
+            found,
+            help,
+        };
+        self.note(at, at.key, wrong)
+    }
+
+    /// Notes a present-value that is missing, or is none of the states of its object, among the properties that were read.
+    fn read_present_value(
+        &mut self,
+        whose: Whose,
+        table: &Table,
+        done: &[Property],
+    ) -> Result<(), NoMemory> {
+        let Some(kind) = whose.kind else {
+            return Ok(());
+        };
+        let Some(problem) = flaw_of(kind, done) else {
+            return Ok(());
+        };
+        let key = key_of(PRESENT_VALUE, table);
+        if !key.is_empty() {
+            return match values_of(NUMBER_OF_STATES, done) {
+                Some(states) if problem.given != Given::Nothing => {
+                    self.note_no_state(At { whose, key }, member(table, key), problem, states)
+                }
+                // it is there, and what is wrong with it was told
+                _ => Ok(()),
+            };
+        }
+        let key = "present-value";
+        self.note_value(At { whose, key }, None, problem)
     }
 
     /// Notes what is wrong with the properties of an object.
     fn read_properties(&mut self, whose: Whose, table: &Table) -> Result<(), NoMemory> {
-        let Whose { object, kind, id } = whose;
+        let kind = whose.kind;
         let mut done = Vec::new(self.alloc);
         for (key, value) in table.iter() {
             let key = key.as_str();
             if is_reserved(kind.unwrap_or(FILE), key) {
                 continue;
             }
-            let at = At { object, id, key };
+            let at = At { whose, key };
             match self.property_of(kind, &done, key, value) {
                 Ok(property) => done.push(property)?,
                 Err(ValueFault::Wrong(problem)) if is_no_property(problem) => {
                     self.note_no_property(at)?;
                 }
+                Err(ValueFault::Wrong(problem)) if kind.is_none() && may_be_name(problem) => {}
                 Err(fault) => self.note_fault(at, Some(value), fault)?,
             }
+        }
+        if self.is_described {
+            self.read_present_value(whose, table, &done)?;
         }
         Ok(())
     }
@@ -291,8 +389,7 @@ impl Collecting {
             Ok(table) => table,
             Err(problem) => {
                 let at = At {
-                    object,
-                    id: None,
+                    whose: Whose::numbered(object),
                     key: "",
                 };
                 self.has_device = true;
@@ -310,11 +407,10 @@ impl Collecting {
         for (key, value) in document.iter() {
             let key = key.as_str();
             let at = At {
-                object: 0,
-                id: None,
+                whose: Whose::numbered(0),
                 key,
             };
-            if key == "described" && !self.is_described {
+            if key == "described" && value.as_bool() != Some(true) {
                 let problem = Problem {
                     wanted: Wanted::True,
                     given: Given::Other,
@@ -322,7 +418,7 @@ impl Collecting {
                 self.note_value(at, Some(value), problem)?;
             } else if !DOCUMENT_KEYS.contains(&key) {
                 let near = nearest(self.alloc, key, DOCUMENT_KEYS)?;
-                self.note_unknown(At { key: "", ..at }, key, near)?;
+                self.note_unknown(At { key: "", ..at }, key, near, None)?;
             }
         }
         Ok(())
@@ -331,8 +427,7 @@ impl Collecting {
     /// Notes what is wrong with the list of objects, and with each object.
     fn read_list(&mut self, document: &Table) -> Result<(), NoMemory> {
         let at = At {
-            object: 0,
-            id: None,
+            whose: Whose::numbered(0),
             key: "object",
         };
         let wanted = if self.is_described {
@@ -520,6 +615,20 @@ fn property_words(alloc: Global, property: Option<u32>) -> Result<String, NoMemo
     }
 }
 
+/// Whether a text may be the name of a number in objects of some types.
+fn may_be_name(problem: Problem) -> bool {
+    let Problem { wanted, given } = problem;
+    given == Given::Text && matches!(wanted, Wanted::Value | Wanted::Enumerated)
+}
+
+/// Whether a document is meant to describe its objects: it says so, or what it says of that is neither true nor false.
+fn means_described(document: &Table) -> bool {
+    match member(document, "described") {
+        Some(value) => value.as_bool().unwrap_or(true),
+        None => false,
+    }
+}
+
 /// Whether a key is that of no property.
 fn is_no_property(problem: Problem) -> bool {
     matches!(problem.wanted, Wanted::Property | Wanted::AnyProperty)
@@ -549,7 +658,7 @@ pub fn document_findings(alloc: Global, text: &[u8]) -> Result<Vec<Finding>, NoM
     let mut collecting = Collecting {
         alloc,
         outline: Outline::of(alloc, text),
-        is_described: is_described(&table),
+        is_described: means_described(&table),
         is_whole: findings
             .iter()
             .all(|finding| matches!(finding.wrong, Wrong::SingleObject)),

@@ -5,11 +5,13 @@ ghost use Rattle.bac_value.specs.Steps.{ReadsAll};
 ghost use Rattle.bac_value.specs.Views.{object_identifier_view};
 ghost use Rattle.bac_store.specs.Views.{file_view, object_view, property_view};
 ghost use Rattle.toml.specs.View.{array_view, table_view, view};
-ghost use Rattle.bac_objects.specs.Answers.{ReadsObject};
-ghost use Rattle.bac_objects.specs.Described.{all_properties as all_properties_of, identifier_in as identifier_of, is_described as is_described_in, list_in as list_of, object_of, objects_in as objects_of, objects_on, properties_on, with_object as with_object_of, with_property as with_property_of};
+ghost use Rattle.std.specs.String.{string_bytes};
+ghost use Rattle.bac_objects.specs.Answers.{Reads, ReadsObject};
+ghost use Rattle.bac_objects.specs.Described.{all_properties as all_properties_of, filled_name as filled_name_of, identifier_in as identifier_of, is_described as is_described_in, list_in as list_of, object_of, objects_in as objects_of, objects_on, properties_on, with_object as with_object_of, with_property as with_property_of};
 ghost use Rattle.bac_objects.specs.Documents.{IsDescribedTable, ReadsDocument};
 ghost use Rattle.bac_objects.specs.Objects.{in_object as in_object_of};
 
+use crate::consistency::consistent;
 use crate::described_property::described_property;
 use crate::document::in_object;
 use crate::fault::{DocumentFault, Flaw, ObjectFault, Refusal, ValueFault};
@@ -59,6 +61,20 @@ fn identifier_in<'a>(table: &Table) -> Result<ObjectIdentifier, ObjectFault<'a>>
     }
 }
 
+/// Reads the name of an object, which is not empty.
+pub(crate) fn filled_name(alloc: Global, table: &Table) -> Result<String, ValueFault>
+    ensures { Reads string_bytes result (filled_name_of (table_view table.now)) }
+{
+    let name = name_in(alloc, table)?;
+    if name.len() == 0 {
+        return Err(ValueFault::Wrong(Problem {
+            wanted: Wanted::FilledName,
+            given: Given::Other,
+        }));
+    }
+    Ok(name)
+}
+
 /// The properties, with one more if the key is that of a property.
 fn with_property<'a>(
     alloc: Global,
@@ -74,7 +90,7 @@ fn with_property<'a>(
         return Ok(done);
     }
     let mut properties = done;
-    match described_property(alloc, key, value) {
+    match described_property(alloc, id.kind, key, value) {
         Ok(property) => properties.push(property)?,
         Err(fault) => return Err(at(Some(id), key, fault)),
     }
@@ -96,7 +112,7 @@ fn properties_in<'a>(
     Ok(properties)
 }
 
-/// Reads the properties of an object, and adds those that the standard requires and the table lacks.
+/// Reads the properties of an object, which fit together, and adds those that the standard requires and the table lacks.
 #[tactic(auto, unfolding(crate::specs::Described::all_properties))]
 fn all_properties<'a>(
     alloc: Global,
@@ -108,6 +124,10 @@ fn all_properties<'a>(
         (all_properties_of (object_identifier_view id) (option_map file_view file.now) (table_view table.now)) }
 {
     let properties = properties_in(alloc, id, table)?;
+    let properties = match consistent(id.kind, properties) {
+        Ok(properties) => properties,
+        Err(problem) => return Err(at(Some(id), "present-value", ValueFault::Wrong(problem))),
+    };
     match with_rows(alloc, properties, rows_of(id.kind, is_written(file))) {
         Ok(properties) => Ok(properties),
         Err(fault) => Err(at(Some(id), "", fault)),
@@ -124,7 +144,7 @@ pub(crate) fn object_in(alloc: Global, value: &Value) -> Result<Object, ObjectFa
         Err(problem) => return Err(at(None, "", ValueFault::Wrong(problem))),
     };
     let id = identifier_in(table)?;
-    let name = match name_in(alloc, table) {
+    let name = match filled_name(alloc, table) {
         Ok(name) => name,
         Err(fault) => return Err(at(Some(id), "name", fault)),
     };

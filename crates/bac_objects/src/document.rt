@@ -162,12 +162,18 @@ fn line_of(text: &[u8], error: &Error) -> usize {
 /// ([`Store::describing`]); all others have the objects of [`Store::new`]. Described objects get the properties that the standard requires of their type (clause 12)
 /// and the document leaves out.
 ///
-/// An object has at most 1,024 keys; a document that is not described at most 10,000 objects.
+/// Where the standard names the numbers of a property, a text may be the name of one: in place of the number, or of the whole table, whose value is not writable
+/// then.
+///
+/// An object has at most 1,024 keys; a document that is not described at most 10,000 objects. The name of a described object is not empty, its units are
+/// Enumerated, and its number-of-states is an Unsigned from 1 on. If it is analog, binary or multi-state, it has a present-value, of a multi-state object none beyond
+/// its number-of-states.
 ///
 /// Returns `Refused` if a document that describes a store has a fault that its objects alone don't show.
 ///
 /// Returns `NoToml` if the document is not TOML, and `Wrong` with the first fault: objects are read in the order of the document, and
-/// in each `type`, `instance`, whether an earlier object has both, `name`, `file`, and then the other keys in the order of their octets.
+/// in each `type`, `instance`, whether an earlier object has both, `name`, `file`, then the other keys in the order of their octets, and at last what a described
+/// object says of its present-value.
 /// Returns `NoMemory` if an allocation fails.
 pub fn read_objects(alloc: Global, text: &[u8]) -> Result<Store, DocumentFault>
     ensures { IsRead text.now result }

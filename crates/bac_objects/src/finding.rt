@@ -1,5 +1,6 @@
 //! The faults of a document, each with its line.
 use crate::fault::{Place, write_id};
+use crate::help::Help;
 use crate::problem::Wanted;
 use bac_store::DescriptionFlaw;
 use bac_value::ObjectIdentifier;
@@ -11,17 +12,22 @@ use toml::de::Error;
 #[derive(Debug, Drop)]
 pub enum Wrong {
     /// A key that has no meaning there, and the known key that is most like it, where one is: the key itself where it has one in documents whose objects are
-    /// described.
+    /// described. Where none is, perhaps an example of what may stand there.
     UnknownKey {
         key: String,
         near: Option<&'static str>,
+        example: Option<&'static str>,
     },
-    /// A value that is not allowed: what is wanted, and what is there, in words or as TOML writes it; and of a text that names no object type the name that is most
-    /// like it, where one is.
+    /// A value that is not allowed: what is wanted, and what is there, in words or as TOML writes it; and what helps, where something does.
     Value {
         wanted: Wanted,
         found: String,
-        near: Option<&'static str>,
+        help: Option<Help>,
+    },
+    /// A text that is none of the names of the standard that the property has, as TOML writes it.
+    UnknownName {
+        name: String,
+        help: Help,
     },
     /// A value that its limits do not allow, or limits that can be none of such a value: the limits, and the value as TOML writes it.
     Limits {
@@ -78,25 +84,15 @@ impl Finding {
 impl fmt::Display for Wrong {
     fn fmt<W: fmt::Write>(&self, f: &mut fmt::Formatter<W>) -> fmt::Result {
         match self {
-            Wrong::UnknownKey { key, .. } if key.as_str() == "described" => {
-                f.write_str("described = true must come before the first table")
+            Wrong::UnknownKey { key, near, example } => {
+                write_unknown_key(f, key, *near, *example)
             }
-            Wrong::UnknownKey {
-                key,
-                near: Some(near),
-            } if key.as_str() == *near => {
-                write!(f, "key \"{key}\" requires described = true at the top")
-            }
-            Wrong::UnknownKey {
-                key,
-                near: Some(near),
-            } => write!(f, "unknown key \"{key}\"; did you mean {near}?"),
-            Wrong::UnknownKey { key, near: None } => write!(f, "unknown key \"{key}\""),
             Wrong::Value {
                 wanted,
                 found,
-                near,
-            } => write_value(f, *wanted, found, *near),
+                help,
+            } => write_value(f, *wanted, found, help.as_ref()),
+            Wrong::UnknownName { name, help } => write!(f, "unknown name {name}{help}"),
             Wrong::Limits { limits, found } => {
                 let flaw = DescriptionFlaw::Limits;
                 write!(f, "{flaw}: expected {limits}, found {found}")
@@ -129,20 +125,40 @@ fn write_same_name<W: fmt::Write>(
     }
 }
 
-/// Prints what is wanted and what is there, and the name that is like it, where there is one.
+/// Prints a key that has no meaning there, and the one that is like it, or an example of what has a meaning, where there is one.
+fn write_unknown_key<W: fmt::Write>(
+    f: &mut fmt::Formatter<W>,
+    key: &str,
+    near: Option<&str>,
+    example: Option<&str>,
+) -> fmt::Result {
+    if key == "described" {
+        return f.write_str("described = true must come before the first table");
+    }
+    match (near, example) {
+        (Some(near), _) if near == key => {
+            write!(f, "key \"{key}\" requires described = true at the top")
+        }
+        (Some(near), _) => write!(f, "unknown key \"{key}\"; did you mean {near}?"),
+        (None, Some(example)) => write!(f, "unknown key \"{key}\"; write {example}"),
+        (None, None) => write!(f, "unknown key \"{key}\""),
+    }
+}
+
+/// Prints what is wanted and what is there, and what helps, where something does.
 fn write_value<W: fmt::Write>(
     f: &mut fmt::Formatter<W>,
     wanted: Wanted,
     found: &str,
-    near: Option<&str>,
+    help: Option<&Help>,
 ) -> fmt::Result {
     let wanted = match wanted {
         Wanted::Float => "number",
         _ => wanted.words(),
     };
     write!(f, "expected {wanted}, found {found}")?;
-    match near {
-        Some(near) => write!(f, "; did you mean {near}?"),
+    match help {
+        Some(help) => write!(f, "{help}"),
         None => Ok(()),
     }
 }

@@ -1,18 +1,26 @@
 //! What a document has in place of what is wanted, in words.
+use crate::consistency::wanted_present;
 use crate::fault::ValueFault;
 use crate::finding::Wrong;
 use crate::form::{Kind, ValueForm};
 use crate::held::{forms, found, member};
+use crate::help::{help_with, name_help};
 use crate::known_keys::unknown_in;
+use crate::names::{has_bits, names_of};
 use crate::problem::{Given, Problem, Wanted};
-use crate::property::{DESCRIPTION, values_in};
+use crate::property::{DESCRIPTION, PRESENT_VALUE, values_in};
+use bac_point_text::Enumeration;
 use bac_store::{DescriptionFault, DescriptionFlaw, VALUE_LIMIT};
 use bac_value::NoMemory;
+use bac_value_text::property_in;
 use std::alloc::Global;
 use toml::{Table, Value};
 
+/// An object type whose properties may have any values.
+pub(crate) const VENDORS: u16 = 128;
+
 /// How many octets of a value are shown.
-const MOST_SHOWN: usize = 60;
+pub(crate) const MOST_SHOWN: usize = 60;
 
 /// The key of a value's table that has no meaning there, where that is what is wrong. A table without a value may have limits in documents that describe objects.
 pub(crate) fn unknown_key(
@@ -49,8 +57,14 @@ struct Faulty<'a> {
 }
 
 /// Whether a value under the word of a form has this problem.
-fn has(alloc: Global, form: ValueForm, value: &Value, problem: Problem) -> bool {
-    match values_in(alloc, form, value) {
+fn has(
+    alloc: Global,
+    names: Option<Enumeration>,
+    form: ValueForm,
+    value: &Value,
+    problem: Problem,
+) -> bool {
+    match values_in(alloc, names, form, value) {
         Err(ValueFault::Wrong(wrong)) => wrong == problem,
         _ => false,
     }
@@ -59,13 +73,14 @@ fn has(alloc: Global, form: ValueForm, value: &Value, problem: Problem) -> bool 
 /// The limit in the table of a value that has a problem, with its key.
 fn limit_at_fault<'a>(
     alloc: Global,
+    names: Option<Enumeration>,
     form: ValueForm,
     table: &'a Table,
     problem: Problem,
 ) -> Option<Faulty<'a>> {
     for key in ["min", "max"] {
         match member(table, key) {
-            Some(value) if has(alloc, form, value, problem) => {
+            Some(value) if has(alloc, names, form, value, problem) => {
                 return Some(Faulty {
                     key: Some(key),
                     value,
@@ -83,14 +98,21 @@ fn limit_at_fault<'a>(
 }
 
 /// The value under the word of its kind, or the limit beside it, that has a problem; the value with that word where its kind is the problem.
-fn value_at_fault<'a>(alloc: Global, table: &'a Table, problem: Problem) -> Option<Faulty<'a>> {
+fn value_at_fault<'a>(
+    alloc: Global,
+    names: Option<Enumeration>,
+    table: &'a Table,
+    problem: Problem,
+) -> Option<Faulty<'a>> {
     let (form, value) = found(forms(), table).ok()?;
-    if matches!(problem.given, Given::Kind(_) | Given::Hex) {
+    if matches!(problem.given, Given::Kind(_) | Given::Hex)
+        || problem.wanted == Wanted::NumberedState
+    {
         let key = Some(form.word());
         return Some(Faulty { key, value });
     }
-    if !has(alloc, form, value, problem) {
-        if let Some(limit) = limit_at_fault(alloc, form, table, problem) {
+    if !has(alloc, names, form, value, problem) {
+        if let Some(limit) = limit_at_fault(alloc, names, form, table, problem) {
             return Some(limit);
         }
     }
@@ -98,7 +120,12 @@ fn value_at_fault<'a>(alloc: Global, table: &'a Table, problem: Problem) -> Opti
 }
 
 /// The value of a table that a problem is about: that under the word of its kind, a limit, or the flag.
-fn inner<'a>(alloc: Global, table: &'a Table, problem: Problem) -> Option<Faulty<'a>> {
+fn inner<'a>(
+    alloc: Global,
+    names: Option<Enumeration>,
+    table: &'a Table,
+    problem: Problem,
+) -> Option<Faulty<'a>> {
     match problem.wanted {
         Wanted::Mark => {
             let value = table.get("writable")?;
@@ -106,14 +133,19 @@ fn inner<'a>(alloc: Global, table: &'a Table, problem: Problem) -> Option<Faulty
         }
         Wanted::Value | Wanted::OneValue | Wanted::LimitedValue | Wanted::Limits => None,
         Wanted::Identifier | Wanted::ObjectType | Wanted::AnyInstance => None,
-        _ => value_at_fault(alloc, table, problem),
+        _ => value_at_fault(alloc, names, table, problem),
     }
 }
 
 /// The value that a problem is about: one in a table, or the value itself.
-fn at_fault<'a>(alloc: Global, value: &'a Value, problem: Problem) -> Faulty<'a> {
+fn at_fault<'a>(
+    alloc: Global,
+    names: Option<Enumeration>,
+    value: &'a Value,
+    problem: Problem,
+) -> Faulty<'a> {
     let inner = match value {
-        Value::Table(table) => inner(alloc, table, problem),
+        Value::Table(table) => inner(alloc, names, table, problem),
         _ => None,
     };
     inner.unwrap_or(Faulty { key: None, value })
@@ -156,12 +188,100 @@ fn too_many(value: Option<&Value>, wanted: Wanted) -> Option<usize> {
     }
 }
 
+/// A value of a key that has a problem, in an object of this type, where that is known.
+#[derive(Clone, Copy)]
+pub(crate) struct Faulted<'a> {
+    pub(crate) kind: Option<u16>,
+    pub(crate) key: &'a str,
+    pub(crate) value: Option<&'a Value>,
+    pub(crate) problem: Problem,
+}
+
+impl<'a> Faulted<'a> {
+    /// The number of the property. None for all other keys.
+    fn property(self) -> Option<u32> {
+        property_in(self.key.as_bytes())
+    }
+
+    /// The names of the numbers of the property. Where the type of the object is not known, those that any object has.
+    pub(crate) fn names(self) -> Option<Enumeration> {
+        names_of(self.kind.unwrap_or(VENDORS), self.property()?)
+    }
+
+    /// Whether the property has bits that the standard names.
+    pub(crate) fn has_bits(self) -> bool {
+        self.property().is_some_and(has_bits)
+    }
+
+    /// What the present-value of the object has to be, if that is the property.
+    pub(crate) fn wanted_present(self) -> Option<Wanted> {
+        if self.property() == Some(PRESENT_VALUE) {
+            wanted_present(self.kind?)
+        } else {
+            None
+        }
+    }
+
+    /// The value that the problem is about, and its key where only that tells what is wrong: one in the table, or the value itself.
+    fn at_fault(self, alloc: Global, value: &'a Value) -> Faulty<'a> {
+        match self.key {
+            "type" | "instance" | "name" => Faulty { key: None, value },
+            _ => at_fault(alloc, self.names(), value, self.problem),
+        }
+    }
+
+    /// The value that the problem is about: one in the table, or the value itself.
+    pub(crate) fn faulty(self, alloc: Global, value: &'a Value) -> &'a Value {
+        self.at_fault(alloc, value).value
+    }
+}
+
+/// The first text in a value, or in a list, that is none of the names.
+fn unknown_text(names: Enumeration, value: &Value) -> Option<&Value> {
+    match value {
+        Value::String(_) => Some(value),
+        Value::Array(list) => list.iter().find(|item| match *item {
+            Value::String(text) => names.number_of(text.as_bytes()).is_none(),
+            _ => false,
+        }),
+        _ => None,
+    }
+}
+
+/// The text that is none of the names which its property has, where that is the problem.
+fn unknown_name(alloc: Global, faulted: Faulted<'_>) -> Result<Option<Wrong>, NoMemory> {
+    let (Some(value), Some(names)) = (faulted.value, faulted.names()) else {
+        return Ok(None);
+    };
+    if faulted.problem.wanted != Wanted::Name {
+        return Ok(None);
+    }
+    let Some(value) = unknown_text(names, faulted.faulty(alloc, value)) else {
+        return Ok(None);
+    };
+    let help = name_help(alloc, names, value.as_str().unwrap_or(""))?;
+    let name = shown(alloc, value)?;
+    Ok(Some(Wrong::UnknownName { name, help }))
+}
+
+/// What is wrong with a value, with what helps.
+pub(crate) fn wrong_value(alloc: Global, faulted: Faulted<'_>) -> Result<Wrong, NoMemory> {
+    if let Some(wrong) = unknown_name(alloc, faulted)? {
+        return Ok(wrong);
+    }
+    let help = help_with(alloc, faulted)?;
+    let found = found_words(alloc, faulted)?;
+    let wanted = faulted.problem.wanted;
+    Ok(Wrong::Value {
+        wanted,
+        found,
+        help,
+    })
+}
+
 /// What is given in place of what is wanted: the value as TOML writes it, or words where there is none or it does not tell.
-pub(crate) fn found_words(
-    alloc: Global,
-    value: Option<&Value>,
-    problem: Problem,
-) -> Result<String, NoMemory> {
+pub(crate) fn found_words(alloc: Global, faulted: Faulted<'_>) -> Result<String, NoMemory> {
+    let Faulted { value, problem, .. } = faulted;
     if let Some(count) = too_many(value, problem.wanted) {
         return Ok(format!(in alloc; "{count}")?);
     }
@@ -169,7 +289,7 @@ pub(crate) fn found_words(
         Given::Nothing => "nothing",
         Given::Again => "a duplicate",
         _ => match value {
-            Some(value) => return at_fault(alloc, value, problem).shown(alloc),
+            Some(value) => return faulted.at_fault(alloc, value).shown(alloc),
             None => "something else",
         },
     };
@@ -247,7 +367,7 @@ fn wrong_values(
     let Ok((form, value)) = found(forms(), table) else {
         return Ok(None);
     };
-    let is_long = match values_in(alloc, form, value) {
+    let is_long = match values_in(alloc, names_of(kind, number), form, value) {
         Ok(values) => values.octets.len() > VALUE_LIMIT,
         Err(ValueFault::Wrong(_)) => return Ok(None),
         Err(ValueFault::NoMemory) => return Err(NoMemory),
@@ -262,7 +382,7 @@ fn wrong_values(
     Ok(Some(Wrong::Value {
         wanted,
         found,
-        near: None,
+        help: None,
     }))
 }
 

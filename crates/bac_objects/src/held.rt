@@ -4,12 +4,15 @@ ghost use Rattle.std.specs.Option.{option_map};
 ghost use Rattle.bac_value.specs.Steps.{ReadsAll};
 ghost use Rattle.toml.specs.Data.{get_member};
 ghost use Rattle.toml.specs.View.{view, table_view};
-ghost use Rattle.bac_objects.specs.Held.{FILE_FORMS as FILE_ROWS, FORMS as ROWS, alone as alone_of, count as count_of, found_in as found_of, held_by as held_of, held_in, mark_of, object_table as object_table_of, or_nothing, plain, the_mark};
+ghost use Rattle.bac_objects.specs.Held.{FILE_FORMS as FILE_ROWS, FORMS as ROWS, alone as alone_of, count as count_of, found_in as found_of, held_by as held_of, held_in, held_named, mark_of, object_table as object_table_of, or_nothing, plain, the_mark};
 ghost use Rattle.bac_objects.specs.Views.{held_view};
+ghost use Rattle.bac_point_text.specs.Views.{maybe_names};
 
-use crate::form::{FILE_FORMS, FORMS, ValueForm};
+use crate::form::{FILE_FORMS, FORMS, Kind, ValueForm};
+use crate::names::is_bare;
 use crate::problem::{Given, Problem, Wanted};
 use crate::scalars::{boolean, table};
+use bac_point_text::Enumeration;
 use toml::{Table, Value};
 
 /// A value and the form that its word stands for.
@@ -133,10 +136,17 @@ fn file_forms() -> &'static [(&'static str, ValueForm)]
     FILE_FORMS
 }
 
-/// The value in the table of a property.
-pub(crate) fn held_values(value: &Value) -> Result<Held<'_>, Problem>
-    ensures { ReadsAll held_view result (held_in ROWS (view value.now)) }
+/// The value in the table of a property; `names` are those of its numbers.
+pub(crate) fn held_values(names: Option<Enumeration>, value: &Value) -> Result<Held<'_>, Problem>
+    ensures { ReadsAll held_view result (held_named (maybe_names names) (view value.now)) }
 {
+    if is_bare(names, value) {
+        return Ok(Held {
+            form: ValueForm::Value(Kind::Enumerated),
+            value,
+            writable: false,
+        });
+    }
     held_by(forms(), table(Wanted::Value, value)?)
 }
 

@@ -43,8 +43,19 @@ pub(crate) const DESCRIBED_KEYS: &[&str] = &[
 /// The keys of the table of a value, without the words for its kind.
 const VALUE_KEYS: &[&str] = &["writable", "min", "max", "one-of"];
 
+/// The keys of the table of a file.
+const FILE_KEYS: &[&str] = &["text", "hex", "writable"];
+
 /// How many letters may be missing, wrong or swapped in a key that is like another one.
 const MOST_EDITS: usize = 2;
+
+/// Of so many octets one letter may.
+const OCTETS_PER_EDIT: usize = 3;
+
+/// How many letters may be missing, wrong or swapped in this key: one in a short key.
+fn most_edits(key: &str) -> usize {
+    (key.len() / OCTETS_PER_EDIT).clamp(1, MOST_EDITS)
+}
 
 /// How like a known key is, where it is like enough: how many edits lead there.
 fn edits_to(alloc: Global, key: &str, known: &'static str) -> Result<Option<usize>, AllocError> {
@@ -53,7 +64,7 @@ fn edits_to(alloc: Global, key: &str, known: &'static str) -> Result<Option<usiz
         return Ok(None);
     }
     let edits = strsim::osa_distance(alloc, key, known)?;
-    if edits <= MOST_EDITS && edits < known.len() {
+    if edits <= most_edits(key) && edits < known.len() {
         Ok(Some(edits))
     } else {
         Ok(None)
@@ -111,6 +122,26 @@ pub(crate) fn nearest_of_value(
         words.push(row.0)?;
     }
     nearest(alloc, key, &words)
+}
+
+/// The same of the table of a file.
+pub(crate) fn nearest_of_file(
+    alloc: Global,
+    key: &str,
+) -> Result<Option<&'static str>, AllocError> {
+    match usual_form(key) {
+        Some("text") => Ok(Some("text")),
+        _ => nearest(alloc, key, FILE_KEYS),
+    }
+}
+
+/// What to write in place of a table that has no value: that of a file, or of a property.
+pub(crate) fn value_example(key: &str) -> &'static str {
+    if key == "file" {
+        "{ text = \"OK\" }"
+    } else {
+        "{ real = 21.5 }"
+    }
 }
 
 /// Whether a key is the word for a kind of values.

@@ -3,6 +3,7 @@
 
 mod bits;
 mod collecting;
+mod consistency;
 mod described;
 mod described_property;
 mod document;
@@ -12,9 +13,11 @@ mod form;
 mod found;
 mod given;
 mod held;
+mod help;
 mod identifier;
 mod known_keys;
 mod mended;
+mod names;
 mod object;
 mod outline;
 mod packing;
@@ -32,5 +35,6 @@ pub use document::{read_object_list, read_objects};
 pub use fault::{DocumentFault, Place, Refusal};
 pub use finding::{Finding, Wrong};
 pub use form::{Kind, ValueForm};
+pub use help::Help;
 pub use problem::{Given, Problem, Wanted};
 pub use steps::{DocumentSteps, ReadDocument};

@@ -31,6 +31,8 @@ pub enum Wanted {
     Text,
     /// A text whose encoding has at most 4,096 octets.
     ShortName,
+    /// A name of at least one character.
+    FilledName,
     /// A property that can be listed: description, present-value, or a proprietary one by its number from 512 to 4,194,303.
     Property,
     /// Any property, by its name or its number.
@@ -63,6 +65,8 @@ pub enum Wanted {
     Single,
     /// An integer from 0 to 4,294,967,295.
     Enumerated,
+    /// A name that the standard gives such a number.
+    Name,
     /// A text of digits 0 and 1.
     Bits,
     /// A text of octets in hexadecimal.
@@ -81,6 +85,8 @@ pub enum Wanted {
     State,
     /// An Unsigned from 1 on, for the present-value of a multi-state object.
     MultiState,
+    /// An Unsigned that is at most the number-of-states of its object.
+    NumberedState,
     /// Values whose encoding has at most 4,096 octets.
     ShortValue,
     /// The octets of a file.
@@ -137,6 +143,7 @@ impl Wanted {
             Wanted::OwnIdentifier => "unique type and instance",
             Wanted::Text => "text",
             Wanted::ShortName => "at most 4091 octets",
+            Wanted::FilledName => "at least one character",
             Wanted::Property => "description, present-value or 512 to 4194303",
             Wanted::AnyProperty => "property or 0 to 4194303",
             Wanted::OwnProperty => "each property once",
@@ -154,6 +161,7 @@ impl Wanted {
             Wanted::Float => "number with a decimal point",
             Wanted::Single => "number that fits in 32 bits",
             Wanted::Enumerated => "0 to 4294967295",
+            Wanted::Name => "name in the standard",
             Wanted::Bits => "text of digits 0 and 1",
             Wanted::Hex => "octets in hexadecimal",
             Wanted::Spelling => "encoded values in hexadecimal",
@@ -163,6 +171,7 @@ impl Wanted {
             Wanted::Kind(kind) => kind.word(),
             Wanted::State => "enumerated 0 or 1",
             Wanted::MultiState => "unsigned of at least 1",
+            Wanted::NumberedState => "1 to number-of-states",
             Wanted::ShortValue => "at most 4096 octets",
             Wanted::File => "octets of the file",
             Wanted::ShortFile => "at most 60000 octets",

@@ -8,6 +8,7 @@ ghost use Rattle.bac_store.specs.Limits.{FILE_LIMIT as FILE_MOST, VALUE_LIMIT as
 ghost use Rattle.bac_store.specs.Objects.{are_right_values as are_right, is_right_number, is_right_property};
 ghost use Rattle.bac_store.specs.Views.{file_view, property_view};
 ghost use Rattle.toml.specs.View.{view};
+ghost use Rattle.bac_point_text.specs.Views.{maybe_names};
 ghost use Rattle.bac_objects.specs.Answers.{Reads};
 ghost use Rattle.bac_objects.specs.Properties.{content_of, file_of, given_as as given_by, has_number as has_number_in};
 ghost use Rattle.bac_objects.specs.Properties.{own_property as own_property_of, property_number as number_of, property_of, right_at as right_of, spelling_of};
@@ -16,9 +17,11 @@ ghost use Rattle.bac_objects.specs.Properties.{wanted_at as wanted_by, whole_dat
 use crate::fault::ValueFault;
 use crate::form::{Kind, ValueForm};
 use crate::held::{held_file, held_values};
+use crate::names::names_of;
 use crate::problem::{Given, Problem, Wanted};
 use crate::scalars::text;
 use crate::values::{hex_octets, value_in};
+use bac_point_text::Enumeration;
 use bac_store::{Allowed, FILE_LIMIT, File, Property, VALUE_LIMIT, are_right_values};
 use bac_value::{DataBuf, NoMemory, take_data, write_value};
 use std::alloc::Global;
@@ -28,7 +31,7 @@ use toml::Value;
 pub(crate) const DESCRIPTION: u32 = 28;
 
 /// The property present-value.
-const PRESENT_VALUE: u32 = 85;
+pub(crate) const PRESENT_VALUE: u32 = 85;
 
 /// The first proprietary property (clause 23.1).
 const FIRST_VENDOR_PROPERTY: u32 = 512;
@@ -77,17 +80,18 @@ pub(crate) fn data_in(octets: Vec<u8>) -> Result<DataBuf, Problem>
     }
 }
 
-/// Reads the values in a form.
+/// Reads the values in a form; `names` are those of their numbers.
 pub(crate) fn values_in(
     alloc: Global,
+    names: Option<Enumeration>,
     form: ValueForm,
     value: &Value,
 ) -> Result<DataBuf, ValueFault>
-    ensures { Reads (λ d. d.octets.items) result (spelling_of form (view value.now)) }
+    ensures { Reads (λ d. d.octets.items) result (spelling_of (maybe_names names) form (view value.now)) }
 {
     match form {
         ValueForm::Value(kind) => {
-            let value = value_in(alloc, kind, value)?;
+            let value = value_in(alloc, names, kind, value)?;
             Ok(spelled(alloc, &value)?)
         }
         ValueForm::Hex => {
@@ -110,7 +114,7 @@ fn wanted_at(kind: u16, number: u32) -> Wanted
     }
 }
 
-fn given_as(form: ValueForm) -> Given
+pub(crate) fn given_as(form: ValueForm) -> Given
     ensures { result ≡ given_by form }
 {
     match form {
@@ -147,8 +151,9 @@ fn property_in(alloc: Global, kind: u16, key: &str, value: &Value) -> Result<Pro
     ensures right { IfOk result (λ p. IsTrue (is_right_property kind (property_view p))) }
 {
     let number = listed_number(key)?;
-    let held = held_values(value)?;
-    let values = values_in(alloc, held.form, held.value)?;
+    let names = names_of(kind, number);
+    let held = held_values(names, value)?;
+    let values = values_in(alloc, names, held.form, held.value)?;
     let values = right_at(kind, number, held.form, values)?;
     Ok(Property {
         number,

@@ -1,10 +1,10 @@
 //! Why the objects that a document describes are together no store: all reasons, as far as the objects can be read.
-use crate::described::DESCRIBED_LIMIT;
+use crate::described::{DESCRIBED_LIMIT, filled_name};
 use crate::described_property::described_property;
 use crate::fault::ValueFault;
 use crate::held::object_table;
 use crate::identifier::{the_instance, the_type};
-use crate::object::{file_of, is_reserved, name_in};
+use crate::object::{file_of, is_reserved};
 use crate::problem::Wanted;
 use bac_store::{DescriptionFault, DescriptionFlaw, File, Object, Property, Store};
 use bac_value::{NoMemory, ObjectIdentifier};
@@ -39,7 +39,7 @@ fn right_properties(alloc: Global, kind: u16, table: &Table) -> Result<Vec<Prope
         if is_reserved(kind, key) {
             continue;
         }
-        if let Some(property) = right(described_property(alloc, key, value))? {
+        if let Some(property) = right(described_property(alloc, kind, key, value))? {
             properties.push(property)?;
         }
     }
@@ -65,7 +65,7 @@ fn right_object(alloc: Global, value: &Value) -> Result<Option<Object>, NoMemory
     let Some(id) = right_id(table) else {
         return Ok(None);
     };
-    let Some(name) = right(name_in(alloc, table))? else {
+    let Some(name) = right(filled_name(alloc, table))? else {
         return Ok(None);
     };
     let file = right_file(alloc, id.kind, table)?;

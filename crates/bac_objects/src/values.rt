@@ -3,8 +3,10 @@ ghost use Rattle.std.specs.Prelude.{◌≡◌};
 ghost use Rattle.bac_value.specs.Steps.{ReadsAll};
 ghost use Rattle.bac_value.specs.Views.{value_view};
 ghost use Rattle.toml.specs.View.{view};
+ghost use Rattle.bac_point_text.specs.Enumerations.{number_of as number_named};
+ghost use Rattle.bac_point_text.specs.Views.{maybe_names, names_view};
 ghost use Rattle.bac_objects.specs.Answers.{Reads};
-ghost use Rattle.bac_objects.specs.Values.{characters_of, date_alone, date_in as date_of_parts, date_of, double_of, enumerated_of, hex_of, null_of};
+ghost use Rattle.bac_objects.specs.Values.{characters_of, date_alone, date_in as date_of_parts, date_of, double_of, enumerated_of, hex_of, null_of, numbered_of, or_unknown};
 ghost use Rattle.bac_objects.specs.Values.{object_of, octets_of, real_of, signed_of, time_alone, time_in as time_of_parts, time_of, truth_of, unsigned_of, value_of};
 
 use crate::bits::bits;
@@ -13,6 +15,7 @@ use crate::form::Kind;
 use crate::identifier::identifier_in;
 use crate::problem::{Given, Problem, Wanted};
 use crate::scalars::{boolean, datetime, integer, number, number_up_to, text};
+use bac_point_text::Enumeration;
 use bac_value::{CharacterString, OctetString, Value};
 use hex::FromHexError;
 use std::alloc::Global;
@@ -63,11 +66,30 @@ fn signed(value: &toml::Value) -> Result<Value, Problem>
     Ok(Value::Signed(integer(Wanted::Integer, value)?))
 }
 
-fn enumerated(value: &toml::Value) -> Result<Value, Problem>
-    ensures { ReadsAll value_view result (enumerated_of (view value.now)) }
+fn numbered(value: &toml::Value) -> Result<Value, Problem>
+    ensures { ReadsAll value_view result (numbered_of (view value.now)) }
 {
     let number = number_up_to((1 << 32) - 1, Wanted::Enumerated, value)?;
     Ok(Value::Enumerated(number as u32))
+}
+
+fn named(names: Enumeration, name: &str) -> Result<Value, Problem>
+    ensures { ReadsAll value_view result (or_unknown (number_named (names_view names) name.now)) }
+{
+    match names.number_of(name.as_bytes()) {
+        Some(number) => Ok(Value::Enumerated(number)),
+        None => Err(other(Wanted::Name)),
+    }
+}
+
+/// A number, or where the standard has names for it the name of one.
+fn enumerated(names: Option<Enumeration>, value: &toml::Value) -> Result<Value, Problem>
+    ensures { ReadsAll value_view result (enumerated_of (maybe_names names) (view value.now)) }
+{
+    match (names, value.as_str()) {
+        (Some(names), Some(name)) => named(names, name),
+        _ => numbered(value),
+    }
 }
 
 /// The float of 32 bits that is nearest to TOML's number as one of 64 bits, with one pattern for all NaN. A finite number must not become infinite.
@@ -172,9 +194,14 @@ fn object(value: &toml::Value) -> Result<Value, Problem>
     Ok(Value::ObjectIdentifier(identifier_in(value)?))
 }
 
-/// Reads a value of a kind.
-pub(crate) fn value_in(alloc: Global, kind: Kind, value: &toml::Value) -> Result<Value, ValueFault>
-    ensures { Reads value_view result (value_of kind (view value.now)) }
+/// Reads a value of a kind; `names` are those of its numbers.
+pub(crate) fn value_in(
+    alloc: Global,
+    names: Option<Enumeration>,
+    kind: Kind,
+    value: &toml::Value,
+) -> Result<Value, ValueFault>
+    ensures { Reads value_view result (value_of (maybe_names names) kind (view value.now)) }
 {
     match kind {
         Kind::Null => Ok(null(value)?),
@@ -186,7 +213,7 @@ pub(crate) fn value_in(alloc: Global, kind: Kind, value: &toml::Value) -> Result
         Kind::Octets => octets(alloc, value),
         Kind::Text => characters(alloc, value),
         Kind::Bits => bits(alloc, value),
-        Kind::Enumerated => Ok(enumerated(value)?),
+        Kind::Enumerated => Ok(enumerated(names, value)?),
         Kind::Date => Ok(date(value)?),
         Kind::Time => Ok(time(value)?),
         Kind::Object => Ok(object(value)?),

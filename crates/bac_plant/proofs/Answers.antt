@@ -14,7 +14,8 @@ use Rattle.bac_world.specs.World.{Event, IsBounded, IsFresh, World, stores_of}
 use Rattle.bac_world.proofs.AsEver.{once_as}
 use Rattle.bac_world.proofs.Headline.{headline_long_so, headline_so}
 use Rattle.bac_plant.specs.Answers.{AnswersAreReplies, WasReply}
-use Rattle.bac_plant.proofs.AnswersLogs.{replayed, right_before, same_ask}
+use Rattle.bac_world.proofs.Claims.{replayed_so}
+use Rattle.bac_plant.proofs.AnswersLogs.{right_before, same_ask}
 
 -- a fact of the log stands somewhere in it
 pub place_of : (f : Fact) (log : List Fact) → Has f log → (newer : List Fact) × (older : List Fact) × (log ≡ newer ++ f ∷ older)
@@ -53,7 +54,7 @@ module _ (u : Reuses) (opening : Stores) where
         asked = k.1.asked;
         only = λ c s q other. whole_ask n c s k.1.client k.1.server q r (same_ask u opening n c s k.1.client k.1.server q r log stores h other asked);
         store = k.1.store;
-        at = sym (replayed u opening at.1 k.0 k.2 k.1.server) ∙ k.1.at;
+        at = sym (replayed_so u opening at.1 k.0 k.2 k.1.server) ∙ k.1.at;
         reply = k.1.reply;
       }
 
@@ -74,7 +75,7 @@ module _ (W overtake : ℕ) (u : Reuses) (w w' : World) (fresh : IsFresh w) (tim
   in_runs = in_logs u (stores_of w.nodes) w'.log (stores_of w'.nodes) once
 
   pub stores_in_runs : AreReplayed (stores_of w.nodes) w'.log (stores_of w'.nodes)
-  stores_in_runs = replayed u (stores_of w.nodes) w'.log (stores_of w'.nodes) once
+  stores_in_runs = replayed_so u (stores_of w.nodes) w'.log (stores_of w'.nodes) once
 
 -- the same where all nodes take APDUs of 480 octets or more
 module _ (W overtake : ℕ) (u : Reuses) (w w' : World) (fresh : IsFresh w) (timely : IsTimely w.time.pace) (long : TakeLongApdus W w)
@@ -86,4 +87,4 @@ module _ (W overtake : ℕ) (u : Reuses) (w w' : World) (fresh : IsFresh w) (tim
   in_long_runs = in_logs u (stores_of w.nodes) w'.log (stores_of w'.nodes) once_long
 
   pub stores_in_long_runs : AreReplayed (stores_of w.nodes) w'.log (stores_of w'.nodes)
-  stores_in_long_runs = replayed u (stores_of w.nodes) w'.log (stores_of w'.nodes) once_long
+  stores_in_long_runs = replayed_so u (stores_of w.nodes) w'.log (stores_of w'.nodes) once_long

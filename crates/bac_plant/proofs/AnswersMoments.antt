@@ -25,7 +25,8 @@ use Rattle.bac_world.proofs.Steps.{acts_as}
 use Rattle.bac_plant.specs.Answers.{WasReply}
 use Rattle.bac_plant.specs.Moments.{AnswersAreOfMoments, WasReplyAtMoment}
 use Rattle.bac_plant.proofs.Answers.{has_more, in_logs, place_of, right_at, whole_ask}
-use Rattle.bac_plant.proofs.AnswersLogs.{replayed, same_ask}
+use Rattle.bac_world.proofs.Claims.{replayed_so}
+use Rattle.bac_plant.proofs.AnswersLogs.{same_ask}
 
 -- What endings leave as it was.
 
@@ -268,7 +269,7 @@ module _ (overtake : ℕ) (u : Reuses) (w w' : World) (fresh : IsFresh w) (event
 
     node_there : (a : Node) × (slice_get entered.moment.nodes given.server ≡ Some a) × (given.store ≡ a.store)
     node_there = node_of (slice_get entered.moment.nodes given.server) given.store
-        (replayed u opening entered.moment.log (stores_of entered.moment.nodes)
+        (replayed_so u opening entered.moment.log (stores_of entered.moment.nodes)
         (right entered.earlier entered.later entered.moment entered.are entered.led entered.leads) given.server
         ∙ sym (stores_there before.notes before.node opening given.server before.ends entered.moment.log given.earlier before.ended)
         ∙ given.at)

@@ -22,6 +22,9 @@ pub mod Holding
 pub mod Resting
 pub mod Answered
 pub mod Pauses
+pub mod Clients
+pub mod ClientsComputed
+pub mod ClientAsks
 pub mod Answers
 pub mod AnswersComputed
 pub mod AnswersLogs

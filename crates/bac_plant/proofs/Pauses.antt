@@ -70,7 +70,7 @@ module _ (i : ℕ) where
   until_is old new lives is same = at_most _ _ (ap (λ (l : ℕ → Life). (l i).sends_until) is ∙ same)
 
   -- a step in which it does not ask
-  asks_not : (overtake : ℕ) (old : Plant) (step : Step) (new : Plant) → PlantStep overtake old step new → asks i step ≡ false
+  pub asks_not : (overtake : ℕ) (old : Plant) (step : Step) (new : Plant) → PlantStep overtake old step new → asks i step ≡ false
       → (new.lives i).sends_until ≤ (old.lives i).sends_until
   asks_not overtake old (Passes by own) new s e = until_is old new old.lives (ap (λ (p : Plant). p.lives) s) refl
   asks_not overtake old (Takes j source turn) new s e =
@@ -99,7 +99,7 @@ module _ (i : ℕ) where
       omega (arith, first, last)
 
   -- a start with other settings
-  starts_not : (old : Plant) (anew : Anew) (new : Plant) → HappensAnew old anew new → (new.lives i).sends_until ≤ (old.lives i).sends_until
+  pub starts_not : (old : Plant) (anew : Anew) (new : Plant) → HappensAnew old anew new → (new.lives i).sends_until ≤ (old.lives i).sends_until
   starts_not old (RestartsSo j exact store settings reuses) new s =
       let is : (new.lives i).sends_until ≡ (with_restart old.time old.lives j i).sends_until = ap (λ (p : Plant). (p.lives i).sends_until) s.is in
       let less = restarted old.time old.lives j i in
@@ -120,14 +120,14 @@ module _ (i : ℕ) where
       omega (arith, first, last)
 
 -- real time goes on, and its pace stays
-record GoesOn (old new : Plant) : Type 0 where
-  pace : new.time.pace ≡ old.time.pace
-  on : old.time.now ≤ new.time.now
+pub record GoesOn (old new : Plant) : Type 0 where
+  pub pace : new.time.pace ≡ old.time.pace
+  pub on : old.time.now ≤ new.time.now
 
-same_time : (old new : Plant) → new.time ≡ old.time → GoesOn old new
+pub same_time : (old new : Plant) → new.time ≡ old.time → GoesOn old new
 same_time old new e = record { pace = ap (λ (t : Time). t.pace) e; on = at_most _ _ (sym (ap (λ (t : Time). t.now) e)) }
 
-step_on : (overtake : ℕ) (old : Plant) (step : Step) (new : Plant) → PlantStep overtake old step new → GoesOn old new
+pub step_on : (overtake : ℕ) (old : Plant) (step : Step) (new : Plant) → PlantStep overtake old step new → GoesOn old new
 step_on overtake old (Passes by own) new s =
     record {
       pace = ap (λ (p : Plant). p.time.pace) s;
@@ -147,15 +147,15 @@ step_on overtake old (StartsAgain j exact first_id store) new s =
 step_on overtake old (Holds j source turn) new s = same_time old new (ap (λ (p : Plant). p.time) s.happens.is)
 step_on overtake old (SendsHeld j turns) new s = same_time old new (ap (λ (p : Plant). p.time) s.is)
 
-then_on : (old middle new : Plant) → GoesOn old middle → GoesOn middle new → GoesOn old new
+pub then_on : (old middle new : Plant) → GoesOn old middle → GoesOn middle new → GoesOn old new
 then_on old middle new first last = record { pace = last.pace ∙ first.pace; on = let a = first.on in let b = last.on in omega (arith, a, b) }
 
-run_on : (overtake : ℕ) (steps : List Step) (old new : Plant) → PlantRun overtake steps old new → GoesOn old new
+pub run_on : (overtake : ℕ) (steps : List Step) (old new : Plant) → PlantRun overtake steps old new → GoesOn old new
 run_on overtake [] old new run = same_time old new (ap (λ (p : Plant). p.time) run)
 run_on overtake (step ∷ before) old new run =
     then_on old run.middle new (run_on overtake before old run.middle run.so_far) (step_on overtake run.middle step new run.last)
 
-starts_on : (old : Plant) (anew : Anew) (new : Plant) → HappensAnew old anew new → GoesOn old new
+pub starts_on : (old : Plant) (anew : Anew) (new : Plant) → HappensAnew old anew new → GoesOn old new
 starts_on old (RestartsSo j exact store settings reuses) new s =
     record { pace = ap (λ (p : Plant). p.time.pace) s.is; on = at_most _ _ (sym (ap (λ (p : Plant). p.time.now) s.is)) }
 starts_on old (StartsAgainSo j exact first_id store settings reuses) new s =

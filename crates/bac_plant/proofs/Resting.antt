@@ -170,7 +170,7 @@ turn_by_none now = record { at = now; received = None; heard = None; ticked = So
 abbrev pub after_none : ℕ → BoundNode → BoundNode
 after_none now b = record b { node = ticked now b.node; calls = with_calls (with_call b.calls (received 0 b.buffer (Ok None))) [] }
 
-takes_none : (now : ℕ) (b : BoundNode) → b.rules.memory ≡ None → (due : Option ℕ) → IsDue b.node due → IsCalm now b.node → IsSomeTurn now b (turn_by_none now) (after_none now b)
+pub takes_none : (now : ℕ) (b : BoundNode) → b.rules.memory ≡ None → (due : Option ℕ) → IsDue b.node due → IsCalm now b.node → IsSomeTurn now b (turn_by_none now) (after_none now b)
 takes_none now b free due is calm = record {
   limit = AT_ONCE;
   began = now;

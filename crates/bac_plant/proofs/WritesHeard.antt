@@ -1,5 +1,5 @@
 -- The write of a stranger that is performed.
-use Rattle.std.proofs.Common.{◌≡◌, ◌≢◌, ℕ, zero, suc, true, [], ◌∷◌, Some, None, IsTrue, slice_get, refl, sym, ap, subst, inr, arith}
+use Rattle.std.proofs.Common.{◌≡◌, true, [], ◌∷◌, Some, None, IsTrue, refl, sym, ap, subst, inr, arith}
 use Rattle.bac_value.specs.Data.{Forest as forest, IsWithin, spelling}
 use Rattle.bac_value.specs.Number.{unsigned_octets}
 use Rattle.bac_value.specs.Spelling.{tag_spelling}
@@ -26,8 +26,8 @@ use Rattle.bac_world.specs.Once.{Fact as fact}
 use Rattle.bac_world.specs.ReusingExamples.{WRITE}
 use Rattle.bac_world.specs.ReusingWorlds.{HearsSo}
 use Rattle.bac_world.specs.Services.{Performed}
-use Rattle.bac_world.specs.World.{World, link_at, peer_at, with_act}
-use Rattle.bac_world.proofs.Answered.{answered_run, datagram, means, sent}
+use Rattle.bac_world.specs.World.{World, peer_at, with_act}
+use Rattle.bac_world.proofs.Answered.{answered_run, datagram, means, no_node, not_own, others_second, sent}
 use Rattle.bac_plant.specs.WritesExamples.{SERVICE_DATA, STRANGER, WriteOfStranger}
 
 spelled : SpellsRequest WRITE_PROPERTY WRITE SERVICE_DATA
@@ -60,19 +60,6 @@ ask_short = omega arith
 answer_short : IsShort ANSWER
 unfolding apdu_spelling
 answer_short = omega arith
-
-no_node : (j : ℕ) → link_at OPENING.nodes j ≡ Some (link 2) → ⊥
-no_node zero e = let is : link 0 ≡ link 2 = cc in cc
-no_node (suc zero) e = let is : link 1 ≡ link 2 = cc in cc
-no_node (suc (suc j)) e = absurd cc
-
-others : (a b : Node) (j : ℕ) → j ≢ 1 → slice_get (node 0 ∷ a ∷ []) j ≡ slice_get (node 0 ∷ b ∷ []) j
-others a b zero ne = refl
-others a b (suc zero) ne = absurd (ne refl)
-others a b (suc (suc j)) ne = refl
-
-not_own : link 2 ≢ link 1
-not_own e = cc
 
 abbrev CONTEXT : Context
 CONTEXT = context_of SETTINGS 0 STRANGER
@@ -135,7 +122,7 @@ hears = record {
     }),
   );
   acts = record {
-    nodes = record { here = refl; others = others AFTER (node 1) };
+    nodes = record { here = refl; others = others_second AFTER (node 1) (node 0) };
     time = refl;
     lives = refl;
     notes = refl;

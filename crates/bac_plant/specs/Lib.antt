@@ -23,3 +23,5 @@ pub mod LongApdus
 pub mod LongStretches
 pub mod Runs
 pub mod CutRuns
+pub mod Clients
+pub mod ClientsExample

@@ -1,12 +1,15 @@
 -- What stations do one after another in a plant where some may start again with other settings.
-use Rattle.std.specs.Prelude.{◌≡◌, ℕ, List, [], ◌∷◌}
+use Rattle.std.specs.Prelude.{◌≡◌, ℕ, Bool, List, [], ◌∷◌}
 use Rattle.bac_protocol.specs.Pace.{IsTimely}
+use Rattle.bac_transaction.specs.Views.{rules_view}
+use Rattle.bac_node.specs.Serving.{is_reusing}
 use Rattle.bac_world.specs.ReusingLogs.{Reuses}
-use Rattle.bac_world.specs.Stretches.{AreOf}
+use Rattle.bac_world.specs.Stretches.{AreOf, with_settings}
 use Rattle.bac_world.specs.World.{IsBounded, IsFresh}
+use Rattle.bac_driver.specs.BoundNodes.{BoundNode}
 use Rattle.bac_plant.specs.Anew.{Anew, ArePermitted, HappensAnew, IsPermitted, PlantRunIn, Stretch}
 use Rattle.bac_plant.specs.Anew.Anew.{RestartsSo, StartsAgainSo}
-use Rattle.bac_plant.specs.Composed.{IsCalled, IsLeft, IsThere}
+use Rattle.bac_plant.specs.Composed.{IsAsCalled, IsCalled, IsLeft, IsStarted, StandsAt, again, back}
 use Rattle.bac_plant.specs.Plants.{Plant, settings_of, world_of}
 use Rattle.bac_plant.specs.Steps.{PlantRun, PlantStep, Step}
 
@@ -60,17 +63,30 @@ MovesGoOn =
 
 -- ---- calls
 
+-- a station that starts with other settings lets clients use an invoke ID again, or not
+abbrev pub AreRulesOf : (reuses : Bool) → (before after : BoundNode) → Type 0
+AreRulesOf reuses before after = is_reusing (rules_view after.rules) ≡ reuses
+
 -- the call that a move stands for was made in that plant. A station that is there may restart, and another program may start once all is over that its client
 -- sent.
 abbrev pub IsCalledIn : (overtake : ℕ) → Plant → Move → Type 0
 IsCalledIn overtake p (Goes step) = IsCalled overtake p step
-IsCalledIn overtake p (StartsAnew (RestartsSo i exact store settings reuses)) = IsThere p i
-IsCalledIn overtake p (StartsAnew (StartsAgainSo i exact first_id store settings reuses)) = IsLeft p i
+IsCalledIn overtake p (StartsAnew (RestartsSo i exact store settings reuses)) =
+    IsStarted p i (λ n. back p exact store (with_settings settings n)) (AreRulesOf reuses)
+IsCalledIn overtake p (StartsAnew (StartsAgainSo i exact first_id store settings reuses)) =
+    IsLeft p i (λ n. again p exact first_id store (with_settings settings n)) (AreRulesOf reuses)
 
--- these calls were made one after the other, each in whatever plant the ones before it led to
+-- in the next plant its station is as the call left it
+abbrev pub IsAsCalledIn : (overtake : ℕ) (p : Plant) (move : Move) → IsCalledIn overtake p move → (next : Plant) → Type 0
+IsAsCalledIn overtake p (Goes step) call next = IsAsCalled overtake p step call next
+IsAsCalledIn overtake p (StartsAnew (RestartsSo i exact store settings reuses)) call next = StandsAt next i call.after
+IsAsCalledIn overtake p (StartsAnew (StartsAgainSo i exact first_id store settings reuses)) call next = StandsAt next i call.started.after
+
+-- These calls were made one after the other. Each was made in whatever plant the ones before it led to, whose stations are as these left them.
 abbrev pub AreCalledIn : (overtake : ℕ) → List Move → Plant → Type 0
 AreCalledIn overtake [] p = Unit {0}
-AreCalledIn overtake (move ∷ later) p = IsCalledIn overtake p move × ((next : Plant) → Moves overtake p move next → AreCalledIn overtake later next)
+AreCalledIn overtake (move ∷ later) p =
+    (call : IsCalledIn overtake p move) × ((next : Plant) → Moves overtake p move next → IsAsCalledIn overtake p move call next → AreCalledIn overtake later next)
 
 -- a plant to which these moves lead from p, and to which the first plant's run leads so
 pub record IsComposedIn (W overtake : ℕ) (ever : Reuses) (first p : Plant) (moves : List Move) : Type 0 where

@@ -1,7 +1,9 @@
 //! Runs of a plant, and of worlds, that are computed.
 ghost use Rattle.bac_plant.specs.Example.{AnsweredRound, AnsweredTurns, CutRounds};
+ghost use Rattle.bac_pairs.specs.Pairs.{port_at};
 ghost use Rattle.bac_plant.specs.AnswersExamples.{AnsweredBySecond};
-ghost use Rattle.std.specs.Prelude.{true, false};
+ghost use Rattle.bac_plant.specs.ClientsExample.{ClientAsks, TwoClients};
+ghost use Rattle.std.specs.Prelude.{◌≡◌, ℕ, true, false, List};
 ghost use Rattle.bac_plant.specs.WritesExamples.{ActsFirstAlone, ActsThreeTimes, WriteOfStranger, WritesTwice};
 
 /// Two stations: one asks the other, and three turns perform and answer that.
@@ -48,4 +50,15 @@ pub fn equal_writes()
 #[tactic(auto, using(crate::proofs::WritesHeard::write_of_stranger))]
 pub fn write_of_stranger()
     ensures { WriteOfStranger }
+{}
+
+/// Two clients of a host at one port. The second one may start 135.889 seconds after the last ask of the first. None may start there 100 seconds after the first
+/// one did. That holds whatever the host's key is.
+pub fn two_clients()
+    ensures { (key : List ℕ) (port : ℕ) → port_at key 80000000 ≡ port → TwoClients key port }
+{}
+
+/// The first of them starts and asks a station. That one restarts, takes a turn, and does so again with other settings. What the laws of clients suppose is met.
+pub fn client_asks()
+    ensures { (key : List ℕ) (port : ℕ) → port_at key 80000000 ≡ port → ClientAsks key port }
 {}

@@ -4,6 +4,7 @@
 #![tactic(auto)]
 
 pub mod examples;
+mod hosts;
 pub mod other_settings;
 mod overtaking;
 mod power;
@@ -31,6 +32,7 @@ ghost use Rattle.bac_plant.specs.Steps.{PlantRun, Step};
 
 use bac_driver::Observer;
 use bac_keep::Keeper;
+pub use hosts::{boots_go_on, clients_are_right, clients_find_quiet, days_are_long};
 pub use overtaking::{
     calls_compose_with_long_apdus, calls_go_on_with_long_apdus,
     long_apdus_need_no_bound_on_overtaking, long_apdus_need_no_bound_with_other_settings,
@@ -78,8 +80,8 @@ pub fn calls_go_on()
 {}
 
 /// Calls that stations make one after another are a run, in any order of stations, with time passing, restarts and starts between them. They continue
-/// a run of a fresh plant on two conditions. Each call keeps its contract in the plant that the calls before it led to, and the network may hand over
-/// what came. So whatever holds of all runs of a plant holds of whole programs.
+/// a run of a fresh plant on two conditions. Each call keeps its contract in the plant that the calls before it led to, with the stations that these
+/// left, and the network may hand over what came. So whatever holds of all runs of a plant holds of whole programs.
 pub fn calls_compose()
     ensures { (W overtake : ℕ) (first : Plant) → IsFresh (world_of first) → IsTimely first.time.pace → IsBounded W overtake (world_of first)
         → (so_far : List Step) (p : Plant) → PlantRun overtake so_far first p → (later : List Step) → AreCalled overtake later p

@@ -10,7 +10,7 @@ use Rattle.bac_driver.specs.Asking.{Question}
 use Rattle.bac_driver.specs.Runs.{Timed}
 use Rattle.bac_driver.specs.declared.question.AskEnd.{AskEnd}
 use Rattle.bac_commands.specs.Questions.{question_for}
-use Rattle.bac_lists.specs.declared.question_lines.LineQuestion.{LineQuestion}
+use Rattle.bac_environment.specs.declared.question_lines.LineQuestion.{LineQuestion}
 use Rattle.bac_point_report.specs.Listing.{AreObjectsOf, IsNoNumberOf, IsNumberOf, IsStep}
 use Rattle.bac_point_report.specs.Outcomes.{has_values, is_silent}
 use Rattle.bac_point_report.specs.Points.{is_absent, point_references}
@@ -18,7 +18,7 @@ use Rattle.bac_point_report.specs.declared.listing.ListStep.{ListStep}
 use Rattle.bac_point_report.specs.declared.listing.ListStep.TheVariants as step
 use Rattle.bac_asking.specs.Clients.{AsksOn}
 use Rattle.bac_asking.specs.Gathering.{Gathers}
-use Rattle.bac_asking.specs.Online.{IsClient}
+use Rattle.bac_asking.specs.Online.{HasLooked, IsClient}
 use Rattle.bac_asking.specs.Recording.{outcome_of}
 use Rattle.bac_asking.specs.declared.asking.Asking.{Asking}
 use Rattle.bac_environment.specs.Sockets.{Clocks, Links}
@@ -247,6 +247,6 @@ pub record ReadsPoints (IsOn : Links) (asking : Asking) (peer : PeerView) (devic
 pub record Lists (IsOn : Links) (IsClock : Clocks) (asking : Asking) (peer : PeerView) (device : ObjectId) (all : Bool) : Type 0 where
   pub before : Timed
   pub after : Timed
-  pub client : IsClient IsOn asking.host before.bound_node
-  pub clock : IsClock before.told
+  pub client : IsClient IsOn asking.host before
+  pub clock : HasLooked IsClock before.told
   pub reads : ReadsPoints IsOn asking peer device all before after

@@ -9,7 +9,7 @@ use Rattle.bac_driver.specs.Runs.{Timed}
 use Rattle.bac_driver.specs.Views.{question_view}
 use Rattle.bac_driver.specs.declared.question.AskEnd.{AskEnd}
 use Rattle.bac_commands.specs.Questions.{question_for, question_of}
-use Rattle.bac_lists.specs.declared.question_lines.LineQuestion.{LineQuestion}
+use Rattle.bac_environment.specs.declared.question_lines.LineQuestion.{LineQuestion}
 use Rattle.bac_point_report.specs.Outcomes.{has_values, values_of}
 use Rattle.bac_point_report.specs.Lines.{value_line}
 use Rattle.bac_point_report.specs.Shown.{IsShown}
@@ -17,7 +17,7 @@ use Rattle.bac_ask_report.specs.Records.{Outcome}
 use Rattle.std.specs.Io.KnownBytes.{Appends}
 use Rattle.bac_point_report.specs.Targets.{Target, targets_of}
 use Rattle.bac_asking.specs.Gathering.{Gathers}
-use Rattle.bac_asking.specs.Online.{IsClient}
+use Rattle.bac_asking.specs.Online.{HasLooked, IsClient}
 use Rattle.bac_asking.specs.Recording.{outcome_of}
 use Rattle.bac_asking.specs.declared.asking.Asking.{Asking}
 use Rattle.bac_environment.specs.Sockets.{Clocks, Links}
@@ -57,15 +57,19 @@ pub record ReadsLines (IsOn : Links) (asking : Asking) (lines : List LineQuestio
   pub gathers : Gathers IsOn asking WINDOW lines ends before after
   pub whether : all ≡ are_valued lines ends
 
--- a client at any port asked for the properties that the words name; whether each was answered with a value
+-- a client at any port asked them
+pub record ReadsByClient (IsOn : Links) (IsClock : Clocks) (asking : Asking) (lines : List LineQuestion) (all : Bool) : Type 0 where
+  pub before : Timed
+  pub after : Timed
+  pub client : IsClient IsOn asking.host before
+  pub clock : HasLooked IsClock before.told
+  pub reads : ReadsLines IsOn asking lines all before after
+
+-- a client asked for the properties that the words name; whether each was answered with a value
 pub record ReadsWords (IsOn : Links) (IsClock : Clocks) (asking : Asking) (peer : PeerView) (words : List (List ℕ)) (all : Bool) : Type 0 where
   pub lines : List LineQuestion
   pub are : map question_in lines ≡ map (read_by peer) (targets_of words)
-  pub before : Timed
-  pub after : Timed
-  pub client : IsClient IsOn asking.host before.bound_node
-  pub clock : IsClock before.told
-  pub reads : ReadsLines IsOn asking lines all before after
+  pub reads : ReadsByClient IsOn IsClock asking lines all
 
 -- ---- what is printed of a property
 

@@ -25,7 +25,7 @@ use Rattle.bac_point_report.specs.Shown.{IsShown}
 use Rattle.bac_point_report.specs.Targets.{Target}
 use Rattle.bac_point_report.specs.Written.{IsOnlyKind, kind_named, meant}
 use Rattle.bac_asking.specs.Clients.{AsksOn}
-use Rattle.bac_asking.specs.Online.{IsClient}
+use Rattle.bac_asking.specs.Online.{HasLooked, IsClient}
 use Rattle.bac_asking.specs.Recording.{outcome_of}
 use Rattle.bac_asking.specs.declared.asking.Asking.{Asking}
 use Rattle.bac_environment.specs.Sockets.{Clocks, Links}
@@ -187,8 +187,8 @@ pub record WritesOrder (IsOn : Links) (asking : Asking) (peer : PeerView) (o : O
 pub record WritesByClient (IsOn : Links) (IsClock : Clocks) (asking : Asking) (peer : PeerView) (o : Order) (done : Bool) (old new : Option (List ℕ)) : Type 0 where
   pub before : Timed
   pub after : Timed
-  pub client : IsClient IsOn asking.host before.bound_node
-  pub clock : IsClock before.told
+  pub client : IsClient IsOn asking.host before
+  pub clock : HasLooked IsClock before.told
   pub writes : WritesOrder IsOn asking peer o done before after old new
 
 -- a client did what the words order: the kind of the new value is found, one write is asked, and the property read back where that was performed;

@@ -9,9 +9,7 @@ mod reading;
 mod silence;
 mod table;
 mod task;
-mod timeout;
 mod writing;
 
 pub use performing::do_with_points;
 pub use task::{Listing, PointTask, PointWork, Writing, point_task_of};
-pub use timeout::{bad_timeout, print_bad_timeout};

@@ -6,14 +6,16 @@ ghost use Rattle.bac_service.specs.Views.{property_reference_view};
 ghost use Rattle.bac_driver.specs.Runs.{timed};
 ghost use Rattle.bac_text.specs.Statuses.{IsFailure};
 ghost use Rattle.bac_environment.specs.Sockets.{OnClock, OnPort};
+ghost use Rattle.bac_points.specs.Points.{ListsIfHeard};
 ghost use Rattle.bac_points.specs.Lists.{AsksColumns, Lists, ReadsColumns, ReadsPoints, columns, has_come, have_come};
 
 use crate::objects::{ends_of, objects_asked};
 use crate::performing::Desk;
 use crate::table::Table;
 use crate::task::Listing;
-use bac_asking::{Client, ClientSockets, outcome_of};
+use bac_asking::{Client, outcome_of};
 use bac_driver::AskEnd;
+use bac_environment::ClientSockets;
 use bac_point_report::{has_values, is_absent, point_references};
 use bac_service::{AnyRequest, PropertyReference};
 use bac_text::{Status, no_memory, output_failed};
@@ -173,8 +175,8 @@ fn list_points<M: ClientSockets, O: Write, E: Write>(
     }
 }
 
-/// Prints the objects of a device, by its instance: a table with a line for each. Answers whether the list came, and each property that the objects have.
-pub(crate) fn list<M: ClientSockets, O: Write, E: Write>(
+/// A new client does so.
+fn list_by_client<M: ClientSockets, O: Write, E: Write>(
     desk: &Desk<'_, M>,
     listing: Listing,
     out: &mut O,
@@ -186,4 +188,22 @@ pub(crate) fn list<M: ClientSockets, O: Write, E: Write>(
 {
     let mut client = desk.client(err)?;
     list_points(desk, &mut client, listing, out, err)
+}
+
+/// Prints the objects of a device, by its instance: a table with a line for each. Answers whether the list came, and each property that the objects have.
+#[tactic(auto, using(crate::proofs::Hearing::unasked))]
+pub(crate) fn list<M: ClientSockets, O: Write, E: Write>(
+    desk: &Desk<'_, M>,
+    listing: Listing,
+    out: &mut O,
+    err: &mut E,
+) -> Result<bool, Status>
+    ensures read { IfOk result (λ all. ListsIfHeard desk.now.is_unheard (OnPort M.is_bound M.Link.failures M.Link.calls) (OnClock M.is_made M.Timer.told)
+        desk.now.asking.now (peer_view desk.now.peer) (object_identifier_view listing.device) all) }
+    ensures failed { IfErr result IsFailure }
+{
+    if desk.tells_unheard(err) {
+        return Ok(false);
+    }
+    list_by_client(desk, listing, out, err)
 }

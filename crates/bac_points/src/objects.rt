@@ -16,8 +16,9 @@ use crate::questions::{WINDOW, lines_for, question_of};
 use crate::silence::{is_unknown, tell_refused};
 use crate::task::ANY_DEVICE;
 use bac_ask_report::Outcome;
-use bac_asking::{Client, ClientSockets, ask_on, gather, outcome_of};
+use bac_asking::{Client, ask_on, gather, outcome_of};
 use bac_driver::AskEnd;
+use bac_environment::ClientSockets;
 use bac_point_report::{
     ListStep, after_list, failure_lines, is_absent, is_refused, number_of, objects_of,
 };

@@ -13,7 +13,7 @@ use bac_apdu::Limits;
 use bac_asking::question_in;
 use bac_commands::Style;
 use bac_driver::Question;
-use bac_lists::{LineQuestion, print_bad_words};
+use bac_environment::{LineQuestion, print_bad_words};
 use bac_npdu::Peer;
 use bac_point_report::Target;
 use bac_service::{AnyRequest, OwnedRequest, PropertyReference};

@@ -6,15 +6,16 @@ ghost use Rattle.bac_driver.specs.Runs.{timed};
 ghost use Rattle.bac_text.specs.Statuses.{IsFailure, IsStop};
 ghost use Rattle.bac_ask_report.specs.Records.{outcome_view};
 ghost use Rattle.bac_environment.specs.Sockets.{OnClock, OnPort};
-ghost use Rattle.bac_points.specs.Reads.{PrintsAnswer, ReadsLines, ReadsWords, are_valued, is_valued};
+ghost use Rattle.bac_points.specs.Points.{ReadsIfHeard};
+ghost use Rattle.bac_points.specs.Reads.{PrintsAnswer, ReadsByClient, ReadsLines, are_valued, is_valued};
 
 use crate::performing::Desk;
 use crate::questions::{WINDOW, lines_in};
 use crate::silence::tell_next;
 use bac_ask_report::Outcome;
-use bac_asking::{Client, ClientSockets, gather, outcome_of, print_header};
+use bac_asking::{Client, gather, outcome_of, print_header};
 use bac_driver::AskEnd;
-use bac_lists::LineQuestion;
+use bac_environment::{ClientSockets, LineQuestion};
 use bac_point_report::{
     failure_lines, has_values, is_silent, shown, targets_in, value_line, values_of,
 };
@@ -152,21 +153,39 @@ fn read_lines<M: ClientSockets, O: Write, E: Write>(
     Ok(are_valued(lines, &ends))
 }
 
+/// A new client does so.
+fn read_by_client<M: ClientSockets, O: Write, E: Write>(
+    desk: &Desk<'_, M>,
+    lines: &[LineQuestion],
+    out: &mut O,
+    err: &mut E,
+) -> Result<bool, Status>
+    ensures read { IfOk result (λ all. ReadsByClient (OnPort M.is_bound M.Link.failures M.Link.calls) (OnClock M.is_made M.Timer.told) desk.now.asking.now
+        lines.now all) }
+    ensures failed { IfErr result IsFailure }
+{
+    let mut client = desk.client(err)?;
+    read_lines(desk, &mut client, lines, out, err)
+}
+
 /// Reads the properties that words name, and prints their values. Answers whether each was answered with a value.
+#[tactic(auto, using(crate::proofs::Hearing::unasked))]
 pub(crate) fn read<M: ClientSockets, O: Write, E: Write>(
     desk: &Desk<'_, M>,
     words: &[&str],
     out: &mut O,
     err: &mut E,
 ) -> Result<bool, Status>
-    ensures read { IfOk result (λ all. ReadsWords (OnPort M.is_bound M.Link.failures M.Link.calls) (OnClock M.is_made M.Timer.told) desk.now.asking.now
-        (peer_view desk.now.peer) (map (λ w. w.now) words.now) all) }
+    ensures read { IfOk result (λ all. ReadsIfHeard desk.now.is_unheard (OnPort M.is_bound M.Link.failures M.Link.calls) (OnClock M.is_made M.Timer.told)
+        desk.now.asking.now (peer_view desk.now.peer) (map (λ w. w.now) words.now) all) }
     ensures told { IfErr result IsStop }
 {
     let Ok(targets) = targets_in(desk.alloc, words) else {
         return Err(no_memory(err));
     };
     let lines = lines_in(desk.alloc, desk.peer, &targets, err)?;
-    let mut client = desk.client(err)?;
-    read_lines(desk, &mut client, &lines, out, err)
+    if desk.tells_unheard(err) {
+        return Ok(false);
+    }
+    read_by_client(desk, &lines, out, err)
 }

@@ -1,8 +1,9 @@
 //! What is told of a node that does not answer, or refuses requests for now.
 
 use bac_ask_report::Outcome;
-use bac_asking::{ClientSockets, outcome_of, tell_no_answer, tell_unsent};
+use bac_asking::{outcome_of, tell_no_answer, tell_unsent};
 use bac_driver::AskEnd;
+use bac_environment::ClientSockets;
 use bac_npdu::Peer;
 use bac_point_report::is_refused;
 use bac_service::AnyReply;

@@ -1,10 +1,8 @@
 //! What the arguments of `read`, `write` and `points` ask for.
 
-use crate::timeout::timeout_in;
-use bac_ask_report::CellText;
-use bac_asking::{Asking, ClientSockets, RecordForm, peer_of};
+use bac_asking::{Asking, asking_of, peer_of};
 use bac_commands::{OutputFormat, Style};
-use bac_lists::{BACNET_PORT, EVERY_HOST};
+use bac_environment::{BACNET_PORT, ClientSockets};
 use bac_npdu::Peer;
 use bac_service::Priority;
 use bac_value::ObjectIdentifier;
@@ -96,29 +94,12 @@ fn priority_in(given: &ArgMatches<'_>) -> Option<Option<Priority>> {
     }
 }
 
-/// The form of the records that are printed; None where none are.
-fn records_in(given: &ArgMatches<'_>) -> Option<RecordForm> {
-    if given.get_flag("json") {
-        Some(RecordForm::Json)
-    } else if given.get_flag("csv") {
-        Some(RecordForm::Csv(CellText::Shielded))
-    } else {
-        None
-    }
-}
-
 /// How a node is asked. None if the time to wait is invalid.
 fn asking_in(given: &ArgMatches<'_>) -> Option<Asking> {
-    let timeout = timeout_in(given)?;
+    let asking = asking_of(given, false)?;
     Some(Asking {
-        host: EVERY_HOST,
-        timeout,
         output_format: FORMAT,
-        records: records_in(given),
-        shows_progress: false,
-        has_names: false,
-        rounds: None,
-        window: None,
+        ..asking
     })
 }
 

@@ -12,15 +12,17 @@ ghost use Rattle.bac_point_report.specs.Outcomes.{values_of};
 ghost use Rattle.bac_point_report.specs.Targets.{target_view};
 ghost use Rattle.bac_asking.specs.Recording.{outcome_of};
 ghost use Rattle.bac_environment.specs.Sockets.{OnClock, OnPort};
-ghost use Rattle.bac_points.specs.Writes.{AsksKind, FindsKind, IsKindOf, IsOrder, IsWriting, PrintsBack, PrintsFound, PrintsOther, ReadsBack, Writes, WritesAs, WritesByClient, WritesOnce, WritesOrder};
+ghost use Rattle.bac_points.specs.Points.{WritesIfHeard};
+ghost use Rattle.bac_points.specs.Writes.{AsksKind, FindsKind, IsKindOf, IsOrder, IsWriting, PrintsBack, PrintsFound, PrintsOther, ReadsBack, WritesAs, WritesByClient, WritesOnce, WritesOrder};
 ghost use Rattle.bac_points.specs.Writes.{differs_line, lacks_value, name_of_number, order_view, ordered_in, writes_values};
 
 use crate::performing::Desk;
 use crate::questions::{question_by, question_for};
 use crate::silence::{tell_next, tell_no_null};
 use crate::task::Writing;
-use bac_asking::{Client, ClientSockets, ask_on, outcome_of};
+use bac_asking::{Client, ask_on, outcome_of};
 use bac_driver::{AskEnd, Question};
+use bac_environment::ClientSockets;
 use bac_point_report::{
     Target, failure_lines, is_done, kind_in, kind_named, shown, value_line, values_of,
     written_values,
@@ -589,16 +591,20 @@ fn write_by_client<M: ClientSockets, O: Write, E: Write>(
 }
 
 /// Writes a property, and reads it back. Answers whether it was written.
+#[tactic(auto, using(crate::proofs::Hearing::unasked))]
 pub(crate) fn write<M: ClientSockets, O: Write, E: Write>(
     desk: &Desk<'_, M>,
     writing: Writing<'_, '_>,
     out: &mut O,
     err: &mut E,
 ) -> Result<bool, Status>
-    ensures written { IfOk result (λ done. Writes (OnPort M.is_bound M.Link.failures M.Link.calls) (OnClock M.is_made M.Timer.told) desk.now.asking.now
-        (peer_view desk.now.peer) writing.entry done (O.contents out.old) (O.contents out.new)) }
+    ensures written { IfOk result (λ done. WritesIfHeard desk.now.is_unheard (OnPort M.is_bound M.Link.failures M.Link.calls) (OnClock M.is_made M.Timer.told)
+        desk.now.asking.now (peer_view desk.now.peer) writing.entry done (O.contents out.old) (O.contents out.new)) }
     ensures told { IfErr result IsStop }
 {
     let order = order_of(desk, writing, err)?;
+    if desk.tells_unheard(err) {
+        return Ok(false);
+    }
     write_by_client(desk, &order, out, err)
 }

@@ -5,9 +5,8 @@ ghost use Rattle.bac_reading.specs.Selecting.{AreChartOptions, AreGivenOptions, 
 use crate::copied::{copied_of, is_copied};
 use crate::decoding::{Decoding, LayerForm, STANDARD_INPUT};
 use crate::report::Report;
-use bac_environment::{flag_of, read_time};
+use bac_environment::{flag_of, read_end, read_time};
 use bac_explain_report::{ChartFormat, ChartOptions, PeerFilter, ReportOptions, Selection};
-use bac_lists::read_end;
 use clap::ArgMatches;
 
 /// The address behind `--peer`, if there is one. None where it is no address.

@@ -174,6 +174,11 @@ module _ (now : ℕ) (peer : PeerView) (a : Apdu) (memory : ℕ) (e : ServerEnd)
   begun_within none there = λ rules c s short.
       let sum = turn_begins rules now (key_of peer a) a e c s short distinct none in omega (arith, sum, there)
 
+-- within less
+pub within_less : (now : ℕ) (peer : PeerView) (a : Apdu) (less memory : ℕ) (e : ServerEnd) → less ≤ memory → StaysWithin (Some less) now peer a e
+    → StaysWithin (Some memory) now peer a e
+within_less now peer a less memory e smaller stays = λ rules c s short. let within = stays rules c s short in omega (arith, within, smaller)
+
 -- The table.
 
 abbrev Slots : Type 0

@@ -1,15 +1,18 @@
 -- How many slots an address holds, and whether it has a share, in code and in the end.
-use Rattle.std.proofs.Common.{◌≡◌, ℕ, ◌+◌, ◌-◌, ◌*◌, ◌<◌, ◌≤◌, Bool, true, false, ◌&&◌, ◌||◌, not, List, [], ◌∷◌, Option, Some, cond, count_by, length, nat_le, slice_get, zero, suc}
+use Rattle.std.proofs.Common.{◌≡◌, ℕ, ◌+◌, ◌-◌, ◌*◌, ◌<◌, ◌≤◌, Bool, true, false, ◌&&◌, ◌||◌, not, List, [], ◌∷◌, Option, Some, cond, count_by, if◌then◌else◌, length, min, nat_le, slice_get, take, zero, suc}
 use Rattle.std.proofs.Common.{refl, ap, sym, ◌∙◌, arith}
 use Rattle.std.proofs.lemmas.Bool.Decides.{nat_tests}
 use Rattle.std.proofs.lemmas.List.Sums.{count_by-le-length, sum_by-cons}
 use Rattle.bac_slots.specs.declared.slot.Slot.{Slot}
-use Rattle.bac_protocol.specs.Server.{ServerTransaction, is_live}
+use Rattle.bac_slots.specs.Slots.{value_at}
+use Rattle.bac_protocol.specs.Server.{ServerTransaction, is_live, is_none_live}
 use Rattle.bac_transaction.specs.Ends.{ServerSlot, is_slot_live}
 use Rattle.bac_transaction.specs.Sharing.{address_of, free_slots, has_share, held_at, is_held_at}
-use Rattle.bac_transaction.specs.Views.{slot_view, slots_view}
+use Rattle.bac_transaction.specs.Views.{code_same_key, peer_key_view, slot_view, slots_view}
 use Rattle.bac_transaction.specs.declared.peer_key.PeerKey.{PeerKey}
+use Rattle.bac_transaction.proofs.Keyed.{value_viewed}
 use Rattle.bac_transaction.proofs.Viewed.{count_viewed}
+use Rattle.bac_responder.specs.Kept.{holds_another}
 use Rattle.bac_responder.specs.Sharing.{is_held}
 use Rattle.bac_responder.specs.Views.{end_of}
 
@@ -59,13 +62,54 @@ module _ (now : ℕ) (link : List ℕ) where
       omega (arith, seen, most, live, some, less, all, is, left) in
       grind (arith, nat_tests, below)
 
-  pub shares_as_counted : (slots : Slots) (capacity held live room : ℕ) → held ≡ count_by (is_held now link) slots
-      → live ≡ count_by (λ s. is_live now s.value) slots → room ≡ capacity → (restart : Option ℕ)
-      → nat_le held (15 * ((room - live) - 1)) ≡ has_share now (address_of link) (end_of slots capacity restart)
-  shares_as_counted slots capacity held live room is all same restart =
-      let seen : held ≡ held_at now (address_of link) (end_of slots capacity restart) = is ∙ sym (held_viewed slots) in
+  -- no more slots are counted than a number of the machine can tell
+  under_most : (held most : ℕ) → held ≤ 18446744073709551615 → nat_le held (min most 18446744073709551615) ≡ nat_le held most
+  under_most held most within = go (nat_le held most) refl
+    where
+      go : (b : Bool) → nat_le held most ≡ b → nat_le held (min most 18446744073709551615) ≡ b
+      go true is =
+          let few : held ≤ most = grind (arith, nat_tests, is) in
+          let both : held ≤ min most 18446744073709551615 = omega (arith, few, within) in
+          grind (arith, nat_tests, both)
+      go false is =
+          let more : most < held = grind (arith, nat_tests, is) in
+          let both : min most 18446744073709551615 < held = omega (arith, more) in
+          grind (arith, nat_tests, both)
+
+  pub shares_as_counted : (slots : Slots) (capacity used live room most : ℕ) → used ≡ length slots → used ≤ 18446744073709551615
+      → live ≡ count_by (λ s. is_live now s.value) slots → room ≡ capacity → most ≡ min (15 * ((room - live) - 1)) 18446744073709551615 → (restart : Option ℕ)
+      → nat_le (count_by (is_held now link) slots) most ≡ has_share now (address_of link) (end_of slots capacity restart)
+  shares_as_counted slots capacity used live room most number few all same is restart =
+      let some = count_by-le-length (is_held now link) slots in
       let alive : live ≡ count_by (is_slot_live now) (slots_view slots) = all ∙ sym (count_viewed ServerTransaction (is_live now) slots) in
-      ap (λ (n : ℕ). nat_le n (15 * ((room - live) - 1))) seen
+      ap (λ (n : ℕ). nat_le (count_by (is_held now link) slots) n) is
+      ∙ under_most (count_by (is_held now link) slots) (15 * ((room - live) - 1)) (omega (arith, some, number, few))
+      ∙ ap (λ (n : ℕ). nat_le n (15 * ((room - live) - 1))) (sym (held_viewed slots))
       ∙ ap (λ (n : ℕ). nat_le (held_at now (address_of link) (end_of slots capacity restart)) (15 * ((room - n) - 1))) alive
       ∙ ap (λ (n : ℕ). nat_le (held_at now (address_of link) (end_of slots capacity restart))
       (15 * ((n - count_by (is_slot_live now) (slots_view slots)) - 1))) same
+
+  -- so many at most, and beside the entry of a key none at most
+  pub holds_another_so : (key : PeerKey) (slots : Slots) (capacity own : ℕ) (restart : Option ℕ) → link ≡ key.peer.link
+      → own ≡ (if is_none_live now (value_at code_same_key key slots) then 0 else 1)
+      → not (nat_le (count_by (is_held now link) slots) own) ≡ holds_another now (peer_key_view key) (end_of slots capacity restart)
+  holds_another_so key slots capacity own restart at is =
+      ap (λ (n : ℕ). not (nat_le n own)) (sym (held_viewed slots))
+      ∙ ap (λ (l : List ℕ). not (nat_le (held_at now (address_of l) (end_of slots capacity restart)) own)) at
+      ∙ ap (λ (n : ℕ). not (nat_le (held_at now (address_of key.peer.link) (end_of slots capacity restart)) n)) is
+      ∙ ap (λ (o : Option ServerTransaction). not (nat_le (held_at now (address_of key.peer.link) (end_of slots capacity restart))
+      (if is_none_live now o then 0 else 1))) (value_viewed ServerTransaction key slots)
+
+-- Of the first slots and one more.
+
+module _ (A : Type 0) (p : A → Bool) where
+  -- the first ones are no more than all
+  pub first_few : (n : ℕ) (xs : List A) → count_by p (take n xs) ≤ count_by p xs
+  first_few zero xs = omega arith
+  first_few (suc n) [] = omega arith
+  first_few (suc n) (x ∷ xs) =
+      let f : A → ℕ = λ y. cond (p y) 1 0 in
+      let again = first_few n xs in
+      let all = sum_by-cons f x xs in
+      let first = sum_by-cons f x (take n xs) in
+      omega (arith, again, all, first)

@@ -1,5 +1,6 @@
 -- How many octets of service data the server's end keeps, and by how many an APDU can make it keep more.
-use Rattle.std.specs.Prelude.{◌≡◌, ◌≤◌, ℕ, ◌+◌, ◌*◌, max, Bool, true, false, is_some, if◌then◌else◌, List, [], ◌∷◌, length, Option, Some, None}
+use Rattle.std.specs.Prelude.{◌≡◌, ◌≤◌, ℕ, ◌+◌, ◌-◌, ◌*◌, ◌/◌, max, nat_le, Bool, true, false, not, is_some, if◌then◌else◌, List, [], ◌∷◌, length, Option, Some, None}
+use Rattle.std.specs.Option.{option_map}
 use Rattle.bac_apdu.specs.Apdu.{Apdu}
 use Rattle.bac_apdu.specs.Apdu.Apdu.{ConfirmedRequest, ComplexAck}
 use Rattle.bac_npdu.specs.Peers.{PeerView}
@@ -19,7 +20,7 @@ use Rattle.bac_transaction.specs.Keys as keys
 use Rattle.bac_transaction.specs.Keys.{same_key}
 use Rattle.bac_transaction.specs.Services.{service_of}
 use Rattle.bac_transaction.specs.Serving.{responder_by}
-use Rattle.bac_transaction.specs.Sharing.{EndRules}
+use Rattle.bac_transaction.specs.Sharing.{EndRules, address_of, held_at}
 use Rattle.bac_transaction.specs.declared.peer_key.PeerKey.{PeerKey}
 
 -- of segments that were received: those of each, and four for its place
@@ -94,6 +95,22 @@ StaysWithin (Some memory) now peer a e =
 abbrev pub IsWithin : (memory : Option ℕ) → Store → (old new : ServerEnd) → Type 0
 IsWithin None s old new = Unit {0}
 IsWithin (Some memory) s old new = HasShortReplies s → kept_octets new.slots ≤ max (kept_octets old.slots) memory
+
+-- Where slots are shared, memory is too: its last sixteenth is left to the first live entry of each IP address.
+
+-- how much of it one address gets
+abbrev pub most_of_one : (memory : ℕ) → ℕ
+most_of_one memory = memory - memory / 16
+
+-- the address of that key holds a live entry, and not for that key
+abbrev pub holds_another : (now : ℕ) → keys.PeerKey → ServerEnd → Bool
+holds_another now key e =
+    not (nat_le (held_at now (address_of key.peer.link) e) (if is_none_live now (value_at same_key key e.slots) then 0 else 1))
+
+-- such an address gets only that much; each other one gets all
+abbrev pub IsSharedBy : EndRules → (memory : Option ℕ) → Store → (now : ℕ) → keys.PeerKey → (old new : ServerEnd) → Type 0
+IsSharedBy rules memory s now key old new =
+    rules.share ≡ true → holds_another now key old ≡ true → IsWithin (option_map most_of_one memory) s old new
 
 -- What makes no end keep more, however little room there is.
 

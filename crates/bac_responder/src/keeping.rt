@@ -6,7 +6,7 @@ ghost use Rattle.bac_slots.specs.declared.slot.Slot.{Slot};
 ghost use Rattle.bac_slots.specs.Slots.{value_at};
 ghost use Rattle.bac_protocol.specs.Server.{is_none_live};
 ghost use Rattle.bac_transaction.specs.Views.{code_same_key};
-ghost use Rattle.bac_responder.specs.Kept.{counted, entry_octets, given_back, grows_none, growth, is_request, is_whole, kept_length, octets_of, reply_octets, state_octets, sum_of};
+ghost use Rattle.bac_responder.specs.Kept.{counted, entry_octets, given_back, grows_none, growth, is_request, is_whole, kept_length, most_of_one, octets_of, reply_octets, state_octets, sum_of};
 ghost use Rattle.bac_responder.specs.TransactionViews.{kept_reply_view, state_view};
 
 use crate::ServerTransaction;
@@ -165,6 +165,13 @@ fn is_request(apdu: &Apdu<'_>) -> bool
     ensures { result ≡ is_request (apdu_view apdu.now) }
 {
     matches!(apdu, Apdu::ConfirmedRequest { .. })
+}
+
+/// How much of so many octets one address gets where memory is shared: all but the last sixteenth.
+pub(crate) fn most_of_one(memory: usize) -> usize
+    ensures { result ≡ most_of_one memory }
+{
+    memory - memory / 16
 }
 
 /// Whether there is room for a request with so much service data, where so many octets are kept.

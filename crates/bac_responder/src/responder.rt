@@ -1,7 +1,8 @@
 //! The server's end: the calls that bac_node makes. Their contracts are what crates above rest on.
-ghost use Rattle.std.specs.Prelude.{◌≡◌, ◌≢◌, ℕ, ◌<◌, ◌≤◌, ◌↔◌, [], None, Some, count_by, max, IfOk, IsTrue, OnOk};
+ghost use Rattle.std.specs.Prelude.{◌≡◌, ◌≢◌, ℕ, ◌<◌, ◌≤◌, ◌↔◌, [], None, Some, count_by, max, true, IfOk, IsTrue, OnOk};
 ghost use Rattle.std.specs.Option.{option_map};
 ghost use Rattle.bac_apdu.specs.Views.{apdu_view};
+ghost use Rattle.bac_npdu.specs.Peers.{PeerView};
 ghost use Rattle.bac_npdu.specs.Views.{peer_view};
 ghost use Rattle.bac_slots.specs.Slots.{value_at};
 ghost use Rattle.bac_protocol.specs.Context.{Settings as Set};
@@ -16,18 +17,19 @@ ghost use Rattle.bac_responder.specs.Short.{AreRequestsShort};
 ghost use Rattle.bac_transaction.specs.Services.{service_of};
 ghost use Rattle.bac_transaction.specs.Sharing.{address_of, has_share};
 ghost use Rattle.bac_responder.specs.Hearing.{Hears};
-ghost use Rattle.bac_responder.specs.Kept.{IsWithin, NeedsRoom, StaysWithin, growth, kept_octets};
+ghost use Rattle.bac_responder.specs.Kept.{IsSharedBy, IsWithin, NeedsRoom, StaysWithin, growth, holds_another, kept_octets, most_of_one};
 
 use crate::ServerTransaction;
 use crate::aging::{ServerAging, ShortRequests};
 use crate::freeing::first_dead;
 use crate::hearing::{Told, on_apdu};
 use crate::keeping::{
-    count_octets, fits, given_back, is_none_live, key_octets, moved, service_len, without,
+    count_octets, fits, given_back, is_none_live, key_octets, most_of_one, moved, service_len,
+    without,
 };
 use crate::moments::{first_end, first_timer};
 use crate::served::Served;
-use crate::sharing::has_share;
+use crate::sharing::{has_share, holds_at_most};
 use crate::ticking::{nothing_due, prepare};
 use bac_apdu::Apdu;
 use bac_npdu::{LinkAddress, Peer};
@@ -170,10 +172,36 @@ impl<S: SlotTable<PeerKey, ServerTransaction> + Drop> Responder<S> {
         self.restart == other.restart && same_tables(&self.aged.table, &other.aged.table)
     }
 
+    /// Whether the address of a key holds another live entry. It looks at each key, the oldest first, until it finds one.
+    fn holds_another(&self, now: u64, key: &PeerKey) -> bool
+        ensures { result ≡ holds_another now (peer_key_view key.now) self.now }
+    {
+        let own = if is_none_live(&self.aged.table, key, now) {
+            0
+        } else {
+            1
+        };
+        !holds_at_most(&self.aged.table, now, &key.peer.link, own)
+    }
+
+    /// Whether what the entries keep surely stays within so many octets, or does not grow, whatever an APDU makes of them. It looks at no entry.
+    fn surely_has_room(&self, apdu: &Apdu<'_>, room: usize) -> bool
+        ensures within { IsTrue result → (now : ℕ) (peer : PeerView) → StaysWithin (Some room) now peer (apdu_view apdu.now) self.now }
+        ensures needless { growth (apdu_view apdu.now) ≡ 0 → IsTrue result }
+    {
+        // that no two entries have one key
+        let _entries = self.aged.table.len();
+        match service_len(apdu) {
+            None => true,
+            Some(len) => fits(self.kept, len, room),
+        }
+    }
+
     /// Whether what the entries keep stays within so many octets, or does not grow, whatever an APDU makes of them. What contracts see of the end does not change.
-    fn has_room_for(&mut self, now: u64, peer: &Peer, apdu: &Apdu<'_>, room: usize) -> bool
+    fn has_room_for(&mut self, now: u64, key: &PeerKey, apdu: &Apdu<'_>, room: usize) -> bool
+        requires { peer_key_view key.now ≡ key_of (peer_view key.now.peer) (apdu_view apdu.now) }
         ensures same { self.new ≡ self.old }
-        ensures within { IsTrue result → StaysWithin (Some room) now (peer_view peer.now) (apdu_view apdu.now) self.old }
+        ensures within { IsTrue result → StaysWithin (Some room) now (peer_view key.now.peer) (apdu_view apdu.now) self.old }
         ensures needless { growth (apdu_view apdu.now) ≡ 0 → IsTrue result }
     {
         // that no two entries have one key
@@ -192,12 +220,8 @@ impl<S: SlotTable<PeerKey, ServerTransaction> + Drop> Responder<S> {
         if fits(self.kept, len, room) {
             return true;
         }
-        let key = PeerKey {
-            peer: *peer,
-            invoke_id: invoke_id_of(apdu),
-        };
         // the new entry takes the place of those that are not live
-        if is_none_live(&self.aged.table, &key, now)
+        if is_none_live(&self.aged.table, key, now)
             && fits(count_octets(&self.aged.table, true, now), len, room)
         {
             return true;
@@ -207,16 +231,41 @@ impl<S: SlotTable<PeerKey, ServerTransaction> + Drop> Responder<S> {
         false
     }
 
-    /// Whether there is room for an APDU within the bound on memory, as `has_room_for` says; true where there is no bound.
-    fn has_room(&mut self, memory: Option<usize>, now: u64, peer: &Peer, apdu: &Apdu<'_>) -> bool
+    /// Whether there is room for an APDU where memory is shared: within its first 15/16 for an address that holds another live entry.
+    fn has_shared_room(&mut self, memory: usize, now: u64, key: &PeerKey, apdu: &Apdu<'_>) -> bool
+        requires { peer_key_view key.now ≡ key_of (peer_view key.now.peer) (apdu_view apdu.now) }
         ensures same { self.new ≡ self.old }
-        ensures within { IsTrue result → StaysWithin memory now (peer_view peer.now) (apdu_view apdu.now) self.old }
+        ensures within { IsTrue result → StaysWithin (Some memory) now (peer_view key.now.peer) (apdu_view apdu.now) self.old }
+        ensures shared { IsTrue result → holds_another now (peer_key_view key.now) self.old ≡ true
+            → StaysWithin (Some (most_of_one memory)) now (peer_view key.now.peer) (apdu_view apdu.now) self.old }
         ensures needless { growth (apdu_view apdu.now) ≡ 0 → IsTrue result }
-        ensures bound { memory ≡ None → IsTrue result }
     {
-        match memory {
+        let most = most_of_one(memory);
+        if self.surely_has_room(apdu, most) {
+            return true;
+        }
+        if self.holds_another(now, key) {
+            self.has_room_for(now, key, apdu, most)
+        } else {
+            self.has_room_for(now, key, apdu, memory)
+        }
+    }
+
+    /// Whether there is room for an APDU within the bound on memory, as `has_room_for` says, or where it is shared, as `has_shared_room` does; true where there is
+    /// no bound.
+    fn has_room(&mut self, rules: &Rules, now: u64, key: &PeerKey, apdu: &Apdu<'_>) -> bool
+        requires { peer_key_view key.now ≡ key_of (peer_view key.now.peer) (apdu_view apdu.now) }
+        ensures same { self.new ≡ self.old }
+        ensures within { IsTrue result → StaysWithin rules.now.memory now (peer_view key.now.peer) (apdu_view apdu.now) self.old }
+        ensures shared { IsTrue result → (rules_view rules.now).share ≡ true → holds_another now (peer_key_view key.now) self.old ≡ true
+            → StaysWithin (option_map most_of_one rules.now.memory) now (peer_view key.now.peer) (apdu_view apdu.now) self.old }
+        ensures needless { growth (apdu_view apdu.now) ≡ 0 → IsTrue result }
+        ensures bound { rules.now.memory ≡ None → IsTrue result }
+    {
+        match rules.memory {
             None => true,
-            Some(room) => self.has_room_for(now, peer, apdu, room),
+            Some(memory) if rules.shares() => self.has_shared_room(memory, now, key, apdu),
+            Some(memory) => self.has_room_for(now, key, apdu, memory),
         }
     }
 
@@ -244,6 +293,9 @@ impl<S: SlotTable<PeerKey, ServerTransaction> + Drop> Responder<S> {
     /// one APDU, where reads are performed anew. Entries that are not live count, but not where the request takes their place. Entries are counted
     /// one by one only where there seems to be no room, and once there was none, not again for 1,000 ms.
     ///
+    /// Where slots are shared, so is memory: only a request whose IP address, whatever the port, holds no live entry but that of its own key gets the last
+    /// sixteenth of `memory`. Keys are looked at only where there seems to be no room without it.
+    ///
     /// An Err says that an allocation failed. The server's end and the store are then as before, and the same APDU can be handed in again.
     pub fn on(
         &mut self,
@@ -257,14 +309,16 @@ impl<S: SlotTable<PeerKey, ServerTransaction> + Drop> Responder<S> {
         ensures hears { Hears (rules_view serving.now.rules) (settings_view serving.now.settings) now (key_of (peer_view peer.now) (apdu_view apdu.now)) (apdu_view apdu.now)
             self.old store.old result self.new store.new }
         ensures within { OnOk result (IsWithin serving.now.rules.memory store.old self.old self.new) }
+        ensures shared { OnOk result (IsSharedBy (rules_view serving.now.rules) serving.now.rules.memory store.old now (key_of (peer_view peer.now) (apdu_view apdu.now))
+            self.old self.new) }
         ensures needless { IfOk result (λ o. o ≡ None → NeedsRoom (rules_view serving.now.rules) serving.now.rules.memory (settings_view serving.now.settings) now
             (service_of store.old) (peer_view peer.now) (apdu_view apdu.now) self.old) }
     {
-        let room = self.has_room(serving.rules.memory, now, peer, apdu);
         let key = PeerKey {
             peer: *peer,
             invoke_id: invoke_id_of(apdu),
         };
+        let room = self.has_room(&serving.rules, now, &key, apdu);
         let told = Told {
             context: Context {
                 settings: serving.settings,

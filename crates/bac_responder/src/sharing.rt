@@ -1,5 +1,5 @@
-//! Whether an IP address has a share in the slots of the reply table. `hearing` asks it where slots are shared.
-ghost use Rattle.std.specs.Prelude.{◌≡◌, ◌-◌, ◌*◌, ℕ, Option, Some, bytes_eq, count_by, nat_le, slice_get};
+//! Whether an IP address has a share in the slots of the reply table, and how many of them it holds. `hearing` and `Responder` ask where slots are shared.
+ghost use Rattle.std.specs.Prelude.{◌≡◌, ◌-◌, ◌*◌, ℕ, Option, Some, bytes_eq, count_by, min, nat_le, slice_get};
 ghost use Rattle.bac_slots.specs.declared.slot.Slot.{Slot};
 ghost use Rattle.bac_transaction.specs.Sharing.{address_of, has_share};
 ghost use Rattle.bac_responder.specs.Sharing.{is_held};
@@ -38,28 +38,39 @@ fn is_held_at<S: SlotTable<PeerKey, ServerTransaction>>(
     is_same_address(&key.peer.link, link) && entry.is_live(now)
 }
 
-/// How many slots have one. It looks at each key.
-fn count_held<S: SlotTable<PeerKey, ServerTransaction>>(
+/// Whether at most so many slots have one. It looks at each key, the oldest first, until there are more.
+pub(crate) fn holds_at_most<S: SlotTable<PeerKey, ServerTransaction>>(
     table: &S,
     now: u64,
     link: &LinkAddress,
-) -> usize
-    ensures { result ≡ count_by (is_held now link.now) (S.slots table.now) }
+    most: usize,
+) -> bool
+    ensures { result ≡ nat_le (count_by (is_held now link.now) (S.slots table.now)) most }
 {
     let mut held = 0;
     for n in 0..table.len() {
         if is_held_at(table, n, now, link) {
+            if held >= most {
+                return false;
+            }
             held += 1;
         }
     }
-    held
+    true
+}
+
+/// How many live entries are at most 15 for each slot that stays free once one more of so many free slots is taken.
+fn share_of(free: usize) -> usize
+    ensures { result ≡ min (15 * (free - 1)) 18446744073709551615 }
+{
+    free.saturating_sub(1).saturating_mul(MOST_HELD)
 }
 
 /// Whether so many live entries are at most 15 for each slot that stays free once one more of so many free slots is taken.
 fn is_share(held: usize, free: usize) -> bool
     ensures { result ≡ nat_le held (15 * (free - 1)) }
 {
-    held <= free.saturating_sub(1).saturating_mul(MOST_HELD)
+    held <= share_of(free)
 }
 
 /// Whether the address of a link has a share in the slots: it holds at most 15 live entries for each slot that stays free once one more begins. While fewer than
@@ -78,8 +89,6 @@ pub(crate) fn has_share<S: SlotTable<PeerKey, ServerTransaction>>(
     if is_share(used, room - used) {
         return true;
     }
-    is_share(
-        count_held(&aged.table, now, link),
-        room - count_alive(aged, now),
-    )
+    let most = share_of(room - count_alive(aged, now));
+    holds_at_most(&aged.table, now, link, most)
 }

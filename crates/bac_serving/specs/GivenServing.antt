@@ -7,11 +7,11 @@ use Rattle.std.specs.Str.{bytes_eq}
 use Rattle.std.specs.declared.net.Ipv4Addr.{Ipv4Addr}
 use Rattle.clap.specs.declared.parser.matches.ArgMatches.{ArgMatches}
 use Rattle.bac_value_text.specs.Numbers.{◌>>=◌, number_of, parts_at}
-use Rattle.bac_lists.specs.Addresses.{is_of_node}
+use Rattle.bac_environment.specs.Addresses.{is_of_node}
 use Rattle.bac_server.specs.declared.log_level.LogLevel.{LogLevel}
 use Rattle.bac_server.specs.declared.log_level.LogLevel.TheVariants as level
 use Rattle.bac_node.specs.declared.memory.TheConstants.{MEMORY}
-use Rattle.bac_transaction.specs.declared.rules.Rules.{Rules}
+use Rattle.bac_driver.specs.Nodes.{Rules}
 use Rattle.bac_environment.specs.Given.{IsFlag, IsNumber, text_of, words_text}
 use Rattle.bac_serving.specs.GivenGuard.{ArePeers, IsGuard}
 use Rattle.bac_serving.specs.Serving.{is_reusing, rules_by}

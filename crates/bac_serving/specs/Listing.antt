@@ -12,7 +12,7 @@ use Rattle.bac_keep.specs.Cells.{file_place, value_place}
 use Rattle.bac_keep.specs.Parts.{IsForNothing}
 use Rattle.bac_keep_file.specs.Rows.{AreCells}
 use Rattle.bac_keep.specs.declared.cell.Cell.{Cell}
-use Rattle.bac_keep_json.specs.Cells.{File, IsCellForm, KeptPart, Values}
+use Rattle.bac_log_json.specs.Cells.{File, IsCellForm, KeptPart, Values}
 use Rattle.bac_json_report.specs.Lines.{IsLineOf}
 use Rattle.bac_text.specs.Texts.{AppendsText}
 use Rattle.bac_text.specs.declared.status.Status.{Status}

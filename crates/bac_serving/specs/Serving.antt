@@ -5,7 +5,7 @@ use Rattle.bac_guard.specs.Views.{blocks_of}
 use Rattle.bac_driver.specs.Waits.{MOST}
 use Rattle.bac_driver.specs.declared.wait_limit.WaitLimit.{WaitLimit}
 use Rattle.bac_transaction.specs.Given.{ANEW, STRICTLY}
-use Rattle.bac_transaction.specs.declared.rules.Rules.{Rules}
+use Rattle.bac_driver.specs.Nodes.{Rules}
 use Rattle.bac_environment.specs.Limits.{until_of}
 use Rattle.bac_serving.specs.declared.serving.Serving.{Serving}
 

@@ -3,8 +3,7 @@ ghost use Rattle.bac_serving.specs.Stretches.{IsChanged};
 
 use crate::listing::kept_words;
 use bac_driver::{BoundNode, Link};
-use bac_keep_json::KeptPart;
-use bac_log_json::LogEvent;
+use bac_log_json::{KeptPart, LogEvent};
 use bac_server::LevelLog;
 use bac_store::{Change, ChangeFault, Store};
 use std::alloc::Global;

@@ -3,8 +3,8 @@ ghost use Rattle.std.specs.Prelude.{◌≡◌, length};
 
 use crate::fault_lines::{FaultTime, print_fault_objects};
 use crate::gap::{Gap, ends_line, piece_of};
-use crate::standard_error::StandardError;
 use bac_driver::Clock;
+use bac_environment::StandardError;
 use bac_server::LogFormat;
 use bac_value::NoMemory;
 use std::alloc::Global;

@@ -5,7 +5,6 @@ ghost use Rattle.bac_text.specs.Statuses.{IsStop};
 ghost use Rattle.bac_serving.specs.Forgetting.{IsForgotten, Names, OnForgotten};
 ghost use Rattle.bac_serving.specs.Keeping.{IsListed, IsThere, IsToldOf};
 
-use crate::databases::Databases;
 use crate::keep_faults::print_keep_fault;
 use crate::keeping::{open_kept, print_not_kept};
 use crate::listing::{ListForm, print_cells, refuse_missing};
@@ -13,7 +12,7 @@ use crate::part_words::print_about;
 use bac_commands::CommandError;
 use bac_environment::{Environment, OpenFiles, print_bad_name};
 use bac_keep::{DatabaseFault, KeepFault};
-use bac_keep_file::{Loss, Selection, forget};
+use bac_keep_file::{Databases, Loss, Selection, forget};
 use bac_service_text::{BadWord, Wanted};
 use bac_text::{Status, no_memory, output_failed};
 use bac_value_text::{object_in, property_in};

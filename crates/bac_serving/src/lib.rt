@@ -2,7 +2,6 @@
 #![tactic(auto)]
 
 mod changing;
-mod databases;
 mod dropping;
 mod extent;
 mod fault_lines;
@@ -11,7 +10,6 @@ mod following_keeper;
 mod forgetting;
 mod gap;
 mod guard_words;
-mod input;
 mod keep_faults;
 mod keeping;
 mod kept_station;
@@ -22,21 +20,15 @@ mod online;
 mod part_words;
 mod reading;
 mod reasons;
-mod regular_files;
 mod serving;
 mod serving_words;
-mod standard_error;
 mod stretching;
 
-pub use databases::Databases;
 pub use forgetting::{Forgetting, forget_kept};
 pub use guard_words::bad_peers;
-pub use input::StandardInput;
 pub use keeping::serve_kept;
 pub use listing::{ListForm, list_kept};
 pub use looking::serve_looking;
 pub use objects::{answer, serve};
-pub use regular_files::RegularFiles;
 pub use serving::Serving;
 pub use serving_words::{read_memory, remembers_in_vain, serving_of};
-pub use standard_error::StandardError;

@@ -3,20 +3,19 @@ ghost use Rattle.std.specs.Prelude.{◌≡◌, ◌++◌, ◌+◌, codes, decimal
 ghost use Rattle.std.specs.Option.{option_map};
 ghost use Rattle.bac_value.specs.Views.{object_identifier_view};
 ghost use Rattle.bac_driver.specs.Waits.{MOST};
-ghost use Rattle.bac_keep_json.specs.Cells.{part_view};
+ghost use Rattle.bac_log_json.specs.Cells.{part_view};
 ghost use Rattle.bac_text.specs.Statuses.{IsStop};
 ghost use Rattle.bac_text.specs.Texts.{AppendsText};
 ghost use Rattle.bac_serving.specs.Keeping.{IsListed, IsThere, IsToldOf};
 ghost use Rattle.bac_serving.specs.Listing.{AreListed, AreValues, IsCellText, IsKeptWords, IsPartOf, IsValuesWords, IsWordsLine, Lists, OnListed};
 ghost use Rattle.bac_serving.specs.Listing.{count_in, is_chunk, line_in, octets_with, part_words as words_of};
 
-use crate::databases::Databases;
 use crate::keeping::{open_kept, print_not_kept};
 use crate::part_words::part_words;
 use bac_environment::{Environment, OpenFiles, opened};
 use bac_keep::{Cell, Part};
-use bac_keep_file::{Loss, kept_cells};
-use bac_keep_json::{KeptPart, print_cell_object};
+use bac_keep_file::{Databases, Loss, kept_cells};
+use bac_log_json::{KeptPart, print_cell_object};
 use bac_text::{Status, output_failed};
 use bac_value::{NoMemory, ObjectIdentifier, read_data};
 use bac_value_text::data_text;

@@ -19,16 +19,15 @@ ghost use Rattle.bac_serving.specs.Stores.{MeansStore};
 use crate::dropping::Dropping;
 use crate::extent::has_too_many_keys;
 use crate::followed::{Followed, FollowedPath, print_too_many_keys, print_unread_words};
-use crate::input::StandardInput;
 use crate::keep_faults::print_keep_fault;
 use crate::objects::{document_of, store_in};
-use crate::regular_files::RegularFiles;
 use crate::serving::{Serving, Start, epoch_of, print_listening, print_not_bound};
-use crate::standard_error::StandardError;
 use crate::stretching::Stretching;
 use bac_commands::{bound_server, clock_unread};
 use bac_driver::{Clock, RunLimit, WaitLimit};
-use bac_environment::{Environment, OpenFiles, Sockets, Station, octets_of};
+use bac_environment::{
+    Environment, OpenFiles, RegularFiles, Sockets, StandardError, StandardInput, Station, octets_of,
+};
 use bac_node::NewNodeFault;
 use bac_server::{LevelLog, LogFormat, print_served};
 use bac_store::Store;

@@ -13,10 +13,9 @@ ghost use Rattle.bac_serving.specs.Stores.{IsAnsweredFrom, IsServedFrom, MeansSt
 use crate::online;
 use crate::reasons::print_document_fault;
 use crate::serving::Serving;
-use crate::standard_error::StandardError;
 use bac_commands::answer_over;
 use bac_environment::{
-    Digits, Environment, OpenFiles, Sockets, octets_of, opened, print_bad_digit,
+    Digits, Environment, OpenFiles, Sockets, StandardError, octets_of, opened, print_bad_digit,
 };
 use bac_objects::{DocumentFault, read_objects};
 use bac_store::{Store, house};

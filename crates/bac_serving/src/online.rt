@@ -4,10 +4,9 @@ ghost use Rattle.bac_environment.specs.Sockets.{OnClock, OnPort};
 
 use crate::dropping::Dropping;
 use crate::serving::{Serving, Start, epoch_of, print_listening, print_not_bound, serve_from};
-use crate::standard_error::StandardError;
 use bac_commands::{bound_server, clock_unread};
 use bac_driver::Clock;
-use bac_environment::{Sockets, Station};
+use bac_environment::{Sockets, StandardError, Station};
 use bac_node::NewNodeFault;
 use bac_store::Store;
 use bac_text::{Status, complain, no_memory};

@@ -27,7 +27,7 @@ use bac_text::Status;
 use bac_transaction::Rules;
 use std::alloc::{AllocError, Global};
 use std::io;
-use std::io::Write;
+use std::io::{ErrorKind, Write};
 
 /// How many milliseconds after its restart a server serves again.
 const RESTED: u64 = 65_001;
@@ -195,7 +195,7 @@ impl Serving {
 }
 
 /// Complains that the system refuses a server its link: which, and the system's reason; in one line where it was to run until it is ended.
-pub(crate) fn print_not_bound<E: Write>(serving: &Serving, error: &io::Error, err: &mut E) -> Status
+fn print_refused<E: Write>(serving: &Serving, error: &io::Error, err: &mut E) -> Status
     ensures { result ≡ status.Output }
 {
     if serving.turns.is_some() {
@@ -206,6 +206,22 @@ pub(crate) fn print_not_bound<E: Write>(serving: &Serving, error: &io::Error, er
     // if that fails too, only the status is left
     let _ = writeln!(err, "link fault {a}.{b}.{c}.{d}:{port}: {error}");
     Status::Output
+}
+
+/// The same; where another program has the port, the last line says what to do.
+pub(crate) fn print_not_bound<E: Write>(serving: &Serving, error: &io::Error, err: &mut E) -> Status
+    ensures { result ≡ status.Output }
+{
+    let status = print_refused(serving, error, err);
+    if error.kind() == ErrorKind::AddrInUse {
+        let port = serving.port;
+        // if that fails too, only the status is left
+        let _ = writeln!(
+            err,
+            "port {port} is taken: stop the program that has it, or give another with --port"
+        );
+    }
+    status
 }
 
 /// Prints on `err` whether a node that begins then hears every address, or private ones alone and not its own. Then it prints where the node listens, and how many

@@ -7,8 +7,7 @@ ghost use Rattle.bac_serving.specs.Serving.{is_reusing, rules_by};
 
 use crate::guard_words::guard_of;
 use crate::serving::Serving;
-use bac_environment::{flag_of, number_of};
-use bac_lists::{BACNET_PORT, LOCAL_HOST, is_of_node, read_host};
+use bac_environment::{BACNET_PORT, LOCAL_HOST, flag_of, is_of_node, number_of, read_host};
 use bac_node::MEMORY;
 use bac_server::LogLevel;
 use bac_transaction::Rules;

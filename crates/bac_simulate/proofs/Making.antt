@@ -11,7 +11,7 @@ use Rattle.bac_network.specs.Fresh.{fresh_world, links_of, nodes_of, opening_of,
 use Rattle.bac_network.specs.Fresh.{greatest_window}
 use Rattle.bac_network.specs.declared.fault.NewWorldFault.{NewWorldFault}
 use Rattle.bac_network.specs.declared.fault.NewWorldFault.TheVariants as fault
-use Rattle.bac_node.specs.Fresh.{has_slots, window_fits}
+use Rattle.bac_network.specs.Fresh.{has_slots, window_fits}
 use Rattle.bac_network.specs.Histories.{WorldView}
 use Rattle.bac_store.specs.House.{house}
 use Rattle.bac_store.specs.Stores.{Store}

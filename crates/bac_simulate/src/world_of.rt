@@ -16,8 +16,7 @@ ghost use Rattle.bac_simulate.specs.Views.{happening_view, line_view, setting_vi
 use crate::line::{AskStranger, SetFile, SetProperty, Setting, Statement, Stranger};
 use crate::script::ScriptLine;
 use bac_apdu::Limits;
-use bac_network::{Event, NewClocksFault, NewWorldFault, Pace, World};
-use bac_node::Config;
+use bac_network::{Config, Event, NewClocksFault, NewWorldFault, Pace, World};
 use bac_npdu::{LinkAddress, Peer};
 use bac_store::{Change, Store, house};
 use bac_value::NoMemory;

@@ -1,7 +1,7 @@
 //! What a command line runs on beside files.
 
-use bac_asking::ClientSockets;
-use bac_serving::{Databases, StandardError, StandardInput};
+use bac_environment::{ClientSockets, StandardError, StandardInput};
+use bac_keep_file::Databases;
 
 /// The links and the clocks of a machine, its databases, its standard input and its standard error, and its copy of the program.
 pub trait Machine: ClientSockets + Databases + StandardInput + StandardError {

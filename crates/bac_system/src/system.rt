@@ -14,15 +14,15 @@ use crate::lasting::Lasting;
 use crate::machine::Machine;
 use crate::replacing::{make_private, put_out, remove_empty, rename, replace};
 use crate::since_boot::{SINCE_BOOT, SinceBoot};
-use bac_asking::{ClientSockets, NoPair};
 use bac_driver::{MonotonicClock, UdpLink};
-use bac_environment::{OpenFiles, Sockets};
+use bac_environment::{
+    ClientSockets, NoPair, OpenFiles, RegularFiles, Sockets, StandardError, StandardInput,
+};
 use bac_guard::{Guard, Guarded};
 use bac_keep::KeepFault;
-use bac_keep_file::{Checkpoint, KeptFile, Loss, OpenFault};
+use bac_keep_file::{Checkpoint, Databases, KeptFile, Loss, OpenFault};
 use bac_npdu::LinkAddress;
 use bac_pairs::{ClientPair, PairKey, left_at, pair_at};
-use bac_serving::{Databases, RegularFiles, StandardError, StandardInput};
 use mio::Interest;
 use std::cell::Cell;
 use std::fs::{File, Metadata, OpenOptions};

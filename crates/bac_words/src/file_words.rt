@@ -9,10 +9,10 @@ Example: bac get --to 192.168.1.20 file:1 > log.bin";
 pub(crate) const GET: &str = "\
 OBJECT|bare|always||The file to read, such as file:1, by type and instance
 out|text FILE|never||Writes the octets to FILE once it has read them all, and prints how many they are; without it, they go to standard output as they are
-port|number P 65535|never||The UDP port of the node to ask, on 127.0.0.1; 1 to 65535, 47808 by default
-to|text A.B.C.D[:P]|never|port|The IPv4 address of the node to ask, and its UDP port, 47808 by default; without it, a node at 127.0.0.1
-route|text NET:MAC|never||The node to ask is behind the router at that address: its network number, 1 to 65534, and its address there, 1 to 8 octets in hexadecimal
-timeout|number S 60|never||Stops waiting for an answer after S whole seconds, 1 to 60; a request ends by itself after at most 60 seconds";
+port
+to
+route
+timeout";
 
 /// Examples for `put`.
 pub(crate) const PUT_EXAMPLES: &str = "\
@@ -23,7 +23,7 @@ Example: bac put --to 192.168.1.20 file:1 log.bin";
 pub(crate) const PUT: &str = "\
 OBJECT|bare|always||The file to write, such as file:1, by type and instance
 FILE|bare|always||The file with the octets to write. If the device's file is longer, it is emptied first; if the device refuses that, nothing is written
-port|number P 65535|never||The UDP port of the node to ask, on 127.0.0.1; 1 to 65535, 47808 by default
-to|text A.B.C.D[:P]|never|port|The IPv4 address of the node to ask, and its UDP port, 47808 by default; without it, a node at 127.0.0.1
-route|text NET:MAC|never||The node to ask is behind the router at that address: its network number, 1 to 65534, and its address there, 1 to 8 octets in hexadecimal
-timeout|number S 60|never||Stops waiting for an answer after S whole seconds, 1 to 60; a request ends by itself after at most 60 seconds";
+port
+to
+route
+timeout";

@@ -119,7 +119,7 @@ More:
   ask         sends a request, or those of a list
   version     prints the version
   completion  prints a script for bash, zsh or fish
-`bac help read` explains read; `--all` says more of each, `values` lists names.
+`bac help read` explains read, `bac help --all` all, `bac help values` names.
 ";
 
 /// Writes all commands.

@@ -4,7 +4,7 @@ use crate::words::{Grammar, OTHERS};
 
 /// What `help` takes.
 const HELP: &str = "\
-COMMAND|bare|never|man all|The command to explain, or a list of names to print: `types` (of objects), `properties`, an enumeration such as `engineering-units`, or `values`, which lists the enumerations. Without it, the commands are listed on one screen
+COMMAND|bare|never|man all|The command to explain, or a list of names to print: `types` (of objects), `properties`, `units`, an enumeration such as `binary-pv`, or `values`, which lists the enumerations. Without it, the commands are listed on one screen
 all|flag|never|man|Lists all commands, and says what each does
 man|flag|never||Prints the manual page, for `man`";
 
@@ -17,7 +17,7 @@ const TOLD: &[Grammar] = &[
     Grammar {
         name: "help",
         about: "Explains a command: what it does, what its arguments mean, and examples",
-        after: "Example: bac help ask\nExample: bac help engineering-units\nExample: bac help --man > bac.1",
+        after: "Example: bac help ask\nExample: bac help units\nExample: bac help --man > bac.1",
         words: HELP,
     },
     Grammar {

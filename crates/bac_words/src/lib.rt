@@ -10,6 +10,7 @@ mod help;
 mod help_words;
 mod manual;
 mod nearest;
+mod node_words;
 mod people_words;
 mod shells;
 mod unexpected;

@@ -14,15 +14,16 @@ Example: bac read --to 192.168.1.20 --json analog-value:1 priority-array";
 /// What `read` takes.
 const READ: &str = "\
 OBJECT|several|always||The properties to read: OBJECT [PROPERTY].., repeated for more objects. If more than one property is read, each line is the object, the property and the value, with tabs between
-to|text A.B.C.D[:P]|never||The IPv4 address of the node to ask, and its UDP port, 47808 by default; without it, the node at 127.0.0.1:47808
-route|text NET:MAC|never||The node to ask is behind the router at that address: its network number, 1 to 65534, and its address there, 1 to 8 octets in hexadecimal
-timeout|text TIME|never||Stops waiting for an answer after this time, such as 500ms or 2s (a plain number is in seconds), at most 60 s; by default after four requests, 12 seconds
+port
+to
+route
+timeout
 json|flag|never||Prints each result as a JSON object, one per line, as `bac ask` does
 csv|flag|never|json|Prints each result as a CSV row, below a row with the names of the columns, as `bac ask` does";
 
 /// Examples for `write`.
 const WRITE_EXAMPLES: &str = "\
-VALUE is written as `bac read` prints it: 21.5, active, degrees-celsius, hex:0AFF, a text as it is, or null to relinquish. Its kind is that of the value that the property has now
+VALUE is written as `bac read` prints it: 21.5, active, degrees-celsius, hex:0AFF, null to relinquish, or a text as it is (in a text property, null is a text too). Its kind is that of the value that the property has now
 
 Example: bac write analog-value:1 21.5
 Example: bac write --to 192.168.1.20 --priority 8 binary-output:1 active
@@ -34,9 +35,10 @@ const WRITE: &str = "\
 OBJECT|several|always||The property to write, and its new value: OBJECT [PROPERTY] VALUE; without a property, the present-value
 priority|number N 16|never||The priority of the write, 1 (highest) to 16 (lowest)
 kind|choice KIND|never||The kind of VALUE: null, boolean, unsigned, signed, real, double, octets, text, bits, enumerated, date, time or object. By default the kind of the value that the property has now; required if that is null, or the property has no value or several
-to|text A.B.C.D[:P]|never||The IPv4 address of the node to ask, and its UDP port, 47808 by default; without it, the node at 127.0.0.1:47808
-route|text NET:MAC|never||The node to ask is behind the router at that address: its network number, 1 to 65534, and its address there, 1 to 8 octets in hexadecimal
-timeout|text TIME|never||Stops waiting for an answer after this time, such as 500ms or 2s (a plain number is in seconds), at most 60 s; by default after four requests, 12 seconds";
+port
+to
+route
+timeout";
 
 /// Examples for `points`.
 const POINTS_EXAMPLES: &str = "\
@@ -46,9 +48,10 @@ Example: bac points --to 192.168.1.20 --device 100 --csv > points.csv";
 
 /// What `points` takes.
 const POINTS: &str = "\
-to|text A.B.C.D[:P]|never||The IPv4 address of the node to ask, and its UDP port, 47808 by default; without it, the node at 127.0.0.1:47808
-route|text NET:MAC|never||The node to ask is behind the router at that address: its network number, 1 to 65534, and its address there, 1 to 8 octets in hexadecimal
-timeout|text TIME|never||Stops waiting for an answer after this time, such as 500ms or 2s (a plain number is in seconds), at most 60 s; by default after four requests, 12 seconds
+port
+to
+route
+timeout
 device|index N 4194303|never||The instance of the device, 0 to 4194303; by default 4194303, which stands for any instance, and which not every device accepts
 json|flag|never||Prints each object as a JSON object, one per line
 csv|flag|never|json|Prints each object as a CSV row, below a row with the names of the columns";

@@ -6,9 +6,6 @@ use crate::words::{Grammar, Word, WordForm};
 use clap::error::ErrorKind;
 use std::alloc::{AllocError, Global};
 
-/// What is told of `--port` where a command takes the port of a node behind its address alone.
-const PORT_HINT: &str = "give the port with the address: --to 127.0.0.1:47808";
-
 /// A word without the text that stands in it behind `=`.
 fn without_text(word: &str) -> &str {
     match word.split_once('=') {
@@ -69,11 +66,6 @@ fn is_document(grammar: &Grammar, word: &str) -> bool {
     word.ends_with(".toml") && has_option(grammar, "objects")
 }
 
-/// Whether a word that a command does not take is `--port`, and the command takes the port behind the address.
-fn is_port(grammar: &Grammar, word: &str) -> bool {
-    named_part(word) == "--port" && has_option(grammar, "to")
-}
-
 /// What is meant by a word that a command does not take, if that is known.
 fn meant_by(alloc: Global, grammar: &Grammar, word: &str) -> Result<Option<String>, AllocError> {
     if let Some(name) = option_meant(grammar, word) {
@@ -90,9 +82,6 @@ fn meant_by(alloc: Global, grammar: &Grammar, word: &str) -> Result<Option<Strin
 
 /// What is told behind a word that a command does not take, if that is known.
 fn hint_of(alloc: Global, grammar: &Grammar, word: &str) -> Result<Option<String>, AllocError> {
-    if is_port(grammar, word) {
-        return Ok(Some(String::from_str(alloc, PORT_HINT)?));
-    }
     match meant_by(alloc, grammar, word)? {
         Some(meant) => Ok(Some(format!(in alloc; "did you mean {meant}?")?)),
         None => Ok(None),

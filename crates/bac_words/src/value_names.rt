@@ -8,6 +8,7 @@ fn enumeration_word(name: &str) -> &str {
     match name {
         "types" => "object-type",
         "properties" => "property-identifier",
+        "units" => "engineering-units",
         _ => name,
     }
 }

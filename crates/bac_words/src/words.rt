@@ -3,10 +3,12 @@
 //! What a command takes is a text with a line for each word, in the order in which help lists them: `NAME|FORM|NEED|AGAINST|HELP`.
 //! FORM is `bare`, `several`, `flag`, `one-of` (one of those that [`names_of`] has for NAME), `text VALUE`, `number VALUE MOST` (from 1), `index VALUE MOST` (from 0)
 //! or `choice VALUE` (one of those names); VALUE is what help calls the text behind the name. NEED is `always`, `never`, `unless WORD`, `beside WORD` or, at the first of
-//! words of which one is required, `one WORD..`. AGAINST is the words that it conflicts with, with spaces between.
+//! words of which one is required, `one WORD..`. AGAINST is the words that it conflicts with, with spaces between. A line with `port`, `to`, `route` or `timeout` alone
+//! stands for the word of that name that all commands take which ask a node.
 use crate::capture_words::{
     CHECK, CHECK_EXAMPLES, DECODE, DECODE_EXAMPLES, EXPLAIN, EXPLAIN_EXAMPLES,
 };
+use crate::node_words::whole_line;
 
 /// How a word of a command is given.
 #[derive(Clone, Copy)]
@@ -110,7 +112,7 @@ fn need_of(text: &'static str) -> Need {
 impl Word {
     /// The word of a line of a command's words.
     pub(crate) fn of(line: &'static str) -> Word {
-        let (name, line) = parts(line, '|');
+        let (name, line) = parts(whole_line(line), '|');
         let (form, line) = parts(line, '|');
         let (need, line) = parts(line, '|');
         let (against, help) = parts(line, '|');
@@ -257,8 +259,8 @@ Example: bac ask --port 47808 put file:1 @log.bin";
 const ASK: &str = "\
 port|number P 65535|one port to lines||The UDP port of the node to ask, on 127.0.0.1; 1 to 65535
 to|text A.B.C.D[:P]|never|port|The IPv4 address of the node to ask, and its UDP port, 47808 by default
-route|text NET:MAC|never||The node to ask is behind the router at that address: its network number, 1 to 65534, and its address there, 1 to 8 octets in hexadecimal
-timeout|number S 60|never||Stops waiting after S whole seconds, 1 to 60, and prints `no ending`; a request ends by itself after at most 60 seconds
+route
+timeout|text TIME|never||Stops waiting after TIME, such as 500ms, 2s or 0.5 (a plain number is in seconds), at most 60 s, and prints `no ending`; a request ends by itself after at most 60 seconds
 text|flag|never||Prints values with their kinds, errors and reasons by name, and the invalid argument
 fail|flag|never||Ends with status 1 also if the response is an Error, or is for another object, property or index
 raw|flag|never|text|For `get`: writes only the octets of the file; if there are none, standard error says how the request ended, and the status is 1

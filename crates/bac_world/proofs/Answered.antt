@@ -12,6 +12,7 @@ use Rattle.bac_service.specs.Requests.{SpellsRequest}
 use Rattle.bac_service.proofs.Spelled.{request_spelled}
 use Rattle.bac_service.proofs.Wholes.{request_again}
 use Rattle.bac_protocol.specs.Context.{Context}
+use Rattle.bac_protocol.specs.Pace.{Pace, one_clock}
 use Rattle.bac_protocol.specs.Service.{Octets}
 use Rattle.bac_protocol.specs.Service as machine
 use Rattle.bac_protocol.specs.Short.{IsShort}
@@ -23,7 +24,6 @@ use Rattle.bac_transaction.specs.Meanings.Ending.{Answered}
 use Rattle.bac_transaction.specs.Ends.{Accepted, accepts, context_of, server_goes, requester_on_apdu}
 use Rattle.bac_transaction.specs.Services.{service_of, outcome_by}
 use Rattle.bac_service.specs.Services.{reads_reply}
-use Rattle.bac_world.specs.Services.{Performed}
 use Rattle.bac_world.specs.Node.{Node, Outcome, IsServerTurn, NodeAsks}
 use Rattle.bac_world.specs.Once.{Fact}
 use Rattle.bac_world.specs.World.{World, Copy, Note, Hears, IsAsked, IsDelivered, IsFreshNode, IsCopied, link_at, peer_at, with_act, with_ask}
@@ -48,7 +48,7 @@ pub ask_fits : IsTrue (apdu_fits ASK)
 unfolding apdu_fits
 ask_fits = refl
 
-answer_fits : IsTrue (apdu_fits ANSWER)
+pub answer_fits : IsTrue (apdu_fits ANSWER)
 unfolding apdu_fits
 answer_fits = refl
 
@@ -56,7 +56,7 @@ pub ask_short : IsShort ASK
 unfolding apdu_spelling
 ask_short = omega arith
 
-answer_short : IsShort ANSWER
+pub answer_short : IsShort ANSWER
 unfolding apdu_spelling
 answer_short = omega arith
 
@@ -128,7 +128,7 @@ pub others_first : {A : Type 0} (a b c : A) (j : ℕ) → j ≢ 0 → slice_get 
 others_first a b c zero ne = absurd (ne refl)
 others_first a b c (suc j) ne = refl
 
-others_second : {A : Type 0} (a b c : A) (j : ℕ) → j ≢ 1 → slice_get (c ∷ a ∷ []) j ≡ slice_get (c ∷ b ∷ []) j
+pub others_second : {A : Type 0} (a b c : A) (j : ℕ) → j ≢ 1 → slice_get (c ∷ a ∷ []) j ≡ slice_get (c ∷ b ∷ []) j
 others_second a b c zero ne = refl
 others_second a b c (suc zero) ne = absurd (ne refl)
 others_second a b c (suc (suc j)) ne = refl
@@ -143,8 +143,10 @@ asks = record {
   sent = (sent (link 1) ASK ask_fits ask_short, tt);
 }
 
-abbrev pub asked : IsAsked OPENING 0 1 LIMITS REQUEST SECOND
-asked = record {
+-- whatever clocks do from then on
+abbrev pub asked_at : (pace : Pace) → IsAsked (record (OPENING) { time = record (TIME) { pace = pace } }) 0 1 LIMITS REQUEST
+    (record (SECOND) { time = record (TIME) { pace = pace }; lives = with_ask (record (TIME) { pace = pace }) OPENING.lives 0 })
+asked_at pace = record {
   before = node 0;
   at = refl;
   link = link 1;
@@ -163,13 +165,16 @@ asked = record {
   log = refl;
 }
 
--- The request is delivered.
+abbrev pub asked : IsAsked OPENING 0 1 LIMITS REQUEST SECOND
+asked = asked_at one_clock
 
-abbrev CONTEXT : Context
-CONTEXT = context_of SETTINGS 0 (key 0)
+-- Node 1 hears the request from the peer at link n.
 
-abbrev done_by : machine.Outcome → server.Reaction
-done_by o = performs_so CONTEXT (begins CONTEXT 12 LIMITS (Some SERVICE_DATA)) [] SERVICE_DATA o
+abbrev context : (now n : ℕ) → Context
+context now n = context_of SETTINGS now (key n)
+
+abbrev done_by : (now n : ℕ) → machine.Outcome → server.Reaction
+done_by now n o = performs_so (context now n) (begins (context now n) 12 LIMITS (Some SERVICE_DATA)) [] SERVICE_DATA o
 
 abbrev REPLIES : machine.Outcome
 REPLIES = machine.Outcome.Replies (machine.Reply.Error 1 31)
@@ -177,26 +182,32 @@ REPLIES = machine.Outcome.Replies (machine.Reply.Error 1 31)
 says : service_of STORE 12 SERVICE_DATA ≡ REPLIES
 says = ap (outcome_by STORE) (request_again 12 SERVICE_DATA REQUEST spelled)
 
-abbrev PERFORMED : Performed
-PERFORMED = record { key = key 0; request = REQUEST; reply = REPLY }
+abbrev pub served_node : (now n : ℕ) → Node
+served_node now n = record (node 1) { latest = now; servers = (server_goes now (node 1).servers (key n) (done_by now n REPLIES)).end }
 
-abbrev SERVED_NODE : Node
-SERVED_NODE = record (node 1) { servers = (server_goes 0 (record { slots = []; capacity = 1; serves_from = 0 }) (key 0) (done_by REPLIES)).end }
+abbrev pub served_outcome : ℕ → Outcome
+served_outcome n = record
+    { sends = datagram (link n) ANSWER ∷ []; performed = Some (record { key = key n; request = REQUEST; reply = REPLY }); ended = []; dropped = None }
 
-abbrev SERVED : Outcome
-SERVED = record { sends = datagram (link 0) ANSWER ∷ []; performed = Some PERFORMED; ended = []; dropped = None }
+abbrev ServerTurn : (now n : ℕ) → machine.Outcome → Type 0
+ServerTurn now n o = IsServerTurn (server_goes now (node 1).servers (key n) (done_by now n o)) now (node 1) (served_node now n) (served_outcome n)
 
-abbrev ServerTurn : machine.Outcome → Type 0
-ServerTurn o = IsServerTurn (server_goes 0 (record { slots = []; capacity = 1; serves_from = 0 }) (key 0) (done_by o)) 0 (node 1) SERVED_NODE SERVED
-
-turn : ServerTurn REPLIES
-turn = record {
+turn : (now n : ℕ) → ServerTurn now n REPLIES
+turn now n = record {
   node = refl;
-  sends = (sent (link 0) ANSWER answer_fits answer_short, tt);
+  sends = (sent (link n) ANSWER answer_fits answer_short, tt);
   ended = refl;
   performed = record { key = refl; what = record { request = spelled; reply = refl; means = (refl, refl) } };
   dropped = refl;
 }
+
+pub request_served : (now n : ℕ) → ServerTurn now n (service_of STORE 12 SERVICE_DATA)
+request_served now n = subst (ServerTurn now n) (sym says) (turn now n)
+
+-- The request is delivered.
+
+abbrev SERVED_NODE : Node
+SERVED_NODE = served_node 0 0
 
 abbrev pub THIRD : World
 THIRD =
@@ -230,13 +241,13 @@ served = record {
   before = node 1;
   at = refl;
   after = SERVED_NODE;
-  outcome = SERVED;
+  outcome = served_outcome 0;
   on = inr (record {
     peer = peer_at (link 0);
     apdu = ASK;
     foreign = apart;
     means = means (link 0) (link 1) ASK ask_fits ask_short;
-    heard = subst ServerTurn (sym says) turn;
+    heard = request_served 0 0;
   });
   acts = record {
     nodes = record { here = refl; others = others_second SERVED_NODE (node 1) ASKED_NODE };
@@ -348,35 +359,19 @@ answered_run = record {
 
 -- A stranger's request is heard.
 
-no_node : (j : ℕ) → link_at OPENING.nodes j ≡ Some (link 2) → ⊥
+pub no_node : (j : ℕ) → link_at OPENING.nodes j ≡ Some (link 2) → ⊥
 no_node zero e = let is : link 0 ≡ link 2 = cc in cc
 no_node (suc zero) e = let is : link 1 ≡ link 2 = cc in cc
 no_node (suc (suc j)) e = absurd cc
 
-not_own : link 2 ≢ link 1
+pub not_own : link 2 ≢ link 1
 not_own e = cc
 
 abbrev STRANGER_NODE : Node
-STRANGER_NODE = record (node 1) { servers = (server_goes 0 (record { slots = []; capacity = 1; serves_from = 0 }) (key 2) (done_by REPLIES)).end }
+STRANGER_NODE = served_node 0 2
 
 abbrev STRANGER_ENTRY : ServerTransaction
-STRANGER_ENTRY = record (begins CONTEXT 12 LIMITS (Some SERVICE_DATA)) { state = server.State.Done ANSWER }
-
-abbrev STRANGER_SERVED : Outcome
-STRANGER_SERVED = record
-    { sends = datagram (link 2) ANSWER ∷ []; performed = Some (record { key = key 2; request = REQUEST; reply = REPLY }); ended = []; dropped = None }
-
-abbrev StrangerTurn : machine.Outcome → Type 0
-StrangerTurn o = IsServerTurn (server_goes 0 (record { slots = []; capacity = 1; serves_from = 0 }) (key 2) (done_by o)) 0 (node 1) STRANGER_NODE STRANGER_SERVED
-
-stranger_turn : StrangerTurn REPLIES
-stranger_turn = record {
-  node = refl;
-  sends = (sent (link 2) ANSWER answer_fits answer_short, tt);
-  ended = refl;
-  performed = record { key = refl; what = record { request = spelled; reply = refl; means = (refl, refl) } };
-  dropped = refl;
-}
+STRANGER_ENTRY = record (begins (context 0 2) 12 LIMITS (Some SERVICE_DATA)) { state = server.State.Done ANSWER }
 
 abbrev STRANGER_WORLD : World
 STRANGER_WORLD =
@@ -394,13 +389,13 @@ stranger_served = record {
   before = node 1;
   at = refl;
   after = STRANGER_NODE;
-  outcome = STRANGER_SERVED;
+  outcome = served_outcome 2;
   on = inr (record {
     peer = peer_at (link 2);
     apdu = ASK;
     foreign = not_own;
     means = means (link 2) (link 1) ASK ask_fits ask_short;
-    heard = subst StrangerTurn (sym says) stranger_turn;
+    heard = request_served 0 2;
   });
   acts = record {
     nodes = record { here = refl; others = others_second STRANGER_NODE (node 1) (node 0) };

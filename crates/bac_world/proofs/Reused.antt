@@ -10,7 +10,7 @@ use Rattle.bac_protocol.specs.Server as server
 use Rattle.bac_protocol.specs.Server.{Reaction, ServerTransaction, Service, is_live, is_none_live, live_entry, server_on_apdu}
 use Rattle.bac_protocol.specs.Reuse.{ends_entry, has_transfer, idle_on_read, idle_reusing, is_ended_by, left_on_apdu, reads_so, reusing_on_apdu, server_hears}
 use Rattle.bac_protocol.specs.Steps.{IsSameReaction}
-use Rattle.bac_protocol.proofs.Dead.{gets_same, same_of, same_then}
+use Rattle.bac_protocol.proofs.Dead.{gets_same, same_back, same_of, same_then}
 use Rattle.bac_protocol.proofs.Own.{server_sends_own}
 use Rattle.bac_slots.specs.Slots.{value_at, without, IsApart, IsDistinct}
 use Rattle.bac_transaction.specs.Ends.{ServerSlot}
@@ -20,6 +20,15 @@ use Rattle.bac_transaction.proofs.KeyedSlots.{EachSlot, apart_none, key_is, pass
 use Rattle.bac_transaction.proofs.ServerTables.{idle_is}
 use Rattle.bac_world.proofs.Settings.{slots_heard}
 use Rattle.bac_world.proofs.Table.{none_left}
+
+-- what makes of an entry that is not live what it makes of none makes the same of two entries where each is live as the other is
+pub alike_by_live : (now : ℕ) (by : Option ServerTransaction → Reaction) → ((o : Option ServerTransaction) → IsSameReaction now (by o) (by (live_entry now o)))
+    → (a b : Option ServerTransaction) → live_entry now a ≡ live_entry now b → IsSameReaction now (by a) (by b)
+alike_by_live now by dead a b fit =
+    same_then now (by a) (by (live_entry now a)) (by b) (dead a)
+    (same_then now (by (live_entry now a)) (by (live_entry now b)) (by b)
+    (same_of now (by (live_entry now a)) (by (live_entry now b)) (ap by fit))
+    (same_back now (by b) (by (live_entry now b)) (dead b)))
 
 module _ (c : Context) (service : Service) (free : Bool) where
   -- An entry that is not live counts as none.

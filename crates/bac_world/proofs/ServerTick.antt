@@ -11,7 +11,7 @@ use Rattle.bac_protocol.specs.World.{Net, server_acts, set_at}
 use Rattle.bac_protocol.specs.Claims.{IsBounded}
 use Rattle.bac_protocol.specs.Steps.{IsSameReaction, StaysIn}
 use Rattle.bac_protocol.proofs.Keys.{set_same, set_other, decide_key}
-use Rattle.bac_protocol.proofs.Dead.{dead_is_none, same_of, same_then, same_back}
+use Rattle.bac_protocol.proofs.Dead.{dead_is_none}
 use Rattle.bac_protocol.proofs.Served.{live_stays_law, ticks_quiet}
 use Rattle.bac_protocol.proofs.Own.{server_sends_own}
 use Rattle.bac_slots.specs.Slots.{value_at, IsApart, IsDistinct}
@@ -35,6 +35,7 @@ use Rattle.bac_world.specs.World.{AreCopied}
 use Rattle.bac_protocol.specs.World.{server_acts_away, begin_of}
 use Rattle.bac_protocol.specs.Transaction.{served}
 use Rattle.bac_world.proofs.StrangersHeard.{stranger_one, others_fit_away}
+use Rattle.bac_world.proofs.Reused.{alike_by_live}
 use Rattle.bac_world.proofs.Serving.{others_fit, one_client, each_of_server}
 use Rattle.bac_world.proofs.Settings.{Setting}
 
@@ -89,6 +90,44 @@ module _ (links : ℕ → Option Octets) (apart : (i j : ℕ) (l : Octets) → l
         subst (λ (d : List Datagram). AreCopied w.nodes n.now i d cs) ds_is copied in
         (m, subst (λ (l : List Copy). Served (λ q. value_at same_key q all) l m) (sym (append_none copies) ∙ ap (λ (l : List Copy). copies ++ l) (sym cs_is)) r)
 
+    -- An entry that is not live sends nothing and stays as it is.
+    dead_entry : (p : PeerKey) (begin : ℕ) (d : ServerTransaction) (os : List ServerSlot) → Folds os → is_live (there_at n i) d ≡ false → Folds (slot ServerTransaction p begin d ∷ os)
+    dead_entry p begin d os again dead distinct known change copies m r ds cs sent copied =
+        again distinct.1 known.1 (change_rest ServerTransaction tick all p begin d os distinct.0 change) copies m alike ds cs
+        (subst (λ (z : List Send). Pairwise IsSent z ds)
+        (ap (λ (v : server.Reaction). to_all p.peer v.sends ++ from_each (server_tick_sends (x.settings i) (there_at n i)) os) still) sent) copied
+      where
+        context : Context
+        context = context_of (x.settings i) (there_at n i) p
+
+        still : server_ticks context (Some d) ≡ server.rests (Some d) []
+        still = ap (λ b. if b then server.live_ticks context d d.state else server.rests (Some d) []) dead
+
+        alike : Served (look ServerTransaction tick all os) copies m
+        alike = record {
+          alike = r.alike;
+          made = r.made;
+          restarted = r.restarted;
+          asks = r.asks;
+          numbers = r.numbers;
+          tickets = r.tickets;
+          far_tickets = r.far_tickets;
+          far_numbers = r.far_numbers;
+          log = r.log;
+          asks_from = r.asks_from;
+          serves_from = r.serves_from;
+          entries = λ c l' id' at'. ap (live_entry (there_at n i))
+              (sym (look_same ServerTransaction tick all p begin d os distinct.0 change (ap (λ (v : server.Reaction). entry_or d v.entry) still) (slot_key l' id')))
+              ∙ r.entries c l' id' at';
+          strangers = λ q f. ap (live_entry (there_at n i))
+              (sym (look_same ServerTransaction tick all p begin d os distinct.0 change (ap (λ (v : server.Reaction). entry_or d v.entry) still) q))
+              ∙ r.strangers q f;
+          others = r.others;
+          posts = r.posts;
+          sound = r.sound;
+          leads = r.leads;
+        }
+
     -- The net's entry goes on like the slot's.
     module _ (node : ℕ) (l : Octets) (id : ℕ) (at : links node ≡ Some l) (begin : ℕ) (d : ServerTransaction) (os : List ServerSlot) where
       abbrev p : PeerKey
@@ -114,13 +153,9 @@ module _ (links : ℕ → Option Octets) (apart : (i j : ℕ) (l : Octets) → l
 
         same : IsSameReaction (there_at n i) did does
         same =
-            let e : Option ServerTransaction = m.entries key in
-            let ticks : Option ServerTransaction → server.Reaction = server_ticks context in
-            subst (λ (now : ℕ). IsSameReaction (there_at n i) did (server_ticks (server_context x key now) e)) (sym (ap (λ (f : ℕ → Clock). (f i).shows) r.alike.there))
-            (same_then (there_at n i) did (ticks (live_entry (there_at n i) (Some d))) (ticks e) (dead_is_none.ticks context (Some d))
-            (same_then (there_at n i) (ticks (live_entry (there_at n i) (Some d))) (ticks (live_entry (there_at n i) e)) (ticks e)
-            (same_of (there_at n i) (ticks (live_entry (there_at n i) (Some d))) (ticks (live_entry (there_at n i) e)) (ap ticks fit))
-            (same_back (there_at n i) (ticks e) (ticks (live_entry (there_at n i) e)) (dead_is_none.ticks context e))))
+            subst (λ (now : ℕ). IsSameReaction (there_at n i) did (server_ticks (server_context x key now) (m.entries key)))
+            (sym (ap (λ (f : ℕ → Clock). (f i).shows) r.alike.there))
+            (alike_by_live (there_at n i) (server_ticks context) (dead_is_none.ticks context) (Some d) (m.entries key) fit)
 
         made : look ServerTransaction tick all os p ≡ did.entry
         made = look_here ServerTransaction tick all p begin d os away change ∙ stays_some d did.entry (live_stays_law.ticks context d live)
@@ -191,56 +226,9 @@ module _ (links : ℕ → Option Octets) (apart : (i j : ℕ) (l : Octets) → l
                 (append_assoc copies e.front e.rest ∙ ap (λ (z : List Copy). copies ++ z) (sym e.is)) rest.1,
           )
 
-      -- one that is not live sends nothing and stays as it is
-      one_dead : Folds os → is_live (there_at n i) d ≡ false → Folds (slot ServerTransaction (slot_key l id) begin d ∷ os)
-      one_dead again dead distinct known change copies m r ds cs sent copied =
-          again distinct.1 known.1 (change_rest ServerTransaction tick all p begin d os distinct.0 change) copies m alike ds cs
-          (subst (λ (z : List Send). Pairwise IsSent z ds)
-          (ap (λ (v : server.Reaction). to_all (peer_at l) v.sends ++ from_each (server_tick_sends (x.settings i) (there_at n i)) os) still) sent) copied
-        where
-          still : server_ticks context (Some d) ≡ server.rests (Some d) []
-          still = ap (λ b. if b then server.live_ticks context d d.state else server.rests (Some d) []) dead
-
-          alike : Served (look ServerTransaction tick all os) copies m
-          alike = record {
-            alike = record {
-              now = r.alike.now;
-              pace = r.alike.pace;
-              here = r.alike.here;
-              there = r.alike.there;
-              asked = r.alike.asked;
-              served = r.alike.served;
-              sends = r.alike.sends;
-              tickets = r.alike.tickets;
-              far_tickets = r.alike.far_tickets;
-              entries = r.alike.entries;
-              far_entries = r.alike.far_entries;
-            };
-            made = r.made;
-            restarted = r.restarted;
-            asks = r.asks;
-            numbers = r.numbers;
-            tickets = r.tickets;
-            far_tickets = r.far_tickets;
-            far_numbers = r.far_numbers;
-            log = r.log;
-            asks_from = r.asks_from;
-            serves_from = r.serves_from;
-            entries = λ c l' id' at'. ap (live_entry (there_at n i))
-                (sym (look_same ServerTransaction tick all p begin d os distinct.0 change (ap (λ (v : server.Reaction). entry_or d v.entry) still) (slot_key l' id')))
-                ∙ r.entries c l' id' at';
-            strangers = λ q g. ap (live_entry (there_at n i))
-                (sym (look_same ServerTransaction tick all p begin d os distinct.0 change (ap (λ (v : server.Reaction). entry_or d v.entry) still) q))
-                ∙ r.strangers q g;
-            others = r.others;
-            posts = r.posts;
-            sound = r.sound;
-            leads = r.leads;
-          }
-
       one_entry : Folds os → (b : Bool) → is_live (there_at n i) d ≡ b → Folds (slot ServerTransaction (slot_key l id) begin d ∷ os)
       one_entry again true live = one_live again live
-      one_entry again false dead = one_dead again dead
+      one_entry again false dead = dead_entry (slot_key l id) begin d os again dead
 
     -- The same of a stranger's entry; what it sends is not followed.
     module _ (p : PeerKey) (g : IsStranger links apart p) (begin : ℕ) (d : ServerTransaction) (os : List ServerSlot) where
@@ -263,13 +251,9 @@ module _ (links : ℕ → Option Octets) (apart : (i j : ℕ) (l : Octets) → l
 
         stranger_same : IsSameReaction (there_at n i) stranger_did stranger_does
         stranger_same =
-            let e : Option ServerTransaction = m.far.entries far_key in
-            let ticks : Option ServerTransaction → server.Reaction = server_ticks far_context in
-            subst (λ (now : ℕ). IsSameReaction (there_at n i) stranger_did (server_ticks (server_context x far_key now) e)) (sym (ap (λ (f : ℕ → Clock). (f i).shows) r.alike.there))
-            (same_then (there_at n i) stranger_did (ticks (live_entry (there_at n i) (Some d))) (ticks e) (dead_is_none.ticks far_context (Some d))
-            (same_then (there_at n i) (ticks (live_entry (there_at n i) (Some d))) (ticks (live_entry (there_at n i) e)) (ticks e)
-            (same_of (there_at n i) (ticks (live_entry (there_at n i) (Some d))) (ticks (live_entry (there_at n i) e)) (ap ticks stranger_fit))
-            (same_back (there_at n i) (ticks e) (ticks (live_entry (there_at n i) e)) (dead_is_none.ticks far_context e))))
+            subst (λ (now : ℕ). IsSameReaction (there_at n i) stranger_did (server_ticks (server_context x far_key now) (m.far.entries far_key)))
+            (sym (ap (λ (f : ℕ → Clock). (f i).shows) r.alike.there))
+            (alike_by_live (there_at n i) (server_ticks far_context) (dead_is_none.ticks far_context) (Some d) (m.far.entries far_key) stranger_fit)
 
         stranger_made : look ServerTransaction tick all os p ≡ stranger_did.entry
         stranger_made = look_here ServerTransaction tick all p begin d os away change ∙ stays_some d stranger_did.entry (live_stays_law.ticks far_context d live)
@@ -332,55 +316,9 @@ module _ (links : ℕ → Option Octets) (apart : (i j : ℕ) (l : Octets) → l
                 (sym (e.is ∙ ap (λ (z : List Copy). z ++ e.rest) none)) rest.1,
           )
 
-      stranger_dead : Folds os → is_live (there_at n i) d ≡ false → Folds (slot ServerTransaction p begin d ∷ os)
-      stranger_dead again dead distinct known change copies m r ds cs sent copied =
-          again distinct.1 known.1 (change_rest ServerTransaction tick all p begin d os distinct.0 change) copies m alike ds cs
-          (subst (λ (z : List Send). Pairwise IsSent z ds)
-          (ap (λ (v : server.Reaction). to_all p.peer v.sends ++ from_each (server_tick_sends (x.settings i) (there_at n i)) os) still) sent) copied
-        where
-          still : server_ticks far_context (Some d) ≡ server.rests (Some d) []
-          still = ap (λ b. if b then server.live_ticks far_context d d.state else server.rests (Some d) []) dead
-
-          alike : Served (look ServerTransaction tick all os) copies m
-          alike = record {
-            alike = record {
-              now = r.alike.now;
-              pace = r.alike.pace;
-              here = r.alike.here;
-              there = r.alike.there;
-              asked = r.alike.asked;
-              served = r.alike.served;
-              sends = r.alike.sends;
-              tickets = r.alike.tickets;
-              far_tickets = r.alike.far_tickets;
-              entries = r.alike.entries;
-              far_entries = r.alike.far_entries;
-            };
-            made = r.made;
-            restarted = r.restarted;
-            asks = r.asks;
-            numbers = r.numbers;
-            tickets = r.tickets;
-            far_tickets = r.far_tickets;
-            far_numbers = r.far_numbers;
-            log = r.log;
-            asks_from = r.asks_from;
-            serves_from = r.serves_from;
-            entries = λ c l' id' at'. ap (live_entry (there_at n i))
-                (sym (look_same ServerTransaction tick all p begin d os distinct.0 change (ap (λ (v : server.Reaction). entry_or d v.entry) still) (slot_key l' id')))
-                ∙ r.entries c l' id' at';
-            strangers = λ q f. ap (live_entry (there_at n i))
-                (sym (look_same ServerTransaction tick all p begin d os distinct.0 change (ap (λ (v : server.Reaction). entry_or d v.entry) still) q))
-                ∙ r.strangers q f;
-            others = r.others;
-            posts = r.posts;
-            sound = r.sound;
-            leads = r.leads;
-          }
-
       stranger_entry : Folds os → (b : Bool) → is_live (there_at n i) d ≡ b → Folds (slot ServerTransaction p begin d ∷ os)
       stranger_entry again true live = stranger_live again live
-      stranger_entry again false dead = stranger_dead again dead
+      stranger_entry again false dead = dead_entry p begin d os again dead
 
     by_peer : (s : ServerSlot) (os : List ServerSlot) → Folds os → IsKnown links apart s.key ⊎ IsStranger links apart s.key
         → Folds (slot ServerTransaction s.key s.begin s.value ∷ os)

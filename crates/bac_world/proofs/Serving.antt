@@ -23,7 +23,6 @@ use Rattle.bac_protocol.specs.World as machine
 use Rattle.bac_protocol.specs.Claims.{IsBounded}
 use Rattle.bac_protocol.specs.Steps.{IsSameReaction}
 use Rattle.bac_protocol.proofs.Keys.{set_same, set_other, decide_key}
-use Rattle.bac_protocol.proofs.Dead.{same_of, same_then, same_back}
 use Rattle.bac_reuse.specs.Moves.{IsOrderlySo}
 use Rattle.bac_slots.specs.Slots.{value_at}
 use Rattle.bac_transaction.specs.Keys.{PeerKey, same_key}
@@ -48,7 +47,7 @@ use Rattle.bac_world.proofs.Logs.{FactMeans, WasAskedAs, asked_as, unperformed}
 use Rattle.bac_world.proofs.Bridge.{NodeFits, ServersFit, IsKnown, IsStranger, IsCopyOf, IsWay, EntryFits, key_of, slot_key, stranger_key, copies_of, copied_to}
 use Rattle.bac_world.proofs.Steps.{Over, Fits, Goes, served_elsewhere, set_elsewhere, acts_over, once_same, stores_same}
 use Rattle.bac_transaction.proofs.Entries.{entry_here, entry_there, entry_distinct, entry_each}
-use Rattle.bac_world.proofs.Reused.{AreLeft, heard_left, heard_none, hears_own, hears_same}
+use Rattle.bac_world.proofs.Reused.{AreLeft, alike_by_live, heard_left, heard_none, hears_own, hears_same}
 
 -- what a server sends is no client's
 server_is_no_client : (a : Apdu) → is_from_server a ≡ true → is_from_client a ≡ false
@@ -332,13 +331,8 @@ module _ (links : ℕ → Option Octets) (apart : (i j : ℕ) (l : Octets) → l
         u = gets (n.entries key)
 
         same : IsSameReaction (there_at n key.server) v u
-        same =
-            let o : Option ServerTransaction = value_at same_key q a.servers.slots in
-            let e : Option ServerTransaction = n.entries key in
-            same_then (there_at n key.server) v (gets (live_entry (there_at n key.server) o)) u (hears_same context service free reuse o apdu)
-            (same_then (there_at n key.server) (gets (live_entry (there_at n key.server) o)) (gets (live_entry (there_at n key.server) e)) u
-            (same_of (there_at n key.server) (gets (live_entry (there_at n key.server) o)) (gets (live_entry (there_at n key.server) e)) (ap gets (fits.servers.found key.client l key.invoke_id client_at)))
-            (same_back (there_at n key.server) u (gets (live_entry (there_at n key.server) e)) (hears_same context service free reuse e apdu)))
+        same = alike_by_live (there_at n key.server) gets (λ e. hears_same context service free reuse e apdu)
+            (value_at same_key q a.servers.slots) (n.entries key) (fits.servers.found key.client l key.invoke_id client_at)
 
         m : Net
         m = server_acts n key u

@@ -18,7 +18,6 @@ use Rattle.bac_protocol.specs.World.{Net, server_acts_away, begin_of, set_at}
 use Rattle.bac_protocol.specs.Claims.{IsBounded}
 use Rattle.bac_protocol.specs.Steps.{IsSameReaction}
 use Rattle.bac_protocol.proofs.Keys.{set_same, set_other, decide_key}
-use Rattle.bac_protocol.proofs.Dead.{same_of, same_then, same_back}
 use Rattle.bac_slots.specs.Slots.{value_at, with_value}
 use Rattle.bac_transaction.specs.Keys.{PeerKey, same_key}
 use Rattle.bac_transaction.specs.Sends.{Pairwise, IsSent}
@@ -58,7 +57,7 @@ use Rattle.bac_world.proofs.Heard.{IsHeardIn, IsHeardInBy}
 use Rattle.bac_world.proofs.Clients.{quiet, arrived}
 use Rattle.bac_protocol.proofs.Aside.{IsAside, still_aside, client_aside, server_aside}
 use Rattle.bac_transaction.proofs.Entries.{entry_here, entry_there, entry_distinct, entry_each}
-use Rattle.bac_world.proofs.Reused.{AreLeft, heard_left, heard_none, hears_same}
+use Rattle.bac_world.proofs.Reused.{AreLeft, alike_by_live, heard_left, heard_none, hears_same}
 use Rattle.bac_world.proofs.Table.{none_left}
 
 -- two keys of strangers are one where the slots' keys are
@@ -258,13 +257,8 @@ module _ (links : ℕ → Option Octets) (apart : (i j : ℕ) (l : Octets) → l
         u r = gets r (n.far.entries key)
 
         same : (r : Bool) → IsSameReaction (there_at n i) (v r) (u r)
-        same r =
-            let y : Option ServerTransaction = value_at same_key p a.servers.slots in
-            let e : Option ServerTransaction = n.far.entries key in
-            same_then (there_at n i) (v r) (gets r (live_entry (there_at n i) y)) (u r) (hears_same context service (free r) r y apdu)
-            (same_then (there_at n i) (gets r (live_entry (there_at n i) y)) (gets r (live_entry (there_at n i) e)) (u r)
-            (same_of (there_at n i) (gets r (live_entry (there_at n i) y)) (gets r (live_entry (there_at n i) e)) (ap (gets r) (fits.servers.strangers p g)))
-            (same_back (there_at n i) (u r) (gets r (live_entry (there_at n i) e)) (hears_same context service (free r) r e apdu)))
+        same r = alike_by_live (there_at n i) (gets r) (λ e. hears_same context service (free r) r e apdu)
+            (value_at same_key p a.servers.slots) (n.far.entries key) (fits.servers.strangers p g)
 
         m : Net
         m = server_acts_away n key (u reuse)

@@ -17,10 +17,10 @@ use Rattle.bac_world.specs.World.{ending_fact, is_away, is_deliverable, told}
 use Rattle.bac_world.specs.World.Event.{Ask, AskAway, Deliver, Noise, Stray, Tick, Advance, Change, Restart, Begin, BeginAgain}
 
 -- no ask of a stranger is noted
-abbrev AreNear : List Note → Type 0
+abbrev pub AreNear : List Note → Type 0
 AreNear notes = (n : ℕ) → is_away n notes ≡ false
 
-near_more : (note : Note) (notes : List Note) → is_some note.away ≡ false → AreNear notes → AreNear (note ∷ notes)
+pub near_more : (note : Note) (notes : List Note) → is_some note.away ≡ false → AreNear notes → AreNear (note ∷ notes)
 near_more note notes near all n = go (nat_eq n (length notes))
   where
     go : (b : Bool) → (if b then is_some note.away else is_away n notes) ≡ false
@@ -59,9 +59,9 @@ after_performed nodes notes node after (Some q) near old new (inl h) none = subs
 after_performed nodes notes node after (Some q) near old new (inr h) none = absurd (near q refl h.stranger)
 
 -- no stranger has left anything
-record IsAlone (w : World) : Type 0 where
-  log : HasNoStranger w.log
-  notes : AreNear w.notes
+pub record IsAlone (w : World) : Type 0 where
+  pub log : HasNoStranger w.log
+  pub notes : AreNear w.notes
 
 after_acts : (w w' : World) (i : ℕ) (b : Node) (o : Outcome) → Acts w i b o w'
     → ((q : service.Performed) → o.performed ≡ Some q → IsOfNone w.nodes q.key.peer.link → ⊥) → IsAlone w → IsAlone w'
@@ -118,7 +118,7 @@ first_calm (Restart node exact store) es calm = (tt, calm)
 first_calm (Begin node exact) es calm = (tt, calm)
 first_calm (BeginAgain node exact first_id store) es calm = (tt, calm)
 
-after_run : (overtake : ℕ) (events : List Event) (w w' : World) → MakeNoStray events → WorldRun overtake w events w' → IsAlone w → IsAlone w'
+pub after_run : (overtake : ℕ) (events : List Event) (w w' : World) → MakeNoStray events → WorldRun overtake w events w' → IsAlone w → IsAlone w'
 after_run overtake [] w w' calm run alone = subst IsAlone (sym run) alone
 after_run overtake (e ∷ es) w w' calm run alone =
     let parts = first_calm e es calm in

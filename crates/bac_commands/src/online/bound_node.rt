@@ -1,12 +1,11 @@
 //! The node of each command, on its link.
 ghost use Rattle.std.specs.Prelude.{◌≡◌, false, IfOk, IsErrOf, Some};
 ghost use Rattle.bac_transaction.specs.Given.{STRICTLY};
-ghost use Rattle.bac_node.specs.Fresh.{large_slots_fit};
+ghost use Rattle.bac_driver.specs.Nodes.{large_slots_fit};
 ghost use Rattle.bac_commands.specs.Houses.{client_node, house_node, server_node};
 
 use crate::fresh_node::{asking_node, node_with, server_node};
-use bac_driver::{BoundNode, Link};
-use bac_node::{MEMORY, NewNodeFault};
+use bac_driver::{BoundNode, Link, MEMORY, NewNodeFault};
 use bac_npdu::LinkAddress;
 use bac_store::{Store, house};
 use bac_transaction::Rules;
@@ -56,20 +55,23 @@ pub fn bound_house<L: Link>(
     BoundNode::new(alloc, node, link, Rules::strict().within(MEMORY))
 }
 
-/// A node as of [`bound_house`] that asks for lists: it has 65,536 slots for asks of its own, and 256 for those of others.
+/// A node as of [`bound_house`] that asks for lists: it has 65,536 slots for asks of its own, and 256 for those of others. It begins at a moment, in
+/// milliseconds: it may ask at once, and turns new requests away while no more than 65,000 ms have passed since. Make one once all is over that was sent from
+/// there before.
 pub fn bound_client<L: Link>(
     alloc: Global,
     link: L,
     address: LinkAddress,
+    now: u64,
     first_id: u8,
 ) -> Result<BoundNode<L>, NoMemory>
-    ensures node { IfOk result (λ s. s.node ≡ client_node first_id address) }
+    ensures node { IfOk result (λ s. s.node ≡ client_node now first_id address) }
     ensures failures { IfOk result (λ s. s.failures ≡ L.failures link) }
     ensures calls { IfOk result (λ s. s.calls ≡ L.calls link) }
     ensures rules { IfOk result (λ s. s.rules ≡ record STRICTLY { memory = Some 67108864 }) }
 {
     let store = house(alloc)?;
     let mut node = asking_node(alloc, address, store)?;
-    node.set_first_invoke_id(first_id);
+    node.begin_again(now, first_id, None)?;
     BoundNode::new(alloc, node, link, Rules::strict().within(MEMORY))
 }

@@ -5,8 +5,7 @@ ghost use Rattle.bac_text.specs.declared.status.Status.TheVariants as status;
 ghost use Rattle.bac_commands.specs.CommandErrors.{IsPrintedBy, trouble_of, trouble_of_round};
 ghost use Rattle.bac_commands.specs.declared.online.command_error.CommandError.TheVariants as command_error;
 
-use bac_driver::{RoundFault, TurnFault};
-use bac_keep::KeepFault;
+use bac_driver::{KeepFault, RoundFault, TurnFault};
 use bac_npdu::LinkAddress;
 use bac_text::{Status, complain, no_memory, output_failed};
 use bac_value::NoMemory;

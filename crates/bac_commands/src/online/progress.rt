@@ -1,8 +1,7 @@
 //! The progress of an ask, on a terminal.
 ghost use Rattle.std.specs.Prelude.{⊤};
 
-use bac_driver::{Observer, Turn, sends_of};
-use bac_node::Node;
+use bac_driver::{Node, Observer, Turn, sends_of};
 use bac_transaction::Datagram;
 use std::io::Write;
 

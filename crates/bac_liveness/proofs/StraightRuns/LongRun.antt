@@ -27,10 +27,10 @@ use Rattle.bac_world.specs.Once.{Fact}
 use Rattle.bac_world.specs.World.{Copy, IsAsked, Life, peer_at, with_act, with_ask}
 use Rattle.bac_world.specs.Examples.{STORE}
 use Rattle.bac_world.specs.AnsweredRun.{TIME, LIMITS, SETTINGS, link, node, OPENING}
-use Rattle.bac_world.proofs.Answered.{answered_run}
+use Rattle.bac_world.proofs.Answered.{answered_run, apart, copy, others_first, others_second}
 use Rattle.bac_liveness.specs.StraightRuns.{IsStraight}
 use Rattle.bac_liveness.specs.StraightExamples.{zeros, WRITE, InSegments}
-use Rattle.bac_liveness.proofs.StraightRuns.Networks.{IsGood, IsDelivery, copy, datagram, world, sent, copied, delivers, apart, first_other, second_other}
+use Rattle.bac_liveness.proofs.StraightRuns.Networks.{IsGood, IsDelivery, datagram, world, sent, copied, delivers}
 
 abbrev FRONT : Octets
 FRONT = 196 ∷ 2 ∷ 128 ∷ 0 ∷ 1 ∷ 14 ∷ 49 ∷ 0 ∷ 101 ∷ 40 ∷ zeros 34
@@ -191,7 +191,7 @@ asked = record {
   accepted = ACCEPTED;
   sends = datagram 1 FIRST ∷ [];
   asks = asks;
-  nodes = record { here = refl; others = first_other (client ACCEPTED.end) (node 0) (node 1) };
+  nodes = record { here = refl; others = others_first (client ACCEPTED.end) (node 0) (node 1) };
   time = refl;
   lives = refl;
   sent = copy 0 1 FIRST ∷ [];
@@ -217,7 +217,7 @@ first_taken = record {
   there = refl;
   may = refl;
   heard = record { node = refl; sends = sent 1 0 (ACK 0 ∷ []) (ack_good, tt); ended = refl; performed = tt; dropped = refl };
-  nodes = record { here = refl; others = second_other (servant TAKEN) (servant EMPTY) (client ACCEPTED.end) };
+  nodes = record { here = refl; others = others_second (servant TAKEN) (servant EMPTY) (client ACCEPTED.end) };
   sends_are = refl;
   goods = (ack_good, tt);
   ended = refl;
@@ -238,7 +238,7 @@ first_acked = record {
   there = refl;
   may = refl;
   heard = record { node = refl; sends = sent 0 1 (SECOND ∷ []) (second_good, tt); ended = tt; performed = refl; dropped = refl };
-  nodes = record { here = refl; others = first_other (client SENT) (client ACCEPTED.end) (servant TAKEN) };
+  nodes = record { here = refl; others = others_first (client SENT) (client ACCEPTED.end) (servant TAKEN) };
   sends_are = refl;
   goods = (second_good, tt);
   ended = refl;
@@ -277,7 +277,7 @@ second_performed = record {
   there = refl;
   may = refl;
   heard = subst ServerTurn (sym says) turn;
-  nodes = record { here = refl; others = second_other (servant DONE) (servant TAKEN) (client SENT) };
+  nodes = record { here = refl; others = others_second (servant DONE) (servant TAKEN) (client SENT) };
   sends_are = refl;
   goods = (last_ack_good, (answer_good, tt));
   ended = refl;
@@ -298,7 +298,7 @@ second_acked = record {
   there = refl;
   may = refl;
   heard = record { node = refl; sends = tt; ended = tt; performed = refl; dropped = refl };
-  nodes = record { here = refl; others = first_other (client WAITS) (client SENT) (servant DONE) };
+  nodes = record { here = refl; others = others_first (client WAITS) (client SENT) (servant DONE) };
   sends_are = refl;
   goods = tt;
   ended = refl;
@@ -319,7 +319,7 @@ answer_taken = record {
   there = refl;
   may = refl;
   heard = record { node = refl; sends = tt; ended = (record { ticket = refl; how = (refl, refl) }, tt); performed = refl; dropped = refl };
-  nodes = record { here = refl; others = first_other (client CLOSED) (client WAITS) (servant DONE) };
+  nodes = record { here = refl; others = others_first (client CLOSED) (client WAITS) (servant DONE) };
   sends_are = refl;
   goods = tt;
   ended = (0, refl, refl);

@@ -1,32 +1,25 @@
 -- Two nodes, and what is needed for a copy to be delivered between them.
-use Rattle.std.proofs.Common.{◌≡◌, ◌≢◌, ◌≤◌, ℕ, zero, suc, true, List, [], ◌∷◌, ◌++◌, map, length, Some, None, slice_get, IsTrue, refl, sym, subst, inr}
+use Rattle.std.proofs.Common.{◌≡◌, ◌≢◌, ℕ, true, List, [], ◌∷◌, ◌++◌, map, Some, slice_get, IsTrue, refl, sym, subst, inr}
 use Rattle.bac_apdu.specs.Apdu.{Apdu}
-use Rattle.bac_apdu.specs.Spelling.{SpellsApdu, apdu_fits, apdu_spelling, is_confirmed_request}
-use Rattle.bac_npdu.specs.Datagram.{Means, IsFrameTo, frame}
-use Rattle.bac_npdu.proofs.Datagrams.{frame_means}
-use Rattle.bac_protocol.specs.Service.{Octets}
+use Rattle.bac_apdu.specs.Spelling.{SpellsApdu, apdu_fits}
+use Rattle.bac_npdu.specs.Datagram.{Means}
 use Rattle.bac_protocol.specs.Short.{IsShort}
 use Rattle.bac_protocol.specs.Wire.{is_from_client, Each}
 use Rattle.bac_protocol.specs.Transaction.{Key}
 use Rattle.bac_transaction.specs.Sends.{Datagram, Pairwise, IsSent, to_all}
 use Rattle.bac_world.specs.Node.{Node, Outcome, IsHeardBy}
 use Rattle.bac_world.specs.Once.{Fact}
-use Rattle.bac_world.specs.World.{World, Copy, Life, Note, with_act, AreEnded, AreLogged, IsCopied, IsDelivered, IsWithNode, is_deliverable, link_at, peer_at, transaction_of}
+use Rattle.bac_world.specs.World.{World, Copy, Life, with_act, AreEnded, AreLogged, IsCopied, IsDelivered, IsWithNode, is_deliverable, link_at, peer_at, transaction_of}
 use Rattle.bac_world.specs.World.{DeliversIf}
 use Rattle.bac_world.proofs.Bridge.{each_copied}
 use Rattle.bac_world.specs.AnsweredRun.{TIME, link}
+use Rattle.bac_world.proofs.Answered.{NOTES, copy, datagram as datagram_to, means as means_as, sent as sent_as}
 
 abbrev pub KEY : Key
 KEY = record { client = 0; server = 1; invoke_id = 0 }
 
-abbrev pub NOTES : List Note
-NOTES = record { key = KEY; ticket = 0; away = None } ∷ []
-
 abbrev pub datagram : (to : ℕ) → Apdu → Datagram
-datagram to a = record { to = link to; octets = frame (peer_at (link to)) (is_confirmed_request a) (apdu_spelling a) }
-
-abbrev pub copy : (from to : ℕ) → Apdu → Copy
-copy from to a = record { moment = 0; from = from; to = to; key = KEY; octets = (datagram to a).octets }
+datagram to a = datagram_to (link to) a
 
 abbrev pub world : (ℕ → Life) → List Node → List Copy → List Fact → World
 world lives nodes copies log = record { nodes = nodes; time = TIME; lives = lives; copies = copies; log = log; notes = NOTES }
@@ -37,16 +30,12 @@ pub record IsGood (from to : ℕ) (a : Apdu) : Type 0 where
   pub short : IsShort a
   pub key : transaction_of from to a ≡ KEY
 
-framed : (to : ℕ) (a : Apdu) → IsTrue (apdu_fits a) → IsFrameTo SpellsApdu is_confirmed_request (peer_at (link to)) a (datagram to a).octets
-framed to a fits = record { apdu_octets = apdu_spelling a; spelled = record { fits = fits; is = refl }; is = refl }
-
 means : (from to : ℕ) (a : Apdu) → IsGood from to a → Means SpellsApdu (link from) (datagram to a).octets (peer_at (link from)) a
-means from to a good = frame_means SpellsApdu is_confirmed_request (link from) (link to) (datagram to a).octets a
-    (λ text s. subst (λ (l : Octets). length l ≤ 1476) (sym s.is) good.short) (framed to a good.fits)
+means from to a good = means_as (link from) (link to) a good.fits good.short
 
 pub sent : (from to : ℕ) (sends : List Apdu) → Each (IsGood from to) sends → Pairwise IsSent (to_all (peer_at (link to)) sends) (map (datagram to) sends)
 sent from to [] good = tt
-sent from to (a ∷ sends) good = (record { link = refl; frame = framed to a good.0.fits; short = good.0.short }, sent from to sends good.1)
+sent from to (a ∷ sends) good = (sent_as (link to) a good.0.fits good.0.short, sent from to sends good.1)
 
 pub copied : (nodes : List Node) (from to : ℕ) → link_at nodes from ≡ Some (link from) → link_at nodes to ≡ Some (link to)
     → (sends : List Apdu) → Each (IsGood from to) sends → Pairwise (IsCopied nodes 0 from) (map (datagram to) sends) (map (copy from to) sends)
@@ -68,18 +57,6 @@ copied nodes from to from_at to_at (a ∷ sends) good = (
   },
   copied nodes from to from_at to_at sends good.1,
 )
-
-pub apart : link 0 ≢ link 1
-apart e = cc
-
-pub first_other : {A : Type 0} (a b c : A) (j : ℕ) → j ≢ 0 → slice_get (a ∷ c ∷ []) j ≡ slice_get (b ∷ c ∷ []) j
-first_other a b c zero ne = absurd (ne refl)
-first_other a b c (suc j) ne = refl
-
-pub second_other : {A : Type 0} (a b c : A) (j : ℕ) → j ≢ 1 → slice_get (c ∷ a ∷ []) j ≡ slice_get (c ∷ b ∷ []) j
-second_other a b c zero ne = refl
-second_other a b c (suc zero) ne = absurd (ne refl)
-second_other a b c (suc (suc j)) ne = refl
 
 -- What has to be known of a delivery: of the copy, of both ends, and of what the node that hears it does.
 pub record IsDelivery (from to : ℕ) (old new : List Node) (copies : List Copy) (log log' : List Fact) (number : ℕ) (a : Apdu) (sends : List Apdu) : Type 0

@@ -1,10 +1,11 @@
 -- A number of seconds is read of the text behind the word.
 use Rattle.std.proofs.Common.{◌≡◌, List, ℕ, Option, Some, codes, subst}
 use Rattle.bac_environment.specs.Given.{words_text}
-use Rattle.bac_asking.specs.Given.{IsPaceBy}
+use Rattle.bac_asking.specs.Given.{IsReadBy}
+use Rattle.bac_asking.specs.Seconds.{AreSeconds}
 use Rattle.bac_asking.proofs.asking.every_of.Goals as goal
 
 pub returns : goal.returns
 returns c =
     let is : Some c.in_ok-get_str.field-0.now ≡ words_text c.args.given.now (codes "every") = c.in_ok-get_str.ensures in
-    subst (λ (x : Option (List ℕ)). IsPaceBy x c.read_seconds.result) is c.read_seconds.ensures
+    subst (λ (x : Option (List ℕ)). IsReadBy AreSeconds x c.read_seconds.result) is c.read_seconds.ensures

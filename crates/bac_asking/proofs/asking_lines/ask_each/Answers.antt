@@ -2,7 +2,7 @@ use Rattle.std.proofs.Common.{◌<◌, ◌+◌, length, drop, refl, arith}
 use Rattle.std.proofs.lemmas.List.{drop_all}
 use Rattle.std.proofs.lemmas.Option.{slice_get_read}
 use Rattle.bac_driver.specs.Runs.{timed}
-use Rattle.bac_lists.proofs.Lists.{drop_next}
+use Rattle.bac_environment.proofs.Lists.{drop_next}
 use Rattle.bac_asking.specs.AskedLines.{AsksEach}
 use Rattle.bac_environment.specs.Sockets.{OnPort}
 use Rattle.bac_asking.proofs.AskedLines.{all_asked, one_more_asked}

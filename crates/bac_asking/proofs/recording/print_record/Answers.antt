@@ -1,7 +1,7 @@
 -- The record was printed, and then flushed.
 use Rattle.bac_driver.specs.Views.{question_view}
 use Rattle.bac_asking.proofs.Recorded.{record_printed}
-use Rattle.bac_lists.specs.QuestionLines.{asker_view}
+use Rattle.bac_environment.specs.QuestionLines.{asker_view}
 use Rattle.bac_asking.proofs.recording.print_record.Goals as goal
 
 pub returns : goal.returns

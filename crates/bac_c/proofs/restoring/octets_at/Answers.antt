@@ -11,14 +11,14 @@ use Rattle.bac_c.proofs.restoring.octets_at.Goals as goal
 
 pub returns-then-next-cells-clause-fault : goal.returns-then-next-cells-clause-fault
 returns-then-next-cells-clause-fault c = (
-  c.file_place.ensures,
+  c.file_place.ensures.is,
   λ rise. part_missing c.args.cells.now rise (object_identifier_view c.args.object) c.args.count c.loop-part.part (c.args.at + c.loop-part.part) _
       c.loop-part-test.true c.loop-part.invariant.place (apart_past _ _ c.args.cells.now c.if-next-cells.true) (omega (arith, c.from.ensures)),
 )
 
 pub returns-then-cell-file_place-clause-fault : goal.returns-then-cell-file_place-clause-fault
 returns-then-cell-file_place-clause-fault c = (
-  c.file_place.ensures,
+  c.file_place.ensures.is,
   λ rise.
       let id = object_identifier_view c.args.object in
       let d = c.index-cells-next.result in
@@ -32,7 +32,7 @@ returns-then-cell-file_place-clause-fault c = (
 
 pub returns-then-not-is_part-clause-fault : goal.returns-then-not-is_part-clause-fault
 returns-then-not-is_part-clause-fault c = (
-  c.file_place.ensures,
+  c.file_place.ensures.is,
   λ rise.
       let id = object_identifier_view c.args.object in
       let d = c.index-cells-next.result in

@@ -1,6 +1,6 @@
 use Rattle.std.proofs.Common.{decimal}
 use Rattle.std.specs.Str.Parse.{ParsesUnsigned, ExplainsUnsignedError, HasUnsignedDigitsIfOk}
-use Rattle.bac_environment.proofs.Numbers.{number_read}
+use Rattle.bac_environment.proofs.DecimalNumbers.{number_read}
 use Rattle.bac_environment.proofs.given.number_of.Goals as goal
 
 pub returns : goal.returns

@@ -19,28 +19,32 @@ returns g c =
     let first = c.in_ok-store.ensures in
     let last = c.in_ok-store-2.ensures in
     record {
-      found = λ old clean still db holds.
-          let is = last.same old clean still in
-          let was = subst (λ (v : View). IsTrue v.is_open) is still in
-          ap (λ (v : View). v.committed) is ∙ first.same old (last.clean clean) was
-          ∙ (c.in-Ok.ensures.found (first.clean (last.clean clean))).holds db (subst (λ (i : Image). HoldsDatabase i db) (sym same) holds);
-      read = λ old clean still.
-          let is = last.same old clean still in
-          let was = subst (λ (v : View). IsTrue v.is_open) is still in
-          subst (λ (i : Image). AreFoundIn i (view c.in_ok-store-2.store).committed) same
-          (subst (AreFoundIn (image_of g.D.Disk c.check_files.new.files)) (sym (ap (λ (v : View). v.committed) is ∙ first.same old (last.clean clean) was))
-          (c.in-Ok.ensures.found (first.clean (last.clean clean))).reads);
-      made = λ new clean db holds.
-          let opened = (c.in-Ok.ensures.opened (first.clean (last.clean clean))).0 in
-          subst HasNoTable (ap (λ (x : Database). x.trees) opened.clean
-          ∙ (c.in-Ok.ensures.found (first.clean (last.clean clean))).holds db (subst (λ (i : Image). HoldsDatabase i db) (sym same) holds))
-          (first.none new opened.is_open);
-      bare = λ new clean.
-          let opened = (c.in-Ok.ensures.opened (first.clean (last.clean clean))).0 in
-          subst (λ (i : Image). HasNone (AreFoundIn i)) same (record {
-            db = _;
-            found = (c.in-Ok.ensures.found (first.clean (last.clean clean))).reads;
-            none = subst HasNoTable (ap (λ (x : Database). x.trees) opened.clean) (first.none new opened.is_open);
-          });
-      empty = last.empty;
+      found = record {
+        found = λ old clean still db holds.
+            let is = last.same old clean still in
+            let was = subst (λ (v : View). IsTrue v.is_open) is still in
+            ap (λ (v : View). v.committed) is ∙ first.same old (last.clean clean) was
+            ∙ (c.in-Ok.ensures.found (first.clean (last.clean clean))).holds db (subst (λ (i : Image). HoldsDatabase i db) (sym same) holds);
+        read = λ old clean still.
+            let is = last.same old clean still in
+            let was = subst (λ (v : View). IsTrue v.is_open) is still in
+            subst (λ (i : Image). AreFoundIn i (view c.in_ok-store-2.store).committed) same
+            (subst (AreFoundIn (image_of g.D.Disk c.check_files.new.files)) (sym (ap (λ (v : View). v.committed) is ∙ first.same old (last.clean clean) was))
+            (c.in-Ok.ensures.found (first.clean (last.clean clean))).reads);
+      };
+      made = record {
+        made = λ new clean db holds.
+            let opened = (c.in-Ok.ensures.opened (first.clean (last.clean clean))).0 in
+            subst HasNoTable (ap (λ (x : Database). x.trees) opened.clean
+            ∙ (c.in-Ok.ensures.found (first.clean (last.clean clean))).holds db (subst (λ (i : Image). HoldsDatabase i db) (sym same) holds))
+            (first.none new opened.is_open);
+        bare = λ new clean.
+            let opened = (c.in-Ok.ensures.opened (first.clean (last.clean clean))).0 in
+            subst (λ (i : Image). HasNone (AreFoundIn i)) same (record {
+              db = _;
+              found = (c.in-Ok.ensures.found (first.clean (last.clean clean))).reads;
+              none = subst HasNoTable (ap (λ (x : Database). x.trees) opened.clean) (first.none new opened.is_open);
+            });
+        empty = last.empty;
+      };
     }

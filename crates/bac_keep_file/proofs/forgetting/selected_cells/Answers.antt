@@ -9,7 +9,7 @@ pub returns-clause-cells : goal.returns-clause-cells
 returns-clause-cells g c = λ clean.
     let read = c.in_ok-cells.ensures in
     let first = c.in_ok-make_ready.ensures in
-    let at_read : IsClean (g.S.Store.view c.kept_cells.new.database) = omega (arith, clean, c.in_ok-make_ready-2.ensures.clean) in
+    let at_read : IsClean (g.S.Store.view c.kept_cells.new.database) = omega (arith, clean, c.in_ok-make_ready-2.ensures.quiet.clean) in
     let at_first : IsClean (g.S.Store.view c.make_ready.new.database) = omega (arith, at_read, read.clean) in
     let same : (g.S.Store.view c.make_ready.new.database).committed ≡ (g.S.Store.view c.args.database.now).committed =
     first.committed at_first (first.ready at_first).is_open in

@@ -7,9 +7,9 @@ returns-in-Ok-tell_idle-clause-store g c =
     store_still g.S.Store.view c.args.database c.args.document c.in-Ok.opened.1 c.in-Ok.opened.0.database c.tell_idle.new.keeper.database
     c.tell_idle.ensures.honest c.in-Ok-tell_idle.ensures.open c.in-Ok-tell_idle.ensures.noted c.in-Ok-tell_idle.ensures.kept
     (record {
-      honest = λ clean. clean_before _ _ c.in-Ok.ensures.honest clean;
-      ready = c.in-Ok.ensures.open;
-      found = c.in-Ok.ensures.found;
-      kept = c.in-Ok.ensures.kept;
-      noted = c.in-Ok.ensures.noted;
+      honest = λ clean. clean_before _ _ c.in-Ok.ensures.quiet.clean clean;
+      ready = λ clean. (c.in-Ok.ensures.found clean).ready;
+      found = λ clean. (c.in-Ok.ensures.found clean).found;
+      kept = λ clean. (c.in-Ok.ensures.found clean).kept;
+      noted = λ clean. (c.in-Ok.ensures.found clean).noted;
     })

@@ -1,7 +1,7 @@
 -- A port is read of its digits.
 use Rattle.std.proofs.Common.{◌<◌, ◌^◌, arith, decimal}
 use Rattle.std.specs.Str.Parse.{ParsesUnsigned, ExplainsUnsignedError, HasUnsignedDigitsIfOk}
-use Rattle.bac_environment.proofs.Numbers.{bits_read}
+use Rattle.bac_environment.proofs.DecimalNumbers.{bits_read}
 use Rattle.bac_serving.proofs.serving_words.given_port.Goals as goal
 
 pub returns : goal.returns

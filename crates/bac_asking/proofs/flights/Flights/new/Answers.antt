@@ -1,7 +1,7 @@
 use Rattle.std.proofs.Common.{◌<◌, ◌+◌, ◌++◌, ◌∙◌, List, Option, ap, length, map, drop, refl, arith, rules}
 use Rattle.std.proofs.lemmas.List.{drop_all}
 use Rattle.std.proofs.lemmas.Option.{slice_get_read}
-use Rattle.bac_lists.proofs.Lists.{drop_next}
+use Rattle.bac_environment.proofs.Lists.{drop_next}
 use Rattle.bac_driver.specs.declared.question.AskEnd.{AskEnd}
 use Rattle.bac_asking.specs.InFlight.{no_end, waiting_from}
 use Rattle.bac_asking.specs.declared.flights.Waiting.{Waiting}

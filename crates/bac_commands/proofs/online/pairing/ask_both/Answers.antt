@@ -1,5 +1,5 @@
 use Rattle.std.proofs.Common.{ap, ◌∙◌}
-use Rattle.bac_world.specs.Node.{Node}
+use Rattle.bac_driver.specs.Nodes.{Node}
 use Rattle.bac_commands.proofs.Reported.{both_texts}
 use Rattle.bac_commands.proofs.online.pairing.ask_both.Goals as goal
 

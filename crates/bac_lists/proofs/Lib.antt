@@ -1,7 +1,0 @@
-pub mod Separated
-pub mod Numerals
-pub mod Addresses
-pub mod ReadLines
-pub mod LineWords
-mod LineNames
-pub mod Lists

@@ -1,4 +1,0 @@
-pub mod Addresses
-pub mod LineWords
-pub mod LineNames
-pub mod QuestionLines
