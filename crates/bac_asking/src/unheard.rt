@@ -16,7 +16,7 @@ use std::io::{ErrorKind, Read, Write};
 /// The system's table of UDP sockets over IPv4, a row for each (proc_net(5)).
 const SOCKETS: &str = "/proc/net/udp";
 
-/// The same over IPv6. Some of these sockets are reached over IPv4 too.
+/// The system's table of UDP sockets over IPv6, some of which are reached over IPv4 too.
 const SOCKETS_V6: &str = "/proc/net/udp6";
 
 /// What stands above the rows.
@@ -140,7 +140,7 @@ pub fn is_unheard<F: OpenFiles>(alloc: Global, files: &F, peer: Peer) -> bool
     }
 }
 
-/// The same; `err` then says that the node does not answer.
+/// Whether nothing listens at a node of this host, as [`is_unheard`] says; `err` then says that it does not answer.
 pub fn tells_unheard<F: OpenFiles, M, E: Write>(
     environment: &Environment<'_, F, M>,
     peer: Peer,

@@ -36,6 +36,6 @@ pub use turn::{Turn, sends_of};
 pub use udp::UdpLink;
 pub use wait_limit::{RunLimit, WaitLimit};
 
-// what programs that run nodes name of them
+// for programs that run nodes
 pub use bac_keep::KeepFault;
 pub use bac_node::{Config, MEMORY, NewNodeFault, Node, NodeFault, Outcome};

@@ -47,5 +47,5 @@ pub use straight_laws::{log_tells, loop_goes_on, open_until_ended};
 pub use stranger_logs::logs_of_strangers;
 pub use world::World;
 
-// what a world is made of
+// `World::new` takes it for each node
 pub use bac_node::Config;

@@ -22,5 +22,5 @@ pub use memory::MEMORY;
 pub use node::Node;
 pub use outcome::Outcome;
 
-// what an outcome says of the server's end
+// in the fields of `Outcome`
 pub use bac_responder::{Act, Effect};

@@ -53,6 +53,6 @@ pub record SharesSlots : Type 0 where
   pub first : (now : ℕ) (address : List ℕ) (e : ServerEnd) → held_at now address e ≡ 0 → has_share now address e ≡ true
   -- one that holds some has none in the last free slot,
   pub last : (now : ℕ) (address : List ℕ) (e : ServerEnd) → has_share now address e ≡ true → 1 ≤ held_at now address e → 2 ≤ free_slots now e
-  -- and one that holds all that are live never fills more than 15/16 of the slots, or the one slot that there is
+  -- and one that holds all that are live never fills more than (15 n + 1)/16 of n slots
   pub alone : (now : ℕ) (address : List ℕ) (e : ServerEnd) → has_share now address e ≡ true → is_free now e ≡ true
       → held_at now address e ≡ count_by (is_slot_live now) e.slots → 16 * (held_at now address e + 1) ≤ 15 * e.capacity + 1

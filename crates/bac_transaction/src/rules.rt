@@ -22,10 +22,11 @@ pub struct Rules {
     /// For how many milliseconds, from its beginning on, a request that is over is remembered: so long an equal one gets the kept reply. `None`: as long as its
     /// entry lives, 65,000 ms; more than that is the same.
     pub remember: Option<u64>,
-    /// How many octets of requests and replies the server keeps at the most; `None`: as many as can be allocated.
+    /// How many octets of requests and replies the server keeps at the most; `None`: as many as can be allocated. Where slots are shared, the last sixteenth is
+    /// only for a request whose IP address holds no live entry but that of its own key.
     pub memory: Option<usize>,
     /// Whether slots are shared among IP addresses, where reads are performed anew (own rule of this profile). A new request then begins an entry only where its
-    /// address, whatever the port, holds at most 15 live entries for each slot that stays free. So one address alone fills at most 15/16 of the slots, and one
+    /// address, whatever the port, holds at most 15 live entries for each slot that stays free. So one address alone fills at most (15 n + 1)/16 of n slots, and one
     /// that holds no entry gets the last free slot. A request that ends an entry of its key takes its slot. Where replies to reads are kept too, slots are
     /// never shared.
     pub share: bool,

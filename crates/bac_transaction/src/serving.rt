@@ -26,7 +26,7 @@ pub fn requests_turned_away()
 {}
 
 /// Where slots are shared, the request of an address that has a share is served while a slot is free. An address that holds no entry has one. One that
-/// holds some leaves the last free slot to others, and alone it never fills more than 15/16 of the slots.
+/// holds some leaves the last free slot to others, and alone it never fills more than (15 n + 1)/16 of n slots.
 #[tactic(auto, using(crate::proofs::ByRules::shares_slots))]
 pub fn slots_are_shared()
     ensures { SharesSlots }
