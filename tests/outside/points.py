@@ -80,7 +80,7 @@ def check_points(checks, things):
     checks.expect('rows', rows, lines)
     # a device answers for its own instance, and for 4194303
     checks.prints(['points'], done.stdout, '', 0)
-    unlisted = 'object-list: error object unknown-object (1:31)\nthis device has no such object-list; bac read OBJECT reads objects by name\n'
+    unlisted = 'object-list: error object unknown-object (1:31)\nthe device has no such object: leave out --device, or give its own instance; bac read TYPE:INSTANCE reads one object\n'
     checks.prints(['points', '--device', '7'], '', f'device:7 {unlisted}', 1)
 
 
@@ -108,7 +108,7 @@ def check_writes(checks):
     beyond = 'analog-value:1 present-value: error property value-out-of-range (2:37)\n'
     checks.prints(['write', 'analog-value:1', '35.5'], '', beyond, 1)
     checks.prints(['write', 'analog-value:1', 'warm'], '', 'bad words: "warm" is not a number, such as 21.5\n', 2)
-    checks.prints(['write', 'analog-value:1', '1e39'], '', 'bad words: "1e39" is not a finite number\n', 2)
+    checks.prints(['write', 'analog-value:1', '1e39'], '', 'bad words: "1e39" is beyond what a real holds (3.4e38)\n', 2)
     checks.prints(['write', 'analog-input:1', '3'], '', 'analog-input:1 present-value: error property write-access-denied (2:40)\n', 1)
     checks.prints(['read', 'analog-value:1'], '21.5\n')
 

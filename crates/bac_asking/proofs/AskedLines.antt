@@ -2,7 +2,6 @@
 use Rattle.std.proofs.Common.{◌≡◌, ℕ, ◌&&◌, Bool, true, false, List, [], ◌∷◌, Option, Some, map, refl, sym, ap, subst, ◌∙◌}
 use Rattle.std.specs.Io.KnownBytes.{Keeps}
 use Rattle.bac_npdu.specs.Peers.{PeerView}
-use Rattle.bac_driver.specs.Nodes.{Octets}
 use Rattle.bac_text.specs.Statuses.{IsStop}
 use Rattle.bac_text.specs.declared.status.Status.{Status}
 use Rattle.bac_text.specs.declared.status.Status.TheVariants as status
@@ -11,6 +10,7 @@ use Rattle.bac_driver.specs.Runs.{Timed}
 use Rattle.bac_asking.specs.Asked.{AreAskedFrom, AsksFromHost, for_lines}
 use Rattle.bac_environment.specs.QuestionLines.{line_view}
 use Rattle.bac_asking.specs.AskedLines.{AreRead, AsksEach, AsksLine}
+use Rattle.bac_asking.specs.Online.{IsOneHost}
 use Rattle.bac_environment.specs.Files.{OfFile}
 use Rattle.bac_environment.specs.Sockets.{Clocks, Links}
 use Rattle.bac_asking.specs.declared.asking.Asking.{Asking}
@@ -32,18 +32,18 @@ one_more_asked IsOn asking lines others line so_far succeeded now rest before mi
     (record { succeeded = succeeded; rest = rest; middle = middle; between = between; first = asks; others = more; is = refl })))
 
 -- the lines that were read of a file were asked
-pub asked_from : (IsFile : Files) (IsOn : Links) (IsClock : Clocks) (s : Status) (asking sent : Asking) (host : Octets) (default : Option PeerView) (path : List ℕ)
+pub asked_from : (IsFile : Files) (IsOn : Links) (IsClock : Clocks) (s : Status) (asking sent : Asking) (default : Option PeerView) (path : List ℕ)
     (lines asked : List LineQuestion) (old new : Option (List ℕ)) → OfFile IsFile path (AreRead default (Some (map line_view lines))) → asked ≡ lines
-    → sent ≡ for_lines host lines asking
+    → sent ≡ for_lines sent.host lines asking → IsOneHost sent.host
     → ByStatus s (AsksFromHost IsOn IsClock sent asked true old new) (AsksFromHost IsOn IsClock sent asked false old new) ⊥
     → AreAskedFrom IsFile IsOn IsClock s asking default path old new
-asked_from IsFile IsOn IsClock s asking sent host default path lines asked old new file same from reports =
-    lifted s (λ a. record { content = file.content; at = file.at; says = record { lines = lines; read = file.says; host = host; asks = put a } })
-    (λ a. record { content = file.content; at = file.at; says = record { lines = lines; read = file.says; host = host; asks = put a } })
+asked_from IsFile IsOn IsClock s asking sent default path lines asked old new file same from named reports =
+    lifted s (λ a. record { content = file.content; at = file.at; says = record { lines = lines; read = file.says; host = sent.host; named = named; asks = put a } })
+    (λ a. record { content = file.content; at = file.at; says = record { lines = lines; read = file.says; host = sent.host; named = named; asks = put a } })
     (λ (no : ⊥). absurd no) reports where
-      put : {all : Bool} → AsksFromHost IsOn IsClock sent asked all old new → AsksFromHost IsOn IsClock (for_lines host lines asking) lines all old new
+      put : {all : Bool} → AsksFromHost IsOn IsClock sent asked all old new → AsksFromHost IsOn IsClock (for_lines sent.host lines asking) lines all old new
       put {all} a =
-          subst (λ (l : List LineQuestion). AsksFromHost IsOn IsClock (for_lines host lines asking) l all old new) same
+          subst (λ (l : List LineQuestion). AsksFromHost IsOn IsClock (for_lines sent.host lines asking) l all old new) same
           (subst (λ (s : Asking). AsksFromHost IsOn IsClock s asked all old new) from a)
 
 -- nothing was asked or printed

@@ -21,17 +21,17 @@ use Rattle.bac_asking.specs.declared.asking.Asking.{Asking}
 use Rattle.bac_asking.specs.declared.flights.Begun.{Begun}
 use Rattle.bac_asking.specs.declared.flights.Begun.TheVariants as begun
 
-pub asks_free : (IsOn : Links) (host : Octets) (asking : Asking) (q : Question) (how : AskEnd) (spent fresh after : Timed)
-    → IsRenewed IsOn host spent fresh → AsksFrom asking q how fresh after → ends_spent how ≡ false
-asks_free IsOn host asking q (end.Ended how) spent fresh after renewed asks = refl
-asks_free IsOn host asking q (end.Refused why) spent fresh after renewed asks =
+pub asks_free : (IsOn : Links) (asking : Asking) (q : Question) (how : AskEnd) (spent fresh after : Timed)
+    → IsRenewed IsOn spent fresh → AsksFrom asking q how fresh after → ends_spent how ≡ false
+asks_free IsOn asking q (end.Ended how) spent fresh after renewed asks = refl
+asks_free IsOn asking q (end.Refused why) spent fresh after renewed asks =
     never_spent q why _ after fresh.told.last renewed.client.first_id renewed.client.at.at.address renewed.client.at.at.node asks.ends
-asks_free IsOn host asking q end.NoEnding spent fresh after renewed asks = refl
+asks_free IsOn asking q end.NoEnding spent fresh after renewed asks = refl
 
-pub begins_free : (IsOn : Links) (host : Octets) (asking : Asking) (q : Question) (b : Begun) (spent fresh after : Timed)
-    → IsRenewed IsOn host spent fresh → BeginsAsk asking q b fresh after → begins_spent b ≡ false
-begins_free IsOn host asking q (begun.Accepted ticket wait_limit) spent fresh after renewed begins = refl
-begins_free IsOn host asking q (begun.Refused why) spent fresh after renewed begins =
+pub begins_free : (IsOn : Links) (asking : Asking) (q : Question) (b : Begun) (spent fresh after : Timed)
+    → IsRenewed IsOn spent fresh → BeginsAsk asking q b fresh after → begins_spent b ≡ false
+begins_free IsOn asking q (begun.Accepted ticket wait_limit) spent fresh after renewed begins = refl
+begins_free IsOn asking q (begun.Refused why) spent fresh after renewed begins =
     never_spent q why _ after fresh.told.last renewed.client.first_id renewed.client.at.at.address renewed.client.at.at.node begins.begun
 
 -- a node that begins at the moment that its clock printed begins at the latest one of it
@@ -42,30 +42,30 @@ begun_last old told now first_id address n tells is =
 
 -- the next node stands where the one before stood
 pub renewed_there : (IsOn : Links) (host : Octets) (old : Timed) (fresh there : BoundNode) (told : Told) → there ≡ fresh → IsClient IsOn host (timed fresh told)
-    → fresh.node.link ≢ old.bound_node.node.link → LooksOnce old.told told → IsRenewed IsOn host old (timed there told)
+    → fresh.node.link ≢ old.bound_node.node.link → LooksOnce old.told told → IsRenewed IsOn old (timed there told)
 renewed_there IsOn host old fresh there told is client apart looks =
-    subst (λ (b : BoundNode). IsRenewed IsOn host old (timed b told)) (sym is) (record { client = client; apart = apart; told = looks })
+    subst (λ (b : BoundNode). IsRenewed IsOn old (timed b told)) (sym is) (record { host = host; client = client; apart = apart; told = looks })
 
 -- the next node is ready, from the moment on at which the clock was looked at
-pub ready_anew : (IsOn : Links) (host : Octets) (start : ℕ) (before after : Timed) (told : Told) → told ≡ with_moment before.told start
-    → IsRenewed IsOn host (timed before.bound_node told) after → IsReady IsOn host start before after
-ready_anew IsOn host start before after told is renewed =
-    inr (subst (λ (t : Told). IsRenewed IsOn host (timed before.bound_node t) after) is renewed)
+pub ready_anew : (IsOn : Links) (start : ℕ) (before after : Timed) (told : Told) → told ≡ with_moment before.told start
+    → IsRenewed IsOn (timed before.bound_node told) after → IsReady IsOn start before after
+ready_anew IsOn start before after told is renewed =
+    inr (subst (λ (t : Told). IsRenewed IsOn (timed before.bound_node t) after) is renewed)
 
 -- the node that was ready asked
 pub asked_ready : (IsOn : Links) (asking : Asking) (q : Question) (how : AskEnd) (start : ℕ) (before ready after : Timed) → ends_spent how ≡ false
-    → IsReady IsOn asking.host start before ready → AsksAt start asking q how ready after → AsksOn IsOn asking q how before after
+    → IsReady IsOn start before ready → AsksAt start asking q how ready after → AsksOn IsOn asking q how before after
 asked_ready IsOn asking q how start before ready after free is_ready asks =
     record { free = free; asks = inl (record { start = start; ready = ready; is_ready = is_ready; asks = asks }) }
 
 -- the next node asked
 pub asked_anew : (IsOn : Links) (asking : Asking) (q : Question) (refusal : AskEnd) (start : ℕ) (r : Result AskEnd Status)
-    (before ready refused fresh after : Timed) → ends_spent refusal ≡ true → IsReady IsOn asking.host start before ready
-    → AsksAt start asking q refusal ready refused → IsRenewed IsOn asking.host refused fresh
+    (before ready refused fresh after : Timed) → ends_spent refusal ≡ true → IsReady IsOn start before ready
+    → AsksAt start asking q refusal ready refused → IsRenewed IsOn refused fresh
     → IfOk r (λ how. AsksFrom asking q how fresh after) → IfOk r (λ how. AsksOn IsOn asking q how before after)
 asked_anew IsOn asking q refusal start (Ok how) before ready refused fresh after spent is_ready refuses renewed asks =
     record {
-      free = asks_free IsOn asking.host asking q how refused fresh after renewed asks;
+      free = asks_free IsOn asking q how refused fresh after renewed asks;
       asks =
           inr (record {
             refusal = refusal;
@@ -97,7 +97,7 @@ begun_at IsOn asking q idle None before passed after f g passes next =
     }
 begun_at IsOn asking q idle (Some b) before passed after f g passes next =
     record {
-      free = begins_free IsOn asking.host asking q b passed next.fresh after next.renewed next.begins;
+      free = begins_free IsOn asking q b passed next.fresh after next.renewed next.begins;
       begins = inr (record { passed = passed; passes = passes; there = next });
     }
 

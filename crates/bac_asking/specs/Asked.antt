@@ -12,7 +12,7 @@ use Rattle.bac_asking.specs.AskedLines.{AreRead}
 use Rattle.bac_environment.specs.Files.{OfFile}
 use Rattle.bac_asking.specs.InFlight.{AsksLines}
 use Rattle.bac_asking.specs.AskedOne.{AsksOnce}
-use Rattle.bac_asking.specs.Online.{ByClient}
+use Rattle.bac_asking.specs.Online.{ByClient, IsOneHost}
 use Rattle.bac_environment.specs.Sockets.{Clocks, Links}
 use Rattle.bac_asking.specs.Rounds.{Doing}
 use Rattle.bac_text.specs.declared.status.Status.TheVariants as status
@@ -43,12 +43,13 @@ for_lines host lines asking = record asking { host = host; has_names = have_name
 abbrev pub AsksFromHost : Links → Clocks → Asking → List LineQuestion → (all : Bool) → (old new : Option (List ℕ)) → Type 0
 AsksFromHost IsOn IsClock asking lines all old new = ByClient IsOn IsClock asking (AsksLines IsOn asking lines) all old new
 
--- the lines that were read were asked, from an address of this machine
+-- the lines that were read were asked, from one address of this machine
 pub record AsksRead (IsOn : Links) (IsClock : Clocks) (asking : Asking) (default : Option PeerView) (all : Bool) (old new : Option (List ℕ))
     (content : Option (List ℕ)) : Type 0 where
   pub lines : List LineQuestion
   pub read : AreRead default (Some (map line_view lines)) content
   pub host : Octets
+  pub named : IsOneHost host
   pub asks : AsksFromHost IsOn IsClock (for_lines host lines asking) lines all old new
 
 -- the status that says why nothing is asked
@@ -56,7 +57,7 @@ abbrev pub status_of : Unasked → Status
 status_of (unasked.Unread s) = s
 status_of unasked.BadLine = status.CommandLine
 
--- where a line is bad, or the file cannot be read, nothing was asked or printed
+-- where a line is bad, the file cannot be read, or two lines are to be asked from different addresses, nothing was asked or printed
 abbrev pub AreAskedFrom : (IsFile : (path : List ℕ) → (content : Option (List ℕ)) → Type 0) → Links → Clocks → Status → Asking
     → (default : Option PeerView) → (path : List ℕ) → (old new : Option (List ℕ)) → Type 0
 AreAskedFrom IsFile IsOn IsClock s asking default path old new =

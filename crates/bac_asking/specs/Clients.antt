@@ -18,9 +18,10 @@ ends_spent (end.Ended how) = false
 ends_spent (end.Refused why) = is_spent why
 ends_spent end.NoEnding = false
 
--- a new node at any other port of that address, whose invoke IDs begin anywhere, asks in the place of the one before, beside the same clock; that printed the
--- moment at which the new one begins
-pub record IsRenewed (IsOn : Links) (host : Octets) (old new : Timed) : Type 0 where
+-- a new node at another link, whose invoke IDs begin anywhere, asks in the place of the one before, beside the same clock; that printed the moment at which the new
+-- one begins
+pub record IsRenewed (IsOn : Links) (old new : Timed) : Type 0 where
+  pub host : Octets
   pub client : IsClient IsOn host new
   pub apart : new.bound_node.node.link ≢ old.bound_node.node.link
   pub told : LooksOnce old.told new.told
@@ -44,14 +45,14 @@ pub record HasAskedLong (before after : Timed) : Type 0 where
   pub is : after ≡ looked moment before
 
 -- the clock printed a moment, and where the node had asked for 30 seconds then, the next one asks from now on
-abbrev pub IsReady : Links → (host : Octets) → (moment : ℕ) → (before after : Timed) → Type 0
-IsReady IsOn host moment before after = (after ≡ looked moment before) ⊎ IsRenewed IsOn host (looked moment before) after
+abbrev pub IsReady : Links → (moment : ℕ) → (before after : Timed) → Type 0
+IsReady IsOn moment before after = (after ≡ looked moment before) ⊎ IsRenewed IsOn (looked moment before) after
 
 -- so it was, and the node that was ready asked a question from that moment on
 pub record AsksReady (IsOn : Links) (asking : Asking) (q : Question) (end : AskEnd) (before after : Timed) : Type 0 where
   pub start : ℕ
   pub ready : Timed
-  pub is_ready : IsReady IsOn asking.host start before ready
+  pub is_ready : IsReady IsOn start before ready
   pub asks : AsksAt start asking q end ready after
 
 -- that node had no invoke ID or no slot left for the question, and the next one asked it
@@ -61,7 +62,7 @@ pub record AsksAnew (IsOn : Links) (asking : Asking) (q : Question) (end : AskEn
   pub refused : Timed
   pub refuses : AsksReady IsOn asking q refusal before refused
   pub fresh : Timed
-  pub renewed : IsRenewed IsOn asking.host refused fresh
+  pub renewed : IsRenewed IsOn refused fresh
   pub asks : AsksFrom asking q end fresh after
 
 -- a question was asked by the node that was ready, or where that had nothing left for it, by the next one, which had

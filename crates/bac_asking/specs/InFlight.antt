@@ -202,7 +202,7 @@ TriesToBegin asking q (Some b) before after = BeginsSo asking q b before after
 pub record BeginsThere (IsOn : Links) (asking : Asking) (q : Question) (is_idle : Bool) (b : Begun) (before after : Timed) (old new : Fleet) : Type 0 where
   pub room : is_idle ≡ false → length old.leaving < MOST_LEAVING
   pub fresh : Timed
-  pub renewed : IsRenewed IsOn asking.host before fresh
+  pub renewed : IsRenewed IsOn before fresh
   pub fleet : new ≡ next_fleet is_idle before.bound_node old
   pub begins : BeginsAsk asking q b fresh after
 

@@ -1,6 +1,6 @@
 -- What `ask` and `pair` print, and their statuses: over links that the machine bound to the address of the command, and beside a clock that it made,
 -- bac_commands' promise holds.
-use Rattle.std.specs.Prelude.{◌≡◌, ℕ, Bool, true, false, List, Option, Some}
+use Rattle.std.specs.Prelude.{◌≡◌, ◌≢◌, ℕ, Bool, true, false, List, Option, Some}
 use Rattle.bac_driver.specs.Nodes.{Octets, STRICTLY, Rules}
 use Rattle.bac_driver.specs.Udp.{LOCAL_HOST}
 use Rattle.bac_text.specs.declared.status.Status.{Status}
@@ -11,6 +11,7 @@ use Rattle.bac_driver.specs.BoundNodes.{BoundNode}
 use Rattle.bac_commands.specs.Houses.{client_node, house_node}
 use Rattle.bac_commands.specs.Pairs.{TwoTexts}
 use Rattle.bac_commands.specs.Statuses.{ByStatus}
+use Rattle.bac_environment.specs.Addresses.{EVERY_HOST}
 use Rattle.bac_environment.specs.Sockets.{Clocks, IsAt, Links}
 use Rattle.bac_asking.specs.Recording.{PrintsHeader}
 use Rattle.bac_asking.specs.Rounds.{AreRounds, Doing}
@@ -31,8 +32,13 @@ CLIENTS = record STRICTLY { memory = Some 67108864 }
 abbrev pub IsHouseAt : Links → (host : Octets) → (first_id : ℕ) → BoundNode → Type 0
 IsHouseAt IsOn host first_id bound_node = IsAt IsOn host FREE (house_node first_id) CLIENTS bound_node
 
+-- not 0.0.0.0, which is every address of a machine: a station has one
+abbrev pub IsOneHost : (host : Octets) → Type 0
+IsOneHost host = host ≢ EVERY_HOST
+
 -- one that asks for lists, and begins at that moment
 pub record IsClientAt (IsOn : Links) (host : Octets) (now first_id : ℕ) (bound_node : BoundNode) : Type 0 where
+  pub named : IsOneHost host
   pub port : ℕ
   pub at : IsAt IsOn host port (client_node now first_id) CLIENTS bound_node
 

@@ -1,9 +1,10 @@
 //! From where a node is to ask, how long it waits, how the end is printed, and how often.
-ghost use Rattle.std.specs.Prelude.{◌≡◌, IfSome, codes};
+ghost use Rattle.std.specs.Prelude.{◌≡◌, IfOk, IfSome, codes};
 ghost use Rattle.std.specs.Option.{option_map};
 ghost use Rattle.bac_npdu.specs.Views.{peer_view, route_view};
 ghost use Rattle.bac_environment.specs.Given.{words_text};
 ghost use Rattle.bac_asking.specs.Asked.{for_lines};
+ghost use Rattle.bac_asking.specs.Online.{IsOneHost};
 ghost use Rattle.bac_asking.specs.Asking.{patience_for};
 ghost use Rattle.bac_asking.specs.Given.{AreRecordsOf, AreRoundsOf, IsGiven, IsLinkGiven, IsOutputFormat, IsPace, IsPeerGiven, IsPortGiven, IsRouteBy, cell_text_by, is_json, is_raw, port_by, records_by, rounds_by, style_by};
 ghost use Rattle.bac_asking.specs.Rounds.{next_from};
@@ -11,13 +12,14 @@ ghost use Rattle.bac_environment.specs.Limits.{turns_of};
 
 use crate::recording::RecordForm;
 use crate::seconds::{bad_pace, read_seconds};
+use crate::sources::{Apart, source_of_lines, source_towards};
 use crate::timeout::{bad_timeout, timeout_of};
 use bac_ask_report::CellText;
 use bac_commands::{OutputFormat, Style};
 use bac_driver::WaitLimit;
 use bac_environment::{
-    ClientSockets, EVERY_HOST, LOCAL_HOST, LineQuestion, flag_of, have_names, host_towards,
-    link_at, number_of, read_link, read_route,
+    ClientSockets, LOCAL_HOST, LineQuestion, flag_of, have_names, link_at, number_of, read_link,
+    read_route,
 };
 use bac_npdu::{LinkAddress, Peer, Route};
 use clap::ArgMatches;
@@ -102,26 +104,32 @@ impl Asking {
         matches!(self.records, Some(RecordForm::Json))
     }
 
-    /// The same, but asked from the address of this machine that the peer sees, if the machine tells it.
+    /// The same, but asked from the address of this machine that the peer sees; from 127.0.0.1 if the machine tells none, as if it has no route to the peer.
     pub fn towards<M: ClientSockets>(self, machine: &M, peer: Peer) -> Asking
-        ensures { result ≡ record self { host = result.host } }
+        ensures same { result ≡ record self { host = result.host } }
+        ensures named { IsOneHost result.host }
     {
         let host = source_towards(machine, peer.link);
         Asking { host, ..self }
     }
 
-    /// The same for these lines: asked from the address of this machine that all their peers see, or from any where there is none such; and told by their
-    /// names, where one has a name.
-    pub(crate) fn for_lines<M: ClientSockets>(self, machine: &M, lines: &[LineQuestion]) -> Asking
-        ensures { result ≡ for_lines result.host lines.now self }
+    /// The same for these lines: asked from the address of this machine from which the system sends to their nodes, and told by their names, where one has a name.
+    /// Returns an Err if it sends to two nodes from different addresses.
+    pub(crate) fn for_lines<M: ClientSockets>(
+        self,
+        machine: &M,
+        lines: &[LineQuestion],
+    ) -> Result<Asking, Apart>
+        ensures lines { IfOk result (λ a. a ≡ for_lines a.host lines.now self) }
+        ensures named { IfOk result (λ a. IsOneHost a.host) }
     {
-        let host = source_towards_all(machine, lines);
+        let host = source_of_lines(machine, lines)?;
         let has_names = have_names(lines);
-        Asking {
+        Ok(Asking {
             host,
             has_names,
             ..self
-        }
+        })
     }
 
     /// When the round behind that one, by its number, is due, which might begin from a moment on and began at another; None where none follows, or it is late.
@@ -153,32 +161,6 @@ impl Asking {
             until,
         }
     }
-}
-
-/// The address of this machine that one on the loopback sees, or the one that is asked there; any where the machine tells none.
-fn source_towards<M: ClientSockets>(machine: &M, link: LinkAddress) -> [u8; 4] {
-    let host = host_towards(link);
-    if host != EVERY_HOST {
-        return host;
-    }
-    machine.source_towards(link).unwrap_or(EVERY_HOST)
-}
-
-/// The address of this machine that all peers of these lines see; where there is none such, any.
-fn source_towards_all<M: ClientSockets>(machine: &M, lines: &[LineQuestion]) -> [u8; 4] {
-    let Some((first, others)) = lines.split_first() else {
-        return EVERY_HOST;
-    };
-    let mut last = first.question.peer.link;
-    let host = source_towards(machine, last);
-    for line in others {
-        let link = line.question.peer.link;
-        if link != last && source_towards(machine, link) != host {
-            return EVERY_HOST;
-        }
-        last = link;
-    }
-    host
 }
 
 /// The number that is given, as a port; that other port where none is given.
@@ -321,15 +303,16 @@ pub fn default_of(given: &ArgMatches<'_>) -> Option<Option<Peer>> {
     }
 }
 
-/// How the arguments say that a node asks; the address is not chosen yet. None if the text given for `--timeout` or `--every` is invalid.
+/// How the arguments say that a node asks: from 127.0.0.1, unless another address is chosen. None if the text given for `--timeout` or `--every` is invalid.
 pub fn asking_of(given: &ArgMatches<'_>, shows_progress: bool) -> Option<Asking>
-    ensures { IfSome result (IsGiven given.now) }
+    ensures given { IfSome result (IsGiven given.now) }
+    ensures named { IfSome result (λ a. IsOneHost a.host) }
 {
     if bad_timeout(given).is_some() || bad_pace(given).is_some() {
         return None;
     }
     Some(Asking {
-        host: EVERY_HOST,
+        host: LOCAL_HOST,
         timeout: timeout_of(given),
         output_format: output_format_of(given),
         records: records_of(given),

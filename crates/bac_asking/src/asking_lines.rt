@@ -22,7 +22,7 @@ use bac_driver::{AskEnd, Clock, Link, Question};
 use bac_environment::{
     ClientSockets, Environment, LineQuestion, OpenFiles, Station, octets_of, opened, questions_in,
 };
-use bac_npdu::Peer;
+use bac_npdu::{LinkAddress, Peer};
 use bac_text::Status;
 use std::alloc::Global;
 use std::io;
@@ -78,13 +78,14 @@ fn ends_spent(end: &AskEnd) -> bool
     }
 }
 
-/// A client looks at its clock. If its node has asked for 30 seconds, the next node asks from now on. Returns the moment.
+/// A client that is to ask a node looks at its clock. If its own node has asked for 30 seconds, the next one asks from now on. Returns the moment.
 fn get_ready<M: ClientSockets, E: Write>(
     asking: &Asking,
     client: &mut Client<'_, M>,
+    link: LinkAddress,
     err: &mut E,
 ) -> Result<u64, Status>
-    ensures ready { IfOk result (λ start. IsReady (OnPort M.is_bound M.Link.failures M.Link.calls) asking.now.host start
+    ensures ready { IfOk result (λ start. IsReady (OnPort M.is_bound M.Link.failures M.Link.calls) start
         (timed client.old.station.bound_node (M.Timer.told client.old.station.clock))
         (timed client.new.station.bound_node (M.Timer.told client.new.station.clock))) }
     ensures failed { IfErr result IsFailure }
@@ -93,7 +94,7 @@ fn get_ready<M: ClientSockets, E: Write>(
     if !client.is_over(start) {
         return Ok(start);
     }
-    client.replace(asking.host, err)?;
+    client.replace(asking.host, link, err)?;
     Ok(start)
 }
 
@@ -111,13 +112,14 @@ pub fn ask_on<M: ClientSockets, E: Write>(
         (timed client.new.station.bound_node (M.Timer.told client.new.station.clock))) }
     ensures failed { IfErr result IsFailure }
 {
-    let start = get_ready(asking, client, err)?;
+    let link = question.peer.link;
+    let start = get_ready(asking, client, link, err)?;
     let end = ask_at(asking, &mut client.station, start, question, err)?;
     if !ends_spent(&end) {
         return Ok(end);
     }
     drop(end);
-    client.replace(asking.host, err)?;
+    client.replace(asking.host, link, err)?;
     ask_from(asking, &mut client.station, question, err)
 }
 
@@ -287,7 +289,8 @@ fn questions_at<F: OpenFiles, E: Write>(
 /// Asks the requests of the lines of a file, in rounds if they are wanted, and prints each result after the number of its line. Lines that name no peer are asked
 /// of the default, if there is one.
 ///
-/// If the file cannot be read, prints `cannot read` and the reason on `err`. If a line is no request, prints which on `err`, and asks nothing.
+/// If the file cannot be read, prints `cannot read` and the reason on `err`. If a line is no request, or the system sends to the nodes of two lines from different
+/// addresses of this machine, prints which on `err`, and asks nothing.
 pub fn ask_lines<F: OpenFiles, M: ClientSockets, O: Write, E: Write>(
     environment: &Environment<'_, F, M>,
     asking: &Asking,
@@ -301,11 +304,13 @@ pub fn ask_lines<F: OpenFiles, M: ClientSockets, O: Write, E: Write>(
 {
     let alloc = environment.alloc;
     match questions_at(alloc, environment.files, default, path, err) {
-        Ok(lines) => {
-            let asking = asking.for_lines(environment.machine, &lines);
-            let asked = Asked::Lines(lines);
-            ask_by_client(alloc, environment.machine, &asking, &asked, out, err)
-        }
+        Ok(lines) => match asking.for_lines(environment.machine, &lines) {
+            Ok(asking) => {
+                let asked = Asked::Lines(lines);
+                ask_by_client(alloc, environment.machine, &asking, &asked, out, err)
+            }
+            Err(apart) => apart.report(path, err),
+        },
         Err(why) => why.status(),
     }
 }

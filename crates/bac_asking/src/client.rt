@@ -5,7 +5,7 @@ ghost use Rattle.bac_driver.specs.Views.{question_view};
 ghost use Rattle.bac_environment.specs.QuestionLines.{no_line};
 ghost use Rattle.bac_text.specs.Statuses.{IsFailure};
 ghost use Rattle.bac_asking.specs.Clients.{IsRenewed};
-ghost use Rattle.bac_asking.specs.Online.{HasLooked, IsClient, LooksOnce};
+ghost use Rattle.bac_asking.specs.Online.{HasLooked, IsClient, IsOneHost, LooksOnce};
 ghost use Rattle.bac_asking.specs.Recording.{PrintsAsk};
 ghost use Rattle.bac_environment.specs.Sockets.{OnClock, OnPort};
 
@@ -13,9 +13,10 @@ use crate::asking::Asking;
 use crate::pace::print_overdue;
 use crate::past_ports::PastPorts;
 use crate::recording::{Printer, Stamp, print_ask};
+use crate::sources::next_source;
 use bac_commands::{bound_client, clock_unread, link_fault};
 use bac_driver::{AskEnd, BoundNode, Clock, Question};
-use bac_environment::{ClientSockets, Guard, NO_LINE, NoPair, Station, print_no_link};
+use bac_environment::{ClientSockets, EVERY_HOST, Guard, NO_LINE, NoPair, Station, print_no_link};
 use bac_npdu::LinkAddress;
 use bac_pairs::ClientPair;
 use bac_text::{Status, no_memory};
@@ -119,7 +120,7 @@ fn is_held(held: Option<LinkAddress>, address: LinkAddress) -> bool
     }
 }
 
-/// A link of a new node at the port of a pair. None where the share of that port is over once it is bound, or the node at that address asks now.
+/// A link of a new node at the port of a pair; never at 0.0.0.0. None where the share of that port is over once it is bound, or the node at that address asks now.
 fn bind_pair<M: ClientSockets>(
     machine: &M,
     host: [u8; 4],
@@ -128,7 +129,16 @@ fn bind_pair<M: ClientSockets>(
 ) -> Result<Option<NewLink<M::Link>>, Unbound>
     ensures bound { IfOk result (λ found. IfSome found (λ c. M.is_bound host c.pair.port c.link c.address)) }
     ensures other { IfOk result (λ found. IfSome found (λ c. IfSome held (λ own. c.address ≢ own))) }
+    ensures named { IfOk result (λ _. IsOneHost host) }
 {
+    if host == EVERY_HOST {
+        let error = io::Error::from(ErrorKind::AddrNotAvailable);
+        return Err(Unbound {
+            host,
+            port: pair.port,
+            error,
+        });
+    }
     let guard = Guard::open();
     let port = pair.port;
     match machine.bind(host, port, &guard) {
@@ -161,6 +171,7 @@ fn bind_apart<M: ClientSockets>(
 ) -> Result<NewLink<M::Link>, NoLink>
     ensures bound { IfOk result (λ c. M.is_bound host c.pair.port c.link c.address) }
     ensures other { IfOk result (λ c. IfSome held (λ own. c.address ≢ own)) }
+    ensures named { IfOk result (λ _. IsOneHost host) }
 {
     let mut taken = None;
     for _ in 0..MOST_TRIES {
@@ -370,14 +381,15 @@ impl<'m, M: ClientSockets> Client<'m, M> {
         moment.saturating_sub(self.since) >= ASKING
     }
 
-    /// The next node, on a link of its own at another port, asks in the place of the one before. Answers that one. Where there is none, `err` and the status say
-    /// so, and nothing has changed but whether it is stranded.
+    /// The next node, on a link of its own at another port, asks in the place of the one before, which asked from that address; it is to ask the node at that link.
+    /// Answers the one before. Where there is no next one, `err` and the status say so, and nothing has changed but whether it is stranded.
     pub(crate) fn renew<E: Write>(
         &mut self,
         host: [u8; 4],
+        link: LinkAddress,
         err: &mut E,
     ) -> Result<BoundNode<M::Link>, Status>
-        ensures renewed { IfOk result (λ _. IsRenewed (OnPort M.is_bound M.Link.failures M.Link.calls) host
+        ensures renewed { IfOk result (λ _. IsRenewed (OnPort M.is_bound M.Link.failures M.Link.calls)
             (timed self.old.station.bound_node (M.Timer.told self.old.station.clock))
             (timed self.new.station.bound_node (M.Timer.told self.new.station.clock))) }
         ensures before { IfOk result (λ before. before ≡ self.old.station.bound_node) }
@@ -389,7 +401,7 @@ impl<'m, M: ClientSockets> Client<'m, M> {
         let now = node.latest();
         let own = node.link();
         let wanted = Wanted {
-            host,
+            host: next_source(self.machine, host, link),
             now,
             held: Some(own),
         };
@@ -410,13 +422,18 @@ impl<'m, M: ClientSockets> Client<'m, M> {
     }
 
     /// The same; the node before is given up.
-    pub(crate) fn replace<E: Write>(&mut self, host: [u8; 4], err: &mut E) -> Result<(), Status>
-        ensures renewed { IfOk result (λ _. IsRenewed (OnPort M.is_bound M.Link.failures M.Link.calls) host
+    pub(crate) fn replace<E: Write>(
+        &mut self,
+        host: [u8; 4],
+        link: LinkAddress,
+        err: &mut E,
+    ) -> Result<(), Status>
+        ensures renewed { IfOk result (λ _. IsRenewed (OnPort M.is_bound M.Link.failures M.Link.calls)
             (timed self.old.station.bound_node (M.Timer.told self.old.station.clock))
             (timed self.new.station.bound_node (M.Timer.told self.new.station.clock))) }
         ensures failed { IfErr result IsFailure }
     {
-        match self.renew(host, err) {
+        match self.renew(host, link, err) {
             Ok(before) => {
                 drop(before);
                 Ok(())

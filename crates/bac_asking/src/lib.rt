@@ -19,6 +19,7 @@ mod recording;
 mod rota;
 mod rounds;
 mod seconds;
+mod sources;
 mod timeout;
 mod unheard;
 mod unsent;

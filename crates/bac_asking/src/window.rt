@@ -109,22 +109,24 @@ fn begin_here<M: ClientSockets, E: Write>(
     Ok(Some(begun))
 }
 
-/// The next node asks in the place of the one that may not, or has nothing left. That one leaves, where asks of it are under way.
+/// The next node asks in the place of the one that may not, or has nothing left; it is to ask the node at that link. The one before leaves, where asks of it are
+/// under way.
 fn renew<M: ClientSockets, E: Write>(
     asking: &Asking,
     client: &mut Client<'_, M>,
     fleet: &mut Fleet<M::Link>,
+    link: LinkAddress,
     is_idle: bool,
     err: &mut E,
 ) -> Result<(), Status>
-    ensures renewed { IfOk result (λ _. IsRenewed (OnPort M.is_bound M.Link.failures M.Link.calls) asking.now.host
+    ensures renewed { IfOk result (λ _. IsRenewed (OnPort M.is_bound M.Link.failures M.Link.calls)
         (timed client.old.station.bound_node (M.Timer.told client.old.station.clock))
         (timed client.new.station.bound_node (M.Timer.told client.new.station.clock))) }
     ensures next { IfOk result (λ _. fleet.new ≡ next_fleet is_idle client.old.station.bound_node fleet.old) }
     ensures failed { IfErr result IsFailure }
 {
     fleet.make_room(err)?;
-    let before = client.renew(asking.host, err)?;
+    let before = client.renew(asking.host, link, err)?;
     fleet.advance(is_idle, before, err)
 }
 
@@ -145,7 +147,7 @@ fn begin_at_next<M: ClientSockets, E: Write>(
     if fleet.is_full(is_idle) {
         return Ok(None);
     }
-    renew(asking, client, fleet, is_idle, err)?;
+    renew(asking, client, fleet, question.peer.link, is_idle, err)?;
     let anew = begin(asking, &mut client.station, question, err)?;
     Ok(Some(anew))
 }

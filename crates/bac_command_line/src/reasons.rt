@@ -2,8 +2,11 @@
 ghost use Rattle.std.specs.Prelude.{◌≡◌};
 ghost use Rattle.bac_text.specs.declared.status.Status.TheVariants as status;
 
-use bac_asking::{bad_pace, bad_timeout, print_bad_pace, print_bad_timeout};
-use bac_environment::{EVERY_HOST, is_of_node, read_end, read_host, read_link, read_route};
+use bac_asking::{bad_pace, bad_timeout, print_bad_pace};
+use bac_environment::{
+    EVERY_HOST, OutOfRange, is_of_node, network_out_of_range, port_out_of_range, read_end,
+    read_host, read_link, read_route,
+};
 use bac_forms::FORM_NAMES;
 use bac_guard::SourcesFault;
 use bac_reading::{MOST_SLOWER, read_slower};
@@ -16,18 +19,27 @@ use std::io::Write;
 const ONE_HOST: &str =
     "a single address: responses might come from an address that no client asked; give the one that clients ask";
 
-/// The text behind `--at` that is no address of a server, and what is wanted.
-fn bad_host<'a>(given: &ArgMatches<'a>) -> Option<(&'a str, &'static str)> {
+/// Why a text is no address.
+#[derive(Clone, Copy)]
+enum AddressFault<'a> {
+    /// It is not what is wanted.
+    Not(&'static str),
+    /// It has the form of one, but a number in it is out of its range.
+    Number(OutOfRange<'a>),
+}
+
+/// The text behind `--at` that is no address of a server, and why.
+fn bad_host<'a>(given: &ArgMatches<'a>) -> Option<(&'a str, AddressFault<'a>)> {
     let at = given.get_str("at")?;
     let Some(host) = read_host(at) else {
-        return Some((at, "A.B.C.D"));
+        return Some((at, AddressFault::Not("A.B.C.D")));
     };
     if host == EVERY_HOST {
-        Some((at, ONE_HOST))
+        Some((at, AddressFault::Not(ONE_HOST)))
     } else if is_of_node(host) {
         None
     } else {
-        Some((at, NODE_HOST))
+        Some((at, AddressFault::Not(NODE_HOST)))
     }
 }
 
@@ -42,26 +54,42 @@ fn wanted_of_link(text: &str) -> &'static str {
     }
 }
 
-/// The text behind `--to` or `--route` that is no address or route, and the form that is wanted.
-fn bad_node<'a>(given: &ArgMatches<'a>) -> Option<(&'a str, &'static str)> {
+/// Why a text is no address of a node.
+fn link_fault_of(text: &str) -> AddressFault<'_> {
+    match port_out_of_range(text) {
+        Some(port) => AddressFault::Number(port),
+        None => AddressFault::Not(wanted_of_link(text)),
+    }
+}
+
+/// Why a text is no way on from a router.
+fn route_fault_of(text: &str) -> AddressFault<'_> {
+    match network_out_of_range(text) {
+        Some(network) => AddressFault::Number(network),
+        None => AddressFault::Not("NET:MAC, such as 5:2A"),
+    }
+}
+
+/// The text behind `--to` or `--route` that is no address or route, and why.
+fn bad_node<'a>(given: &ArgMatches<'a>) -> Option<(&'a str, AddressFault<'a>)> {
     if let Some(to) = given.get_str("to") {
         if read_link(to).is_none() {
-            return Some((to, wanted_of_link(to)));
+            return Some((to, link_fault_of(to)));
         }
     }
     let route = given.get_str("route")?;
     match read_route(route) {
         Some(_) => None,
-        None => Some((route, "NET:MAC, such as 5:2A")),
+        None => Some((route, route_fault_of(route))),
     }
 }
 
-/// The text behind `--peer` that is no address, and the form that is wanted.
-fn bad_peer<'a>(given: &ArgMatches<'a>) -> Option<(&'a str, &'static str)> {
+/// The text behind `--peer` that is no address, and why.
+fn bad_peer<'a>(given: &ArgMatches<'a>) -> Option<(&'a str, AddressFault<'a>)> {
     let peer = given.get_str("peer")?;
     match read_end(peer) {
         Some(_) => None,
-        None => Some((peer, "A.B.C.D or A.B.C.D:P")),
+        None => Some((peer, link_fault_of(peer))),
     }
 }
 
@@ -88,14 +116,17 @@ fn print_bad_slower<E: Write>(text: &str, err: &mut E) -> Status
     Status::CommandLine
 }
 
-/// Complains of a text that is no address: `bad address`, and which and what is wanted.
-fn print_bad_address<E: Write>(bad: Option<(&str, &'static str)>, err: &mut E) -> Status
+/// Complains of a text that is no address: `bad address`, and which and why.
+fn print_bad_address<E: Write>(bad: Option<(&str, AddressFault<'_>)>, err: &mut E) -> Status
     ensures { result ≡ status.CommandLine }
 {
     let status = complain(err, "bad address", Status::CommandLine);
-    if let Some((text, wanted)) = bad {
+    if let Some((text, fault)) = bad {
         // if that fails too, only the status is left
-        let _ = writeln!(err, "\"{text}\" is not {wanted}");
+        let _ = match fault {
+            AddressFault::Not(wanted) => writeln!(err, "\"{text}\" is not {wanted}"),
+            AddressFault::Number(number) => writeln!(err, "\"{text}\": {number}"),
+        };
     }
     status
 }
@@ -149,6 +180,19 @@ fn print_bad_form<E: Write>(form: Option<&str>, err: &mut E) -> Status
     status
 }
 
+/// Complains of a text behind `--timeout` that is no time from above 0 to a minute, as clap does of other arguments.
+fn print_bad_timeout<E: Write>(text: &str, err: &mut E) -> Status
+    ensures { result ≡ status.CommandLine }
+{
+    // if that fails too, only the status is left
+    let _ = writeln!(
+        err,
+        "error: invalid value '{text}' for '--timeout <TIME>': expected a time above 0 and at most 60 s, such as 500ms, 2s or 0.5"
+    );
+    let _ = err.write_all(b"\nFor more information, try '--help'.\n");
+    Status::CommandLine
+}
+
 /// Complains of what was given to a command that asks a node: the time between rounds, the time to wait, or the address.
 fn print_no_asking<E: Write>(given: &ArgMatches<'_>, err: &mut E) -> Status
     ensures { result ≡ status.CommandLine }
@@ -158,10 +202,7 @@ fn print_no_asking<E: Write>(given: &ArgMatches<'_>, err: &mut E) -> Status
         return Status::CommandLine;
     }
     match bad_timeout(given) {
-        Some(text) => {
-            print_bad_timeout(text, err);
-            Status::CommandLine
-        }
+        Some(text) => print_bad_timeout(text, err),
         None => print_bad_address(bad_node(given), err),
     }
 }

@@ -8,6 +8,7 @@ ghost use Rattle.bac_environment.specs.Addresses.{AreOctets, IsEnd, IsHost, IsLi
 
 use crate::numbers::{parts_at, read_short};
 use bac_npdu::{LinkAddress, Peer, Route};
+use std::fmt;
 use std::net::Ipv4Addr;
 
 /// The address of this machine that no other one reaches.
@@ -166,6 +167,65 @@ pub(crate) fn read_peer(text: &str) -> Option<Peer>
             let link = read_link(text)?;
             Some(Peer { link, route: None })
         }
+    }
+}
+
+/// A number in an address that is out of its range, by its digits.
+#[derive(Clone, Copy, Debug, PartialEq, Eq)]
+pub enum OutOfRange<'a> {
+    /// That of a UDP port, which is 1 to 65,535.
+    Port(&'a str),
+    /// That of a network, which is 1 to 65,534.
+    Network(&'a str),
+}
+
+impl fmt::Display for OutOfRange<'_> {
+    fn fmt<W: fmt::Write>(&self, f: &mut fmt::Formatter<W>) -> fmt::Result {
+        match *self {
+            OutOfRange::Port(digits) => write!(f, "port {digits} is not 1 to 65535"),
+            OutOfRange::Network(digits) => write!(f, "network {digits} is not 1 to 65534"),
+        }
+    }
+}
+
+/// Whether a text is decimal digits, at least one.
+fn are_digits(text: &str) -> bool {
+    !text.is_empty() && text.as_bytes().iter().all(|octet| octet.is_ascii_digit())
+}
+
+/// The port of a text as `192.168.1.20:70000` that is none. None where the text has another form, or its port is one.
+pub fn port_out_of_range(text: &str) -> Option<OutOfRange<'_>> {
+    let (host, port) = parts_at(text, ':')?;
+    if read_host(host).is_some() && are_digits(port) && read_port(port).is_none() {
+        Some(OutOfRange::Port(port))
+    } else {
+        None
+    }
+}
+
+/// Whether a text is the number of a network, 1 to 65,534.
+fn is_network(text: &str) -> bool {
+    matches!(read_short(text), Some(1..=65_534))
+}
+
+/// The number of a network in a text as `70000:2A` that is none. None where no number stands before a colon, or it is that of a network.
+pub fn network_out_of_range(text: &str) -> Option<OutOfRange<'_>> {
+    let (network, _) = parts_at(text, ':')?;
+    if are_digits(network) && !is_network(network) {
+        Some(OutOfRange::Network(network))
+    } else {
+        None
+    }
+}
+
+/// The same of a text as `192.168.1.20:70000` or `192.168.1.20/70000:2A`, which is to name a node.
+pub(crate) fn number_out_of_range(text: &str) -> Option<OutOfRange<'_>> {
+    let Some((address, way)) = parts_at(text, '/') else {
+        return port_out_of_range(text);
+    };
+    match port_out_of_range(address) {
+        Some(port) => Some(port),
+        None => network_out_of_range(way),
     }
 }
 

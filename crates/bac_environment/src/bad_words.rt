@@ -1,7 +1,7 @@
 //! What is printed of words that are no request.
 ghost use Rattle.bac_text.specs.Statuses.{IsStop};
 
-use crate::address::{read_end, read_link};
+use crate::address::{OutOfRange, number_out_of_range, read_end, read_link};
 use crate::near_names::{add_meant, name_like};
 use crate::source::{LinePlace, Source};
 use crate::value_forms::add_value_advice;
@@ -274,9 +274,18 @@ fn wanted_of_peer(word: &[u8]) -> &'static str {
 /// The form of the word that names a peer.
 const PEER_FORM: &str = "@A.B.C.D[:P][/NET:MAC]";
 
+/// The number that is out of its range in a word that names no peer, if one is.
+fn number_of_peer(word: &[u8]) -> Option<OutOfRange<'_>> {
+    let text = str::from_utf8(word).ok()?;
+    number_out_of_range(text.strip_prefix('@').unwrap_or(text))
+}
+
 fn print_bad_address<E: Write>(place: LinePlace<'_>, word: &[u8], err: &mut E) -> io::Result<()> {
-    let wanted = wanted_of_peer(word);
     write!(err, "{place}bad address: \"")?;
     err.write_all(word)?;
+    if let Some(number) = number_of_peer(word) {
+        return writeln!(err, "\": {number}");
+    }
+    let wanted = wanted_of_peer(word);
     writeln!(err, "\" is not {wanted}")
 }

@@ -27,8 +27,8 @@ mod times;
 mod value_forms;
 
 pub use address::{
-    BACNET_PORT, EVERY_HOST, LOCAL_HOST, host_towards, is_of_node, link_at, read_end, read_host,
-    read_link, read_route,
+    BACNET_PORT, EVERY_HOST, LOCAL_HOST, OutOfRange, host_towards, is_of_node, link_at,
+    network_out_of_range, port_out_of_range, read_end, read_host, read_link, read_route,
 };
 pub use asker::{Asker, NO_LINE};
 pub use bad_words::{bad_word_text, print_bad_words};

@@ -35,6 +35,8 @@ struct Backup<'e, F, M: ClientSockets> {
     folder: Folder<'e, F>,
     /// Whether an ask got no answer; nothing more is asked then.
     is_silent: bool,
+    /// Whether it began to write into a file of the peer.
+    has_begun: bool,
 }
 
 /// The words for an object in a request.
@@ -195,6 +197,23 @@ impl<F: OpenFiles, M: ClientSockets> Backup<'_, F, M> {
         Ok(None)
     }
 
+    /// Writes what was read of a file of the peer beside the file of the folder, if it was read to its end; otherwise prints that it was not.
+    fn keep_got<O: Write, E: Write>(
+        &mut self,
+        object: ObjectIdentifier,
+        got: &Got,
+        out: &mut O,
+        err: &mut E,
+    ) -> Result<Option<SavedFile>, Status>
+        ensures told { IfErr result IsStop }
+    {
+        if got.is_whole {
+            return self.keep_whole(object, &got.octets, out, err);
+        }
+        self.report_not_read(object, got, out, err)?;
+        Ok(None)
+    }
+
     /// Reads a file of the peer, and writes it beside that of the folder. Answers what the manifest is to say of it; None where it was not read or not written, which is printed.
     fn save<O: Write, E: Write>(
         &mut self,
@@ -205,11 +224,9 @@ impl<F: OpenFiles, M: ClientSockets> Backup<'_, F, M> {
         ensures told { IfErr result IsStop }
     {
         let got = self.read(object, err)?;
-        if got.is_whole {
-            return self.keep_whole(object, &got.octets, out, err);
-        }
-        self.report_not_read(object, &got, out, err)?;
-        Ok(None)
+        let saved = self.keep_got(object, &got, out, err);
+        drop(got);
+        saved
     }
 
     /// Reads files of the peer, and writes them beside those of the folder, each once, up to one that gets no answer. Answers those that are there.
@@ -435,27 +452,31 @@ impl<F: OpenFiles, M: ClientSockets> Backup<'_, F, M> {
             peer: self.peer,
             object: &words,
         };
+        self.has_begun = true;
         replace_whole(self.asking, &mut self.client, &file, octets, err)
     }
 
-    /// Prints that so many octets were not put into a file of the peer, and why.
-    fn print_not_put<O: Write, E: Write>(
+    /// Prints where not all of so many octets were put into a file of the peer, and why. Answers whether all were.
+    fn print_put<O: Write, E: Write>(
         &mut self,
         object: ObjectIdentifier,
         count: usize,
         put: &Put,
         out: &mut O,
         err: &mut E,
-    ) -> Result<(), Status>
+    ) -> Result<bool, Status>
         ensures told { IfErr result IsStop }
     {
+        if put.is_whole {
+            return Ok(true);
+        }
         let alloc = self.folder.alloc;
         let Ok(why) = end_words(alloc, &put.last) else {
             return Err(no_memory(err));
         };
         print_news(alloc, object, &news_of_unput(count, put, &why), out, err)?;
         self.note_silence(&put.last.end, err);
-        Ok(())
+        Ok(false)
     }
 
     /// Writes octets into a file of the peer, and prints where not all were. Answers whether all were.
@@ -469,11 +490,9 @@ impl<F: OpenFiles, M: ClientSockets> Backup<'_, F, M> {
         ensures told { IfErr result IsStop }
     {
         let put = self.put(object, octets, err)?;
-        if put.is_whole {
-            return Ok(true);
-        }
-        self.print_not_put(object, octets.len(), &put, out, err)?;
-        Ok(false)
+        let is_put = self.print_put(object, octets.len(), &put, out, err);
+        drop(put);
+        is_put
     }
 
     /// Prints whether a file of the peer, which was read again, has the octets that were put into it. Answers whether it has.
@@ -514,7 +533,9 @@ impl<F: OpenFiles, M: ClientSockets> Backup<'_, F, M> {
         ensures told { IfErr result IsStop }
     {
         let got = self.read(file.object, err)?;
-        self.print_compared(file, count, &got, out, err)
+        let is_same = self.print_compared(file, count, &got, out, err);
+        drop(got);
+        is_same
     }
 
     /// The octets of a file of the folder, as many as it is to have, and one more where it is longer; None where it cannot be read, which `err` says.
@@ -631,7 +652,8 @@ impl<F: OpenFiles, M: ClientSockets> Backup<'_, F, M> {
         Ok(all)
     }
 
-    /// Writes files of the folder back, if all of them are as the manifest lists them; otherwise none. Answers whether the peer has all of them then.
+    /// Writes files of the folder back, if all of them are as the manifest lists them; otherwise none. Answers whether the peer has all of them then. If none was
+    /// to be written, also as they changed meanwhile, `err` says so.
     fn restore_all<O: Write, E: Write>(
         &mut self,
         files: &[SavedFile],
@@ -640,11 +662,11 @@ impl<F: OpenFiles, M: ClientSockets> Backup<'_, F, M> {
     ) -> Result<bool, Status>
         ensures told { IfErr result IsStop }
     {
-        if self.has_files(files, out, err)? {
-            return self.restore_each(files, out, err);
+        let all = self.has_files(files, out, err)? && self.restore_each(files, out, err)?;
+        if !all && !self.has_begun {
+            print_nothing_restored(err);
         }
-        print_nothing_restored(err);
-        Ok(false)
+        Ok(all)
     }
 }
 
@@ -668,6 +690,7 @@ fn backup_in<'e, F: OpenFiles, M: ClientSockets, E: Write>(
             path,
         },
         is_silent: false,
+        has_begun: false,
     })
 }
 
@@ -686,7 +709,9 @@ fn back_up_named<F: OpenFiles, M: ClientSockets, O: Write, E: Write>(
         return Ok(false);
     }
     let mut backup = backup_in(environment, task, path, err)?;
-    backup.save_all(Wanted::named(objects), out, err)
+    let done = backup.save_all(Wanted::named(objects), out, err);
+    drop(backup);
+    done
 }
 
 /// Saves the files of a device in a folder. Answers whether all were saved.
@@ -704,7 +729,9 @@ fn back_up_listed<F: OpenFiles, M: ClientSockets, O: Write, E: Write>(
         return Ok(false);
     }
     let mut backup = backup_in(environment, task, path, err)?;
-    backup.save_listed(device, out, err)
+    let done = backup.save_listed(device, out, err);
+    drop(backup);
+    done
 }
 
 /// Saves files in a folder. Answers whether all were saved.
@@ -746,7 +773,9 @@ fn restore_listed<F: OpenFiles, M: ClientSockets, O: Write, E: Write>(
         return Ok(false);
     }
     let mut backup = backup_in(environment, task, path, err)?;
-    backup.restore_all(files, out, err)
+    let done = backup.restore_all(files, out, err);
+    drop(backup);
+    done
 }
 
 /// Writes the files of a folder back, and compares what the peer then has. Answers whether it has all of them.

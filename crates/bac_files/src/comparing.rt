@@ -6,7 +6,7 @@ ghost use Rattle.bac_files.specs.Comparing.{Compares};
 use sha2::{Digest, Sha256};
 
 /// What a file of a peer is, beside the octets that were put into it.
-#[derive(Clone, Copy, Debug, PartialEq, Eq)]
+#[derive(Clone, Copy, PartialEq, Eq)]
 pub enum Comparison {
     /// It has the same digest.
     Same,

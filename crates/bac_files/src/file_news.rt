@@ -31,7 +31,12 @@ pub(crate) enum FileNews<'a> {
     NotPut(usize, usize, &'a [u8]),
     /// The peer has more octets than were to be put, and was not emptied, for that reason: what became of them.
     NotCut(Uncut, &'a [u8]),
+    /// The peer refused access, with that answer, and says that the file is read-only.
+    ReadOnly(&'a [u8]),
 }
+
+/// What is said of a file that is read-only.
+pub(crate) const READ_ONLY: &str = "is read-only on the device, and nothing was written";
 
 /// Writes what came of it, without the reason that may stand behind.
 fn write_news<O: Write>(news: &FileNews<'_>, out: &mut O) -> io::Result<()> {
@@ -54,6 +59,7 @@ fn write_news<O: Write>(news: &FileNews<'_>, out: &mut O) -> io::Result<()> {
             write_uncut(*uncut, out)?;
             out.write_all(b": ")
         }
+        FileNews::ReadOnly(_) => write!(out, "{READ_ONLY}: "),
     }
 }
 
@@ -76,6 +82,7 @@ fn reason_of<'a>(news: &FileNews<'a>) -> &'a [u8] {
         FileNews::NotRead(_, why) => *why,
         FileNews::NotPut(_, _, why) => *why,
         FileNews::NotCut(_, why) => *why,
+        FileNews::ReadOnly(why) => *why,
         _ => &[],
     }
 }
@@ -124,6 +131,9 @@ pub(crate) fn tell_news<E: Write>(
 
 /// What came of so many octets that were not put as a whole, for that reason.
 pub(crate) fn news_of_unput<'a>(count: usize, put: &Put, why: &'a [u8]) -> FileNews<'a> {
+    if put.is_read_only {
+        return FileNews::ReadOnly(why);
+    }
     match put.uncut {
         Some(uncut) => FileNews::NotCut(uncut, why),
         None => FileNews::NotPut(put.count, count, why),

@@ -5,6 +5,7 @@ ghost use Rattle.bac_files.specs.WholeFiles.{IsFiled};
 ghost use Rattle.bac_npdu.specs.Views.{peer_view};
 
 use crate::backup::{back_up, restore};
+use crate::listed_files::ANY_DEVICE;
 use crate::named_file::{fetch, send};
 use crate::reasons::print_no_whole_file;
 use crate::whole_files::{get, put};
@@ -15,9 +16,6 @@ use bac_text::Status;
 use bac_value_text::object_in;
 use clap::ArgMatches;
 use std::io::Write;
-
-/// The instance that stands for a device of any instance (clause 15.5.2).
-const ANY_DEVICE: u64 = 4_194_303;
 
 /// Which files of a peer a backup saves.
 #[derive(Clone, Copy)]

@@ -2,7 +2,7 @@
 ghost use Rattle.std.specs.Prelude.{IfErr};
 ghost use Rattle.bac_text.specs.Statuses.{IsStop};
 
-use crate::reasons::print_unwritten;
+use crate::reasons::{print_no_parent, print_unwritten};
 use bac_environment::{OpenFiles, octets_of, opened};
 use bac_text::{Status, no_memory};
 use std::alloc::Global;
@@ -13,6 +13,16 @@ pub(crate) const MANIFEST: &str = "manifest";
 
 /// What the name of a file ends in until `Folder::finish` gives it its own.
 const UNFINISHED: &str = ".unfinished";
+
+/// The path of the folder that a path leads into. None where it names one alone, or the root.
+fn parent_of(path: &str) -> Option<&str> {
+    let (parent, _) = path.trim_end_matches('/').rsplit_once('/')?;
+    if parent.is_empty() {
+        None
+    } else {
+        Some(parent)
+    }
+}
 
 /// A folder, and the files that it is among.
 #[derive(Drop)]
@@ -34,10 +44,29 @@ impl<F: OpenFiles> Folder<'_, F> {
         }
     }
 
-    /// Makes it, where it is not there. Where that fails, `err` and the status say so.
+    /// Whether the folder at a path is missing. What is there and no folder is not missing.
+    fn is_missing<E: Write>(&self, path: &str, err: &mut E) -> Result<bool, Status>
+        ensures told { IfErr result IsStop }
+    {
+        // nothing but a folder opens under that name, so no pipe is waited for
+        let Ok(path) = format!(in self.alloc; "{path}/.") else {
+            return Err(no_memory(err));
+        };
+        match self.files.open(&path) {
+            Ok(_) => Ok(false),
+            Err(error) => Ok(error.kind() == ErrorKind::NotFound),
+        }
+    }
+
+    /// Makes it, where it is not there; the folder that it is in is not made. Where that fails, `err` and the status say so.
     pub(crate) fn make<E: Write>(&self, err: &mut E) -> Result<(), Status>
         ensures told { IfErr result IsStop }
     {
+        if let Some(parent) = parent_of(self.path) {
+            if self.is_missing(parent, err)? {
+                return Err(print_no_parent(self.path, parent, err));
+            }
+        }
         match self.files.make_folder(self.path) {
             Ok(()) => Ok(()),
             Err(error) => Err(print_unwritten(self.path, &error, err)),

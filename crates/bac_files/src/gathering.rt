@@ -13,7 +13,7 @@ use std::marker::Model;
 pub const MOST_OCTETS: usize = 67_108_864;
 
 /// The front of a file, as far as its parts are known.
-#[derive(Debug, Drop)]
+#[derive(Drop)]
 pub struct Gathering {
     octets: Vec<u8>,
     is_whole: bool,

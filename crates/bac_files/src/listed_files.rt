@@ -10,13 +10,16 @@ use bac_point_report::is_silent;
 use bac_service::{AnyComplex, AnyReply, Reply};
 use bac_service_text::{BadWord, Wanted};
 use bac_text::{Status, no_memory};
-use bac_value::{NoMemory, ObjectIdentifier, Value, value_of};
+use bac_value::{Element, NoMemory, ObjectIdentifier, Value, value_of};
 use bac_value_text::object_in;
 use std::alloc::Global;
 use std::io::Write;
 
 /// The number of the object type file (clause 21).
 const FILE: u16 = 10;
+
+/// The instance that stands for a device of any instance (clause 15.5.2).
+pub(crate) const ANY_DEVICE: u64 = 4_194_303;
 
 /// The object that a word names. A word that names none: `bad words` on `err`, and which.
 pub(crate) fn object_named_by<E: Write>(
@@ -56,6 +59,17 @@ pub(crate) fn objects_in<E: Write>(
     Ok(objects)
 }
 
+/// The file that an element of a list names; None where it names none.
+fn file_in(alloc: Global, element: Element<&[u8]>) -> Result<Option<ObjectIdentifier>, NoMemory> {
+    let value = value_of(alloc, element)?;
+    let file = match &value {
+        Some(Value::ObjectIdentifier(id)) if id.kind == FILE => Some(*id),
+        _ => None,
+    };
+    drop(value);
+    Ok(file)
+}
+
 /// The files among the objects of a reply; None where it has no values.
 fn files_in(
     alloc: Global,
@@ -70,19 +84,29 @@ fn files_in(
         let Some((element, others)) = rest.split_first() else {
             break;
         };
-        if let Some(Value::ObjectIdentifier(id)) = value_of(alloc, element)? {
-            if id.kind == FILE {
-                files.push(id)?;
-            }
+        if let Some(file) = file_in(alloc, element)? {
+            files.push(file)?;
         }
         rest = others;
     }
     Ok(Some(files))
 }
 
-/// What stands behind how the ask for the list ended, where it was answered.
-const ADVICE: &[u8] =
+/// What stands behind how the ask for the list of a device of any instance ended, where it was answered.
+const ANY_ADVICE: &[u8] =
     b"--device N reads the list of device N; arguments such as file:1 name files\n";
+
+/// What stands there of a device by its instance.
+const OWN_ADVICE: &[u8] = b"arguments such as file:1 name files\n";
+
+/// What stands there of the device with this instance.
+fn advice_for(device: u64) -> &'static [u8] {
+    if device == ANY_DEVICE {
+        ANY_ADVICE
+    } else {
+        OWN_ADVICE
+    }
+}
 
 /// A client asks for the object-list of the device with this instance. Answers how that ended.
 fn ask_list<M: ClientSockets, E: Write>(
@@ -101,10 +125,11 @@ fn ask_list<M: ClientSockets, E: Write>(
     ask_words(asking, client, peer, &words, err)
 }
 
-/// Tells how the ask for the list ended, where that was not with a list.
+/// Tells how the ask for the list of the device with this instance ended, where that was not with a list.
 fn tell_unlisted<E: Write>(
     alloc: Global,
     timeout: Option<u64>,
+    device: u64,
     asked: &Asked,
     err: &mut E,
 ) -> Result<(), Status>
@@ -123,9 +148,29 @@ fn tell_unlisted<E: Write>(
     let _ = err.write_all(&words);
     let _ = err.write_all(b"\n");
     if reply_of(&asked.end).is_some() {
-        let _ = err.write_all(ADVICE);
+        let _ = err.write_all(advice_for(device));
     }
     Ok(())
+}
+
+/// The files in the list that was asked for. None where it was not answered with one: `err` says how the ask ended.
+fn files_asked<E: Write>(
+    alloc: Global,
+    timeout: Option<u64>,
+    device: u64,
+    asked: &Asked,
+    err: &mut E,
+) -> Result<Option<Vec<ObjectIdentifier>>, Status>
+    ensures told { IfErr result IsStop }
+{
+    match files_in(alloc, reply_of(&asked.end)) {
+        Ok(Some(files)) => Ok(Some(files)),
+        Ok(None) => {
+            tell_unlisted(alloc, timeout, device, asked, err)?;
+            Ok(None)
+        }
+        Err(_) => Err(no_memory(err)),
+    }
 }
 
 /// The files that a peer lists, in the object-list of the device with this instance. None where it does not answer with that: `err` says how the ask ended.
@@ -138,14 +183,8 @@ pub(crate) fn listed_files<M: ClientSockets, E: Write>(
 ) -> Result<Option<Vec<ObjectIdentifier>>, Status>
     ensures told { IfErr result IsStop }
 {
-    let alloc = client.station.alloc;
     let asked = ask_list(asking, client, peer, device, err)?;
-    match files_in(alloc, reply_of(&asked.end)) {
-        Ok(Some(files)) => Ok(Some(files)),
-        Ok(None) => {
-            tell_unlisted(alloc, asking.timeout, &asked, err)?;
-            Ok(None)
-        }
-        Err(_) => Err(no_memory(err)),
-    }
+    let files = files_asked(client.station.alloc, asking.timeout, device, &asked, err);
+    drop(asked);
+    files
 }

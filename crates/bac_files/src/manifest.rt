@@ -10,7 +10,7 @@ use bac_value_text::{number_in, object_in, object_text, parts_at};
 use std::alloc::{AllocError, Global};
 
 /// A file of a peer, as a folder has it.
-#[derive(Clone, Copy, Debug, PartialEq, Eq)]
+#[derive(Clone, Copy)]
 pub struct SavedFile {
     /// The file object.
     pub object: ObjectIdentifier,

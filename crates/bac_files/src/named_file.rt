@@ -103,7 +103,9 @@ fn read_named<F: OpenFiles, M: ClientSockets, E: Write>(
     ensures told { IfErr result IsStop }
 {
     let mut client = client_of(environment, &task.asking, err)?;
-    read_whole(&task.asking, &mut client, &named.file, err)
+    let got = read_whole(&task.asking, &mut client, &named.file, err);
+    drop(client);
+    got
 }
 
 /// A client reads the file of a peer that a word names as a whole. Its octets are written to the file at a path, or as they are. Answers whether it was read to its end;
@@ -124,11 +126,13 @@ pub(crate) fn fetch<F: OpenFiles, M: ClientSockets, O: Write, E: Write>(
         return Ok(false);
     }
     let got = read_named(environment, task, &named, err)?;
-    if got.is_whole {
+    let done = if got.is_whole {
         deliver(environment.files, path, &got.octets, out, err)
     } else {
         tell_unread(alloc, &task.asking, named.object, &got, err)
-    }
+    };
+    drop(got);
+    done
 }
 
 /// Says on `err` that not all of so many octets were put into a file, what stands there, and why.
@@ -162,17 +166,14 @@ fn put_named<M: ClientSockets, E: Write>(
 {
     let count = octets.len();
     let put = replace_whole(asking, client, &named.file, octets, err)?;
-    if put.is_whole {
+    let done = if put.is_whole {
         has_no_more(asking, client, &named.file, count, err)
     } else {
-        tell_unput(
-            client.station.alloc,
-            asking,
-            (named.object, count),
-            &put,
-            err,
-        )
-    }
+        let alloc = client.station.alloc;
+        tell_unput(alloc, asking, (named.object, count), &put, err)
+    };
+    drop(put);
+    done
 }
 
 /// A new client does so.
@@ -186,7 +187,9 @@ fn put_by_client<F: OpenFiles, M: ClientSockets, E: Write>(
     ensures told { IfErr result IsStop }
 {
     let mut client = client_of(environment, &task.asking, err)?;
-    put_named(&task.asking, &mut client, named, octets, err)
+    let done = put_named(&task.asking, &mut client, named, octets, err);
+    drop(client);
+    done
 }
 
 /// Says how many octets were put.

@@ -4,7 +4,7 @@ ghost use Rattle.bac_files.specs.Sizes.{Shrinks, apdu_of, smaller_of};
 
 /// How many octets of a file one request reads or writes: as many as fit, with all else that is in the request and in the reply, into an APDU of the lengths
 /// that devices take (clause 20.1.2.5), so that neither goes in segments.
-#[derive(Clone, Copy, Debug, PartialEq, Eq)]
+#[derive(Clone, Copy)]
 pub enum PartSize {
     /// For APDUs of 1,476 octets, the most on BACnet/IP.
     Apdu1476,

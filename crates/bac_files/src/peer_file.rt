@@ -60,8 +60,13 @@ pub(crate) fn ask_words<M: ClientSockets, E: Write>(
     ensures told { IfErr result IsStop }
 {
     let question = question_of(client.station.alloc, peer, words, err)?;
-    let end = ask_on(asking, client, &question, err)?;
-    Ok(Asked { question, end })
+    match ask_on(asking, client, &question, err) {
+        Ok(end) => Ok(Asked { question, end }),
+        Err(status) => {
+            drop(question);
+            Err(status)
+        }
+    }
 }
 
 /// A number as a word.

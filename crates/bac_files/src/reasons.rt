@@ -20,6 +20,16 @@ pub(crate) fn print_unwritten<E: Write>(path: &str, error: &io::Error, err: &mut
     status
 }
 
+/// Complains that a folder cannot be made, as the one that it is to be in is missing.
+pub(crate) fn print_no_parent<E: Write>(path: &str, parent: &str, err: &mut E) -> Status
+    ensures told { IsStop result }
+{
+    let status = complain(err, "cannot write", Status::Output);
+    // if that fails too, only the status is left
+    let _ = writeln!(err, "{path}: the folder {parent} is missing");
+    status
+}
+
 /// Complains of words that ask for no whole file, where one was to be written.
 pub(crate) fn print_no_whole_file<E: Write>(err: &mut E) -> Status
     ensures { result ≡ status.CommandLine }

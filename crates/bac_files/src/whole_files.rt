@@ -2,7 +2,7 @@
 ghost use Rattle.std.specs.Prelude.{IfErr};
 ghost use Rattle.bac_text.specs.Statuses.{IsStop};
 
-use crate::file_news::write_uncut;
+use crate::file_news::{READ_ONLY, write_uncut};
 use crate::file_task::FileTask;
 use crate::peer_file::PeerFile;
 use crate::reasons::print_unwritten;
@@ -81,10 +81,14 @@ fn print_whole<M: ClientSockets, O: Write, E: Write>(
     ensures told { IfErr result IsStop }
 {
     let Got { octets, last, .. } = got;
-    match whole_end(octets) {
-        Some(end) => print_asked(asking, client, &last.question, &end, out, err),
+    let end = whole_end(octets);
+    let done = match &end {
+        Some(end) => print_asked(asking, client, &last.question, end, out, err),
         None => Err(no_memory(err)),
-    }
+    };
+    drop(end);
+    drop(last);
+    done
 }
 
 /// Whether the end of a read is printed on standard output: octets alone are not, where they are no part of the file.
@@ -127,10 +131,11 @@ fn show_whole<M: ClientSockets, O: Write, E: Write>(
 {
     let got = read_whole(asking, client, file, err)?;
     if got.is_whole {
-        print_whole(asking, client, got, out, err)
-    } else {
-        print_stopped(asking, client, file.object, &got, out, err)
+        return print_whole(asking, client, got, out, err);
     }
+    let done = print_stopped(asking, client, file.object, &got, out, err);
+    drop(got);
+    done
 }
 
 /// The same, but it is written to a file.
@@ -145,11 +150,13 @@ fn copy_whole<F: OpenFiles, M: ClientSockets, O: Write, E: Write>(
     ensures told { IfErr result IsStop }
 {
     let got = read_whole(asking, client, file, err)?;
-    if got.is_whole {
+    let done = if got.is_whole {
         write_out(target, &got.octets, out, err)
     } else {
         print_stopped(asking, client, file.object, &got, out, err)
-    }
+    };
+    drop(got);
+    done
 }
 
 /// A client reads a file of a peer as a whole. It is printed as the answer to one read of all of it, or written to the file at a path. Answers whether it was
@@ -169,13 +176,15 @@ pub(crate) fn get<F: OpenFiles, M: ClientSockets, O: Write, E: Write>(
     let file = PeerFile { peer, object };
     let files = environment.files;
     let mut client = client_of(environment, asking, err)?;
-    match path {
+    let done = match path {
         Some(path) => {
             let target = Target { files, path };
             copy_whole(&target, asking, &mut client, &file, out, err)
         }
         None => show_whole(asking, &mut client, &file, out, err),
-    }
+    };
+    drop(client);
+    done
 }
 
 /// Writes what became of a file that was not emptied, behind the words for its object.
@@ -191,6 +200,7 @@ fn tell_unput<E: Write>(of: (&str, usize), put: &Put, err: &mut E) {
     let written = put.count;
     // if that fails too, only the status is left
     let _ = match put.uncut {
+        _ if put.is_read_only => writeln!(err, "{object} {READ_ONLY}"),
         Some(uncut) => write_object_uncut(object, uncut, err),
         None => writeln!(err, "{object}: {written} of {count} octets were written"),
     };
@@ -209,7 +219,10 @@ fn print_put<M: ClientSockets, O: Write, E: Write>(
 {
     let question = &put.last.question;
     if put.is_whole {
-        return print_asked(asking, client, question, &written_end(), out, err);
+        let end = written_end();
+        let done = print_asked(asking, client, question, &end, out, err);
+        drop(end);
+        return done;
     }
     print_asked(asking, client, question, &put.last.end, out, err)?;
     tell_unput(of, put, err);
@@ -254,7 +267,9 @@ fn put_octets<M: ClientSockets, O: Write, E: Write>(
     ensures told { IfErr result IsStop }
 {
     let put = replace_whole(asking, client, file, octets, err)?;
-    print_put(asking, client, (file.object, octets.len()), &put, out, err)
+    let done = print_put(asking, client, (file.object, octets.len()), &put, out, err);
+    drop(put);
+    done
 }
 
 /// The same, and looks whether the file has more then. Answers whether it has these octets, and no more.
@@ -289,7 +304,9 @@ fn put_by_client<F: OpenFiles, M: ClientSockets, O: Write, E: Write>(
     let peer = task.peer;
     let file = PeerFile { peer, object };
     let mut client = client_of(environment, asking, err)?;
-    put_and_look(asking, &mut client, &file, octets, out, err)
+    let done = put_and_look(asking, &mut client, &file, octets, out, err);
+    drop(client);
+    done
 }
 
 /// A client writes the octets of a file into one of a peer, which has these octets then and no others; the answer is whether it has. Where it has not, `err` says

@@ -75,6 +75,8 @@ fn got_so_far<E: Write>(reading: Reading, last: Asked, err: &mut E) -> Result<Go
 {
     let fault = reading.fault;
     if fault == Some(PartFault::NoMemory) {
+        drop(reading);
+        drop(last);
         return Err(no_memory(err));
     }
     let is_whole = reading.gathering.is_whole();
@@ -103,6 +105,7 @@ pub(crate) fn read_whole<M: ClientSockets, E: Write>(
         if !reading.hear(&last.end) {
             return got_so_far(reading, last, err);
         }
+        drop(last);
     }
     Err(link_fault(err))
 }

@@ -68,6 +68,8 @@ pub(crate) struct Put {
     pub is_whole: bool,
     /// What became of the file, where it is longer than these and was not emptied, so that nothing was written.
     pub uncut: Option<Uncut>,
+    /// Whether the peer refused the first write, and says that the file is read-only.
+    pub is_read_only: bool,
     /// The last write, and how it ended.
     pub last: Asked,
 }
@@ -80,6 +82,7 @@ fn put_so_far(writing: Writing, octets: &[u8], last: Asked) -> Put {
         count,
         is_whole,
         uncut: None,
+        is_read_only: false,
         last,
     }
 }
@@ -104,6 +107,7 @@ fn write_whole<M: ClientSockets, E: Write>(
         if !writing.hear(octets, &last.end) {
             return Ok(put_so_far(writing, octets, last));
         }
+        drop(last);
     }
     Err(link_fault(err))
 }
@@ -114,6 +118,7 @@ fn nothing_put(uncut: Option<Uncut>, last: Asked) -> Put {
         count: 0,
         is_whole: false,
         uncut,
+        is_read_only: false,
         last,
     }
 }
@@ -151,7 +156,10 @@ fn empty<M: ClientSockets, E: Write>(
     let words = ["write", file.object, "file-size", NO_OCTETS];
     let last = ask_words(asking, client, file.peer, &words, err)?;
     match uncut_by(there, &last.end) {
-        None => Ok(None),
+        None => {
+            drop(last);
+            Ok(None)
+        }
         uncut => Ok(Some(nothing_put(uncut, last))),
     }
 }
@@ -170,14 +178,24 @@ fn make_room<M: ClientSockets, E: Write>(
     if is_silent(outcome_of(&last.end)) {
         return Ok(Some(nothing_put(None, last)));
     }
-    match size_in(client.station.alloc, &last, err)? {
-        Some(there) if there > count as u64 => empty(asking, client, file, there, err),
-        _ => Ok(None),
+    match size_in(client.station.alloc, &last, err) {
+        Ok(Some(there)) if there > count as u64 => {
+            drop(last);
+            empty(asking, client, file, there, err)
+        }
+        Ok(_) => {
+            drop(last);
+            Ok(None)
+        }
+        Err(status) => {
+            drop(last);
+            Err(status)
+        }
     }
 }
 
 /// A client writes octets to a file as all that it is to have: where it is longer, it is emptied first. Where that fails, nothing is written.
-pub(crate) fn replace_whole<M: ClientSockets, E: Write>(
+fn put_whole<M: ClientSockets, E: Write>(
     asking: &Asking,
     client: &mut Client<'_, M>,
     file: &PeerFile<'_>,
@@ -192,24 +210,87 @@ pub(crate) fn replace_whole<M: ClientSockets, E: Write>(
     }
 }
 
+/// Whether a peer refused access: it answered with write-access-denied or file-access-denied (clause 18).
+fn is_denied(end: &AskEnd) -> bool {
+    matches!(
+        outcome_of(end),
+        Outcome::Answered(
+            AnyReply::Error { class: 2, code: 40 } | AnyReply::Error { class: 5, code: 5 }
+        )
+    )
+}
+
+/// The same; where the peer refuses access before anything is written, it is asked whether the file is read-only.
+pub(crate) fn replace_whole<M: ClientSockets, E: Write>(
+    asking: &Asking,
+    client: &mut Client<'_, M>,
+    file: &PeerFile<'_>,
+    octets: &[u8],
+    err: &mut E,
+) -> Result<Put, Status>
+    ensures told { IfErr result IsStop }
+{
+    let mut put = put_whole(asking, client, file, octets, err)?;
+    if put.count > 0 || !is_denied(&put.last.end) {
+        return Ok(put);
+    }
+    match says_read_only(asking, client, file, err) {
+        Ok(is_read_only) => {
+            put.is_read_only = is_read_only;
+            Ok(put)
+        }
+        Err(status) => {
+            drop(put);
+            Err(status)
+        }
+    }
+}
+
 /// The end of an ask that is answered with position 0.
 pub(crate) fn written_end() -> AskEnd {
     let reply = AnyReply::Complex(AnyComplex::FileWritten(FileWritten::Stream(0)));
     AskEnd::Ended(Ending::Answered(reply))
 }
 
-/// The number that a read of a property was answered with.
-fn number_in(alloc: Global, reply: Option<Reply<'_>>) -> Result<Option<u64>, NoMemory> {
+/// The first value that a read of a property was answered with.
+fn value_in(alloc: Global, reply: Option<Reply<'_>>) -> Result<Option<Value>, NoMemory> {
     let Some(AnyReply::Complex(AnyComplex::PropertyRead(read))) = reply else {
         return Ok(None);
     };
-    let Some((element, _)) = read.values.elements().split_first() else {
-        return Ok(None);
-    };
-    match value_of(alloc, element)? {
-        Some(Value::Unsigned(number)) => Ok(Some(number)),
-        _ => Ok(None),
+    match read.values.elements().split_first() {
+        Some((element, _)) => value_of(alloc, element),
+        None => Ok(None),
     }
+}
+
+/// Whether a read of a property was answered with true.
+fn is_true_in<E: Write>(alloc: Global, asked: &Asked, err: &mut E) -> Result<bool, Status>
+    ensures told { IfErr result IsStop }
+{
+    match value_in(alloc, reply_of(&asked.end)) {
+        Ok(value) => {
+            let is = matches!(&value, Some(Value::Boolean(true)));
+            drop(value);
+            Ok(is)
+        }
+        Err(_) => Err(no_memory(err)),
+    }
+}
+
+/// Whether the property read-only of a file says that it is so (clause 12.13); not where the peer does not answer with true.
+fn says_read_only<M: ClientSockets, E: Write>(
+    asking: &Asking,
+    client: &mut Client<'_, M>,
+    file: &PeerFile<'_>,
+    err: &mut E,
+) -> Result<bool, Status>
+    ensures told { IfErr result IsStop }
+{
+    let words = ["read", file.object, "read-only"];
+    let asked = ask_words(asking, client, file.peer, &words, err)?;
+    let is = is_true_in(client.station.alloc, &asked, err);
+    drop(asked);
+    is
 }
 
 /// A client reads the file-size of a file.
@@ -229,8 +310,15 @@ fn ask_size<M: ClientSockets, E: Write>(
 fn size_in<E: Write>(alloc: Global, asked: &Asked, err: &mut E) -> Result<Option<u64>, Status>
     ensures told { IfErr result IsStop }
 {
-    match number_in(alloc, reply_of(&asked.end)) {
-        Ok(number) => Ok(number),
+    match value_in(alloc, reply_of(&asked.end)) {
+        Ok(value) => {
+            let number = match &value {
+                Some(Value::Unsigned(number)) => Some(*number),
+                _ => None,
+            };
+            drop(value);
+            Ok(number)
+        }
         Err(_) => Err(no_memory(err)),
     }
 }
@@ -245,5 +333,7 @@ pub(crate) fn size_of<M: ClientSockets, E: Write>(
     ensures told { IfErr result IsStop }
 {
     let asked = ask_size(asking, client, file, err)?;
-    size_in(client.station.alloc, &asked, err)
+    let size = size_in(client.station.alloc, &asked, err);
+    drop(asked);
+    size
 }

@@ -5,74 +5,48 @@ use Rattle.bac_apdu.specs.Apdu.{Limits}
 use Rattle.bac_service.specs.Values.{Request}
 use Rattle.bac_transaction.specs.Keys.{PeerKey}
 use Rattle.bac_world.specs.ReusingLogs.{NoneReuses, Reuses}
-use Rattle.bac_world.specs.ReusingWorlds.{WorldStepSo}
-use Rattle.bac_world.specs.World.{World, WorldStep, WorldRun, IsAsked}
+use Rattle.bac_world.specs.World.{World, Event, WorldStep, WorldRun, IsAsked}
 use Rattle.bac_world.specs.World.Event.{Deliver}
 use Rattle.bac_liveness.specs.StraightRuns.{is_open, DeliverEach, IsStraight, deliveries, ending_in, key_of_ask}
-use Rattle.bac_network.specs.Logs.{DeliverUnended, DeliverUnendedSo, Stops}
+use Rattle.bac_network.specs.Logs.{DeliverUnended, DeliverUnendedBy, DeliverUnendedSo, Stops}
 use Rattle.bac_network.specs.Open.{OpenUntilEnded}
 use Rattle.bac_network.proofs.Strictly.{step_strictly}
 
-module _ (overtake ask : ℕ) where
-  goes_on : (count number : ℕ) (w u v : World) → DeliverUnended overtake ask count number w u → ending_in ask u.log ≡ None
-      → WorldStep overtake u (Deliver (number + count)) v → DeliverUnended overtake ask (suc count) number w v
+-- whichever steps worlds take
+module _ (steps : World → Event → World → Type 0) (ask : ℕ) where
+  goes_on : (count number : ℕ) (w u v : World) → DeliverUnendedBy steps ask count number w u → ending_in ask u.log ≡ None
+      → steps u (Deliver (number + count)) v → DeliverUnendedBy steps ask (suc count) number w v
   goes_on zero number w u v h going step =
       let at : number + 0 ≡ number = omega arith in (
         subst (λ (y : World). ending_in ask y.log ≡ None) h going,
         v,
-        subst (λ (y : World). WorldStep overtake y (Deliver number) v) h (subst (λ (k : ℕ). WorldStep overtake u (Deliver k) v) at step),
+        subst (λ (y : World). steps y (Deliver number) v) h (subst (λ (k : ℕ). steps u (Deliver k) v) at step),
         refl,
       )
   goes_on (suc count) number w u v h going step =
       let at : number + suc count ≡ suc number + count = omega arith in
-      (h.0, h.1, h.2, goes_on count (suc number) h.1 u v h.3 going (subst (λ (k : ℕ). WorldStep overtake u (Deliver k) v) at step))
+      (h.0, h.1, h.2, goes_on count (suc number) h.1 u v h.3 going (subst (λ (k : ℕ). steps u (Deliver k) v) at step))
 
-  pub none_yet : (first : ℕ) (w : World) → DeliverUnended overtake ask (first - first) first w w
-  none_yet first w = let a : 0 ≡ first - first = omega arith in subst (λ (k : ℕ). DeliverUnended overtake ask k first w w) a refl
+  pub none_yet : (first : ℕ) (w : World) → DeliverUnendedBy steps ask (first - first) first w w
+  none_yet first w = let a : 0 ≡ first - first = omega arith in subst (λ (k : ℕ). DeliverUnendedBy steps ask k first w w) a refl
 
-  pub one_more : (first number : ℕ) (w u v : World) → first ≤ number → DeliverUnended overtake ask (number - first) first w u
-      → ending_in ask u.log ≡ None → WorldStep overtake u (Deliver number) v → DeliverUnended overtake ask (number + 1 - first) first w v
+  pub one_more : (first number : ℕ) (w u v : World) → first ≤ number → DeliverUnendedBy steps ask (number - first) first w u
+      → ending_in ask u.log ≡ None → steps u (Deliver number) v → DeliverUnendedBy steps ask (number + 1 - first) first w v
   one_more first number w u v le h going step =
       let a : suc (number - first) ≡ number + 1 - first = omega arith in
       let b : number ≡ first + (number - first) = omega arith in
-      subst (λ (k : ℕ). DeliverUnended overtake ask k first w v) a
-      (goes_on (number - first) first w u v h going (subst (λ (k : ℕ). WorldStep overtake u (Deliver k) v) b step))
+      subst (λ (k : ℕ). DeliverUnendedBy steps ask k first w v) a
+      (goes_on (number - first) first w u v h going (subst (λ (k : ℕ). steps u (Deliver k) v) b step))
 
-  pub run_of : (count number : ℕ) (w v : World) → DeliverUnended overtake ask count number w v → WorldRun overtake w (deliveries count number) v
-  run_of zero number w v h = h
-  run_of (suc count) number w v h = (h.1, h.2, run_of count (suc number) h.1 v h.3)
+pub run_of : (overtake ask count number : ℕ) (w v : World) → DeliverUnended overtake ask count number w v → WorldRun overtake w (deliveries count number) v
+run_of overtake ask zero number w v h = h
+run_of overtake ask (suc count) number w v h = (h.1, h.2, run_of overtake ask count (suc number) h.1 v h.3)
 
--- the same where these nodes let invoke IDs be used again
-module _ (overtake : ℕ) (r : Reuses) (ask : ℕ) where
-  goes_on_so : (count number : ℕ) (w u v : World) → DeliverUnendedSo overtake r ask count number w u → ending_in ask u.log ≡ None
-      → WorldStepSo overtake r u (Deliver (number + count)) v → DeliverUnendedSo overtake r ask (suc count) number w v
-  goes_on_so zero number w u v h going step =
-      let at : number + 0 ≡ number = omega arith in (
-        subst (λ (y : World). ending_in ask y.log ≡ None) h going,
-        v,
-        subst (λ (y : World). WorldStepSo overtake r y (Deliver number) v) h (subst (λ (k : ℕ). WorldStepSo overtake r u (Deliver k) v) at step),
-        refl,
-      )
-  goes_on_so (suc count) number w u v h going step =
-      let at : number + suc count ≡ suc number + count = omega arith in
-      (h.0, h.1, h.2, goes_on_so count (suc number) h.1 u v h.3 going (subst (λ (k : ℕ). WorldStepSo overtake r u (Deliver k) v) at step))
-
-  pub none_yet_so : (first : ℕ) (w : World) → DeliverUnendedSo overtake r ask (first - first) first w w
-  none_yet_so first w = let a : 0 ≡ first - first = omega arith in subst (λ (k : ℕ). DeliverUnendedSo overtake r ask k first w w) a refl
-
-  pub one_more_so : (first number : ℕ) (w u v : World) → first ≤ number → DeliverUnendedSo overtake r ask (number - first) first w u
-      → ending_in ask u.log ≡ None → WorldStepSo overtake r u (Deliver number) v → DeliverUnendedSo overtake r ask (number + 1 - first) first w v
-  one_more_so first number w u v le h going step =
-      let a : suc (number - first) ≡ number + 1 - first = omega arith in
-      let b : number ≡ first + (number - first) = omega arith in
-      subst (λ (k : ℕ). DeliverUnendedSo overtake r ask k first w v) a
-      (goes_on_so (number - first) first w u v h going (subst (λ (k : ℕ). WorldStepSo overtake r u (Deliver k) v) b step))
-
-  pub each_strictly : NoneReuses r → (count number : ℕ) (w v : World) → DeliverUnendedSo overtake r ask count number w v
-      → DeliverUnended overtake ask count number w v
-  each_strictly none zero number w v h = h
-  each_strictly none (suc count) number w v h =
-      (h.0, h.1, step_strictly overtake r none w (Deliver number) h.1 h.2, each_strictly none count (suc number) h.1 v h.3)
+pub each_strictly : (overtake : ℕ) (r : Reuses) (ask : ℕ) → NoneReuses r → (count number : ℕ) (w v : World)
+    → DeliverUnendedSo overtake r ask count number w v → DeliverUnended overtake ask count number w v
+each_strictly overtake r ask none zero number w v h = h
+each_strictly overtake r ask none (suc count) number w v h =
+    (h.0, h.1, step_strictly overtake r none w (Deliver number) h.1 h.2, each_strictly overtake r ask none count (suc number) h.1 v h.3)
 
 -- one delivery more at the end of a run
 run_more : (overtake count number : ℕ) (w u v : World) → WorldRun overtake w (deliveries count number) u → WorldStep overtake u (Deliver (number + count)) v

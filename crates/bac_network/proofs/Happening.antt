@@ -3,6 +3,7 @@ use Rattle.std.proofs.Common.{◌≡◌, ◌↔◌, ℕ, Bool, true, false, List
 use Rattle.std.proofs.Common.{refl, sym, ap, subst, inl, inr, ◌∙◌}
 use Rattle.std.specs.Option.{option_map}
 use Rattle.bac_protocol.specs.Service.{Octets}
+use Rattle.bac_store.specs.AtNode as at_node
 use Rattle.bac_store.specs.AtNode.{change_fault}
 use Rattle.bac_store.specs.Stores.{Store}
 use Rattle.bac_store.specs.declared.change_fault.ChangeFault.{ChangeFault}
@@ -54,168 +55,107 @@ module _ (overtake : ℕ) (u : Reuses) (old new : World) where
   no_node (Advance by own) h n = n
   no_node (Change node c) h n = none_some (slice_get old.nodes node) h.before n h.at
 
+  -- the one event that can have each of these faults
+
+  of_copy : (e : Event) → NamesNoCopy old e → (number : ℕ) × (e ≡ Deliver number)
+  of_copy (Ask client server limits r) n = absurd n
+  of_copy (Deliver number) n = (number, refl)
+  of_copy (Noise node from octets) n = absurd n
+  of_copy (Stray node from octets) n = absurd n
+  of_copy (AskAway client peer limits q) n = absurd n
+  of_copy (Tick node) n = absurd n
+  of_copy (Restart node exact store) n = absurd n
+  of_copy (Begin node exact) n = absurd n
+  of_copy (BeginAgain node exact first_id store) n = absurd n
+  of_copy (Advance by own) n = absurd n
+  of_copy (Change node c) n = absurd n
+
+  of_clock : (e : Event) → PassesClock old e → (by : ℕ) × (own : (ℕ → ℕ)) × (e ≡ Advance by own)
+  of_clock (Ask client server limits r) n = absurd n
+  of_clock (Deliver number) n = absurd n
+  of_clock (Noise node from octets) n = absurd n
+  of_clock (Stray node from octets) n = absurd n
+  of_clock (AskAway client peer limits q) n = absurd n
+  of_clock (Tick node) n = absurd n
+  of_clock (Restart node exact store) n = absurd n
+  of_clock (Begin node exact) n = absurd n
+  of_clock (BeginAgain node exact first_id store) n = absurd n
+  of_clock (Advance by own) n = (by, own, refl)
+  of_clock (Change node c) n = absurd n
+
+  of_change : (e : Event) (why : ChangeFault) → RefusesChange old e why → (node : ℕ) × (c : at_node.Change) × (e ≡ Change node c)
+  of_change (Ask client server limits r) why n = absurd n
+  of_change (Deliver number) why n = absurd n
+  of_change (Noise node from octets) why n = absurd n
+  of_change (Stray node from octets) why n = absurd n
+  of_change (AskAway client peer limits q) why n = absurd n
+  of_change (Tick node) why n = absurd n
+  of_change (Restart node exact store) why n = absurd n
+  of_change (Begin node exact) why n = absurd n
+  of_change (BeginAgain node exact first_id store) why n = absurd n
+  of_change (Advance by own) why n = absurd n
+  of_change (Change node c) why n = (node, c, refl)
+
   no_copy : (e : Event) → WorldStepSo overtake u old e new → NamesNoCopy old e → ⊥
-  no_copy (Ask client server limits r) h n = n
-  no_copy (Deliver number) h n = none_some (slice_get old.copies number) h.copy n h.there
-  no_copy (Noise node from octets) h n = n
-  no_copy (Stray node from octets) h n = n
-  no_copy (AskAway client peer limits q) h n = n
-  no_copy (Tick node) h n = n
-  no_copy (Restart node exact store) h n = n
-  no_copy (Begin node exact) h n = n
-  no_copy (BeginAgain node exact first_id store) h n = n
-  no_copy (Advance by own) h n = n
-  no_copy (Change node c) h n = n
+  no_copy e h n =
+      let d = of_copy e n in
+      let step : WorldStepSo overtake u old (Deliver d.0) new = subst (λ (f : Event). WorldStepSo overtake u old f new) d.1 h in
+      none_some (slice_get old.copies d.0) step.copy (subst (NamesNoCopy old) d.1 n) step.there
 
   node_or_copy : (e : Event) → NamesNoNode old e → NamesNoCopy old e → ⊥
-  node_or_copy (Ask client server limits r) n c = c
-  node_or_copy (Deliver number) n c = n
-  node_or_copy (Noise node from octets) n c = c
-  node_or_copy (Stray node from octets) n c = c
-  node_or_copy (AskAway client peer limits q) n c = c
-  node_or_copy (Tick node) n c = c
-  node_or_copy (Restart node exact store) n c = c
-  node_or_copy (Begin node exact) n c = c
-  node_or_copy (BeginAgain node exact first_id store) n c = c
-  node_or_copy (Advance by own) n c = n
-  node_or_copy (Change node d) n c = c
+  node_or_copy e n c = subst (NamesNoNode old) (of_copy e c).1 n
 
   node_or_clock : (e : Event) → NamesNoNode old e → PassesClock old e → ⊥
-  node_or_clock (Ask client server limits r) n c = c
-  node_or_clock (Deliver number) n c = n
-  node_or_clock (Noise node from octets) n c = c
-  node_or_clock (Stray node from octets) n c = c
-  node_or_clock (AskAway client peer limits q) n c = c
-  node_or_clock (Tick node) n c = c
-  node_or_clock (Restart node exact store) n c = c
-  node_or_clock (Begin node exact) n c = c
-  node_or_clock (BeginAgain node exact first_id store) n c = c
-  node_or_clock (Advance by own) n c = n
-  node_or_clock (Change node d) n c = c
+  node_or_clock e n c = subst (NamesNoNode old) (of_clock e c).2 n
 
   copy_or_clock : (e : Event) → NamesNoCopy old e → PassesClock old e → ⊥
-  copy_or_clock (Ask client server limits r) n c = n
-  copy_or_clock (Deliver number) n c = c
-  copy_or_clock (Noise node from octets) n c = n
-  copy_or_clock (Stray node from octets) n c = n
-  copy_or_clock (AskAway client peer limits q) n c = n
-  copy_or_clock (Tick node) n c = n
-  copy_or_clock (Restart node exact store) n c = n
-  copy_or_clock (Begin node exact) n c = n
-  copy_or_clock (BeginAgain node exact first_id store) n c = n
-  copy_or_clock (Advance by own) n c = n
-  copy_or_clock (Change node d) n c = n
+  copy_or_clock e n c = subst (NamesNoCopy old) (of_clock e c).2 n
 
   copy_or_memory : (e : Event) → NamesNoCopy old e → TakesMemory overtake old e → ⊥
-  copy_or_memory (Ask client server limits r) n m = n
-  copy_or_memory (Deliver number) n m = none_some (slice_get old.copies number) m.0 n m.1
-  copy_or_memory (Noise node from octets) n m = n
-  copy_or_memory (Stray node from octets) n m = n
-  copy_or_memory (AskAway client peer limits q) n m = n
-  copy_or_memory (Tick node) n m = n
-  copy_or_memory (Restart node exact store) n m = n
-  copy_or_memory (Begin node exact) n m = n
-  copy_or_memory (BeginAgain node exact first_id store) n m = n
-  copy_or_memory (Advance by own) n m = n
-  copy_or_memory (Change node d) n m = n
+  copy_or_memory e n m =
+      let d = of_copy e n in
+      let memory : TakesMemory overtake old (Deliver d.0) = subst (TakesMemory overtake old) d.1 m in
+      none_some (slice_get old.copies d.0) memory.0 (subst (NamesNoCopy old) d.1 n) memory.1
 
   clock_or_memory : (e : Event) → PassesClock old e → TakesMemory overtake old e → ⊥
-  clock_or_memory (Ask client server limits r) n m = n
-  clock_or_memory (Deliver number) n m = n
-  clock_or_memory (Noise node from octets) n m = n
-  clock_or_memory (Stray node from octets) n m = n
-  clock_or_memory (AskAway client peer limits q) n m = n
-  clock_or_memory (Tick node) n m = n
-  clock_or_memory (Restart node exact store) n m = n
-  clock_or_memory (Begin node exact) n m = n
-  clock_or_memory (BeginAgain node exact first_id store) n m = n
-  clock_or_memory (Advance by own) n m = m
-  clock_or_memory (Change node d) n m = n
+  clock_or_memory e n m = subst (TakesMemory overtake old) (of_clock e n).2 m
 
   no_refusal : (e : Event) → WorldStepSo overtake u old e new → (why : ChangeFault) → RefusesChange old e why → ⊥
-  no_refusal (Change node c) h why r =
-      let same : Some h.before ≡ Some r.0 = sym h.at ∙ r.1 in
-      let node_is : h.before ≡ r.0 = cc in
-      none_some (change_fault h.before.store c) why h.may (ap (λ (a : Node). change_fault a.store c) node_is ∙ r.2)
-  no_refusal (Ask client server limits q) h why r = r
-  no_refusal (Deliver number) h why r = r
-  no_refusal (Noise node from octets) h why r = r
-  no_refusal (Stray node from octets) h why r = r
-  no_refusal (AskAway client peer limits q) h why r = r
-  no_refusal (Tick node) h why r = r
-  no_refusal (Restart node exact store) h why r = r
-  no_refusal (Begin node exact) h why r = r
-  no_refusal (BeginAgain node exact first_id store) h why r = r
-  no_refusal (Advance by own) h why r = r
+  no_refusal e h why r =
+      let d = of_change e why r in
+      let step : WorldStepSo overtake u old (Change d.0 d.1) new = subst (λ (f : Event). WorldStepSo overtake u old f new) d.2 h in
+      let refused : RefusesChange old (Change d.0 d.1) why = subst (λ (f : Event). RefusesChange old f why) d.2 r in
+      let same : Some step.before ≡ Some refused.0 = sym step.at ∙ refused.1 in
+      let node_is : step.before ≡ refused.0 = cc in
+      none_some (change_fault step.before.store d.1) why step.may (ap (λ (a : Node). change_fault a.store d.1) node_is ∙ refused.2)
 
   node_or_refusal : (e : Event) → NamesNoNode old e → (why : ChangeFault) → RefusesChange old e why → ⊥
-  node_or_refusal (Change node c) n why r = none_some (slice_get old.nodes node) r.0 n r.1
-  node_or_refusal (Ask client server limits q) n why r = r
-  node_or_refusal (Deliver number) n why r = r
-  node_or_refusal (Noise node from octets) n why r = r
-  node_or_refusal (Stray node from octets) n why r = r
-  node_or_refusal (AskAway client peer limits q) n why r = r
-  node_or_refusal (Tick node) n why r = r
-  node_or_refusal (Restart node exact store) n why r = r
-  node_or_refusal (Begin node exact) n why r = r
-  node_or_refusal (BeginAgain node exact first_id store) n why r = r
-  node_or_refusal (Advance by own) n why r = r
+  node_or_refusal e n why r =
+      let d = of_change e why r in
+      let refused : RefusesChange old (Change d.0 d.1) why = subst (λ (f : Event). RefusesChange old f why) d.2 r in
+      none_some (slice_get old.nodes d.0) refused.0 (subst (NamesNoNode old) d.2 n) refused.1
 
   copy_or_refusal : (e : Event) → NamesNoCopy old e → (why : ChangeFault) → RefusesChange old e why → ⊥
-  copy_or_refusal (Change node c) n why r = n
-  copy_or_refusal (Ask client server limits q) n why r = r
-  copy_or_refusal (Deliver number) n why r = r
-  copy_or_refusal (Noise node from octets) n why r = r
-  copy_or_refusal (Stray node from octets) n why r = r
-  copy_or_refusal (AskAway client peer limits q) n why r = r
-  copy_or_refusal (Tick node) n why r = r
-  copy_or_refusal (Restart node exact store) n why r = r
-  copy_or_refusal (Begin node exact) n why r = r
-  copy_or_refusal (BeginAgain node exact first_id store) n why r = r
-  copy_or_refusal (Advance by own) n why r = r
+  copy_or_refusal e n why r = subst (NamesNoCopy old) (of_change e why r).2 n
 
   clock_or_refusal : (e : Event) → PassesClock old e → (why : ChangeFault) → RefusesChange old e why → ⊥
-  clock_or_refusal (Change node c) n why r = n
-  clock_or_refusal (Ask client server limits q) n why r = r
-  clock_or_refusal (Deliver number) n why r = r
-  clock_or_refusal (Noise node from octets) n why r = r
-  clock_or_refusal (Stray node from octets) n why r = r
-  clock_or_refusal (AskAway client peer limits q) n why r = r
-  clock_or_refusal (Tick node) n why r = r
-  clock_or_refusal (Restart node exact store) n why r = r
-  clock_or_refusal (Begin node exact) n why r = r
-  clock_or_refusal (BeginAgain node exact first_id store) n why r = r
-  clock_or_refusal (Advance by own) n why r = r
+  clock_or_refusal e n why r = subst (PassesClock old) (of_change e why r).2 n
 
   memory_or_refusal : (e : Event) → TakesMemory overtake old e → (why : ChangeFault) → RefusesChange old e why → ⊥
-  memory_or_refusal (Change node c) m why r = m why r
-  memory_or_refusal (Ask client server limits q) m why r = r
-  memory_or_refusal (Deliver number) m why r = r
-  memory_or_refusal (Noise node from octets) m why r = r
-  memory_or_refusal (Stray node from octets) m why r = r
-  memory_or_refusal (AskAway client peer limits q) m why r = r
-  memory_or_refusal (Tick node) m why r = r
-  memory_or_refusal (Restart node exact store) m why r = r
-  memory_or_refusal (Begin node exact) m why r = r
-  memory_or_refusal (BeginAgain node exact first_id store) m why r = r
-  memory_or_refusal (Advance by own) m why r = r
+  memory_or_refusal e m why r =
+      let d = of_change e why r in
+      let memory : TakesMemory overtake old (Change d.0 d.1) = subst (TakesMemory overtake old) d.2 m in
+      memory why (subst (λ (f : Event). RefusesChange old f why) d.2 r)
 
   one_refusal : (e : Event) (why other : ChangeFault) → RefusesChange old e why → RefusesChange old e other → why ≡ other
-  one_refusal (Change node c) why other r s =
-      let same : Some r.0 ≡ Some s.0 = sym r.1 ∙ s.1 in
-      let node_is : r.0 ≡ s.0 = cc in
-      let one : Some why ≡ Some other = sym r.2 ∙ ap (λ (a : Node). change_fault a.store c) node_is ∙ s.2 in
+  one_refusal e why other r s =
+      let d = of_change e why r in
+      let one : RefusesChange old (Change d.0 d.1) why = subst (λ (f : Event). RefusesChange old f why) d.2 r in
+      let two : RefusesChange old (Change d.0 d.1) other = subst (λ (f : Event). RefusesChange old f other) d.2 s in
+      let same : Some one.0 ≡ Some two.0 = sym one.1 ∙ two.1 in
+      let node_is : one.0 ≡ two.0 = cc in
+      let is : Some why ≡ Some other = sym one.2 ∙ ap (λ (a : Node). change_fault a.store d.1) node_is ∙ two.2 in
       cc
-  one_refusal (Ask client server limits q) why other r s = absurd r
-  one_refusal (Deliver number) why other r s = absurd r
-  one_refusal (Noise node from octets) why other r s = absurd r
-  one_refusal (Stray node from octets) why other r s = absurd r
-  one_refusal (AskAway client peer limits q) why other r s = absurd r
-  one_refusal (Tick node) why other r s = absurd r
-  one_refusal (Restart node exact store) why other r s = absurd r
-  one_refusal (Begin node exact) why other r s = absurd r
-  one_refusal (BeginAgain node exact first_id store) why other r s = absurd r
-  one_refusal (Advance by own) why other r s = absurd r
 
   -- a stranger's link that is a node's excludes all other faults
   link_alone : (e : Event) → NamesNodeLink old e → (NamesNoNode old e → ⊥) × (NamesNoCopy old e → ⊥) × (PassesClock old e → ⊥)

@@ -3,9 +3,11 @@ pub mod AsksAlone
 pub mod Strictly
 pub mod Histories
 pub mod OfNone
+pub mod Laws
 pub mod StrangerLogs
 pub mod Entered
 pub mod Happening
+pub mod Stepped
 pub mod Delivered
 pub mod Changed
 pub mod Restarted

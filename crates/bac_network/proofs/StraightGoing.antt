@@ -21,6 +21,7 @@ use Rattle.bac_network.specs.declared.fault.WorldFault.{WorldFault}
 use Rattle.bac_network.specs.declared.running.StraightRun.{StraightRun}
 use Rattle.bac_network.specs.Histories.{HasHistory, HasNoReuse, WorldView, as_world, reuses_of}
 use Rattle.bac_network.specs.Rules.{reuses_by}
+use Rattle.bac_network.specs.Runs.{KeepsSettings}
 use Rattle.bac_world.specs.ReusingLogs.{NoneReuses}
 use Rattle.bac_network.specs.Steps.{IsFault}
 use Rattle.bac_network.specs.Views.{fact_view, log_view}
@@ -31,33 +32,30 @@ use Rattle.bac_network.specs.Going.{HasGone, HasStopped, IsStuck}
 use Rattle.bac_network.specs.Logs.{IsSince, DeliverUnended, Stops, ending_by}
 use Rattle.bac_network.specs.StraightRuns.{Goes, GoesAt, WentBy, WentSoFar, limits_of_server}
 use Rattle.bac_network.specs.Tells.{LogTells}
-use Rattle.bac_network.proofs.Deliveries.{each_strictly, none_yet_so, one_more_so, run_of}
+use Rattle.bac_network.proofs.Deliveries.{each_strictly, none_yet, one_more, run_of}
 use Rattle.bac_network.proofs.Grown.{since_grows, delivered_grows_so}
+use Rattle.bac_network.proofs.Strictly.{settings_on}
 use Rattle.bac_network.proofs.Tells.{log_tells}
 
 pub gone_none : (ask since first : ℕ) (w : WorldView) → IsSince since ask w.log → HasGone ask since first w w (first - first)
 gone_none ask since first w h = record {
-  each = none_yet_so w.overtake (reuses_of w) ask first (as_world w);
+  each = none_yet (WorldStepSo w.overtake (reuses_of w)) ask first (as_world w);
   since_is = h;
-  overtake = refl;
-  opening = refl;
-  reuses = refl;
+  settings = (refl, refl, refl);
   passed = refl;
 }
 
 pub gone_more : (ask since first number : ℕ) (w u v : WorldView) → first ≤ number → HasGone ask since first w u (number - first)
-    → ending_in ask u.log ≡ None → WorldStepSo u.overtake (reuses_of u) (as_world u) (Deliver number) (as_world v) → v.overtake ≡ u.overtake
-    → v.opening ≡ u.opening → v.reuses ≡ u.reuses → v.time ≡ u.time → HasGone ask since first w v (number + 1 - first)
-gone_more ask since first number w u v le h none step overtake opening reuses passed =
+    → ending_in ask u.log ≡ None → WorldStepSo u.overtake (reuses_of u) (as_world u) (Deliver number) (as_world v) → KeepsSettings u v
+    → v.time ≡ u.time → HasGone ask since first w v (number + 1 - first)
+gone_more ask since first number w u v le h none step settings passed =
     let did : WorldStepSo w.overtake (reuses_of w) (as_world u) (Deliver number) (as_world v) =
-    subst (λ k. WorldStepSo k (reuses_of w) (as_world u) (Deliver number) (as_world v)) h.overtake
-    (subst (λ (l : List Bool). WorldStepSo u.overtake (reuses_by l) (as_world u) (Deliver number) (as_world v)) h.reuses step) in
+    subst (λ k. WorldStepSo k (reuses_of w) (as_world u) (Deliver number) (as_world v)) h.settings.0
+    (subst (λ (l : List Bool). WorldStepSo u.overtake (reuses_by l) (as_world u) (Deliver number) (as_world v)) h.settings.2 step) in
     record {
-      each = one_more_so w.overtake (reuses_of w) ask first number (as_world w) (as_world u) (as_world v) le h.each none did;
+      each = one_more (WorldStepSo w.overtake (reuses_of w)) ask first number (as_world w) (as_world u) (as_world v) le h.each none did;
       since_is = since_grows since ask u.log v.log (delivered_grows_so w.overtake (reuses_of w) number (as_world u) (as_world v) did) h.since_is;
-      overtake = overtake ∙ h.overtake;
-      opening = opening ∙ h.opening;
-      reuses = reuses ∙ h.reuses;
+      settings = settings_on w u v settings h.settings;
       passed = passed ∙ h.passed;
     }
 
@@ -77,15 +75,15 @@ stuck_at f ask since first number w u v le h none left why is =
       gone = h;
       unended = none;
       left = subst (λ k. k < length u.copies) at left;
-      why = subst (λ k. IsFault f w.overtake (as_world u) (Deliver k)) at (subst (λ k. IsFault f k (as_world u) (Deliver number)) h.overtake why);
+      why = subst (λ k. IsFault f w.overtake (as_world u) (Deliver k)) at (subst (λ k. IsFault f k (as_world u) (Deliver number)) h.settings.0 why);
     })
 
 -- wherever the deliveries stopped, the rest stays
 pub stays_so : (ask since first : ℕ) (w u : WorldView) (q : Result StraightRun WorldFault)
     → MatchResult q (λ s. HasStopped ask since first w u s.deliveries × (s.ask ≡ Some ask)) (λ f. IsStuck f ask since first w u)
-    → (u.overtake ≡ w.overtake) × (u.opening ≡ w.opening) × (u.reuses ≡ w.reuses) × (u.time ≡ w.time)
-stays_so ask since first w u (Ok s) h = (h.0.gone.overtake, h.0.gone.opening, h.0.gone.reuses, h.0.gone.passed)
-stays_so ask since first w u (Err f) h = (h.gone.overtake, h.gone.opening, h.gone.reuses, h.gone.passed)
+    → KeepsSettings w u × (u.time ≡ w.time)
+stays_so ask since first w u (Ok s) h = (h.0.gone.settings, h.0.gone.passed)
+stays_so ask since first w u (Err f) h = (h.gone.settings, h.gone.passed)
 
 -- what the log of a world with a history tells
 pub tells : (w : WorldView) → HasHistory w → LogTells w.overtake (as_world w)

@@ -1,5 +1,5 @@
 -- Where no node lets invoke IDs be used again, what happens is what happens in a world of strict nodes.
-use Rattle.std.proofs.Common.{◌≡◌, ℕ, Bool, true, false, List, [], ◌∷◌, Option, Result, Ok, Err, inl, inr, sym, subst}
+use Rattle.std.proofs.Common.{◌≡◌, ℕ, Bool, true, false, List, [], ◌∷◌, Option, Result, Ok, Err, inl, inr, sym, subst, ◌∙◌}
 use Rattle.bac_protocol.specs.Service.{Octets}
 use Rattle.bac_requester.specs.declared.ask_fault.AskFault.{AskFault}
 use Rattle.bac_world.specs.ReusingLogs.{NoneReuses, Reuses}
@@ -8,7 +8,7 @@ use Rattle.bac_world.specs.World.{Copy, DeliversIf, Event, Hears, World, WorldRu
 use Rattle.bac_world.specs.World.Event.{Ask, AskAway, Deliver, Noise, Stray, Tick, Advance, Change, Restart, Begin, BeginAgain}
 use Rattle.bac_network.specs.Histories.{WorldView, HasNoReuse, HasRun, HasRunSo, reuses_of}
 use Rattle.bac_network.specs.Rules.{reuses_by}
-use Rattle.bac_network.specs.Runs.{StopsAt, StopsAtSo}
+use Rattle.bac_network.specs.Runs.{KeepsSettings, StopsAt, StopsAtSo}
 use Rattle.bac_network.specs.Steps.{HappensTelling, HappensTellingSo}
 use Rattle.bac_network.specs.declared.fault.RunFault.{RunFault}
 use Rattle.bac_network.specs.declared.fault.WorldFault.{WorldFault}
@@ -96,3 +96,7 @@ stops_strictly f old events new none h = record {
 -- rules that are the same are strict where they were
 pub still_strict : {a b : List Bool} → b ≡ a → NoneReuses (reuses_by a) → NoneReuses (reuses_by b)
 still_strict same none = subst (λ (l : List Bool). NoneReuses (reuses_by l)) (sym same) none
+
+-- the settings stay where they stayed twice
+pub settings_on : (w u v : WorldView) → KeepsSettings u v → KeepsSettings w u → KeepsSettings w v
+settings_on w u v more before = (more.0 ∙ before.0, more.1 ∙ before.1, more.2 ∙ before.2)

@@ -1,7 +1,7 @@
 -- What a loop over the copies of an ask needs.
 use Rattle.std.proofs.Common.{ℕ, List}
 use Rattle.bac_protocol.specs.Pace.{IsTimely}
-use Rattle.bac_world.specs.World.{World, Event, WorldRun, IsFresh, IsBounded}
+use Rattle.bac_world.specs.World.{World, Event, WorldRun, WorldStep, IsFresh, IsBounded}
 use Rattle.bac_network.specs.Tells.{LogTells, LoopGoesOn}
 use Rattle.bac_network.proofs.Deliveries.{none_yet, one_more}
 use Rattle.bac_network.proofs.Grown.{since_grows, delivered_grows}
@@ -9,8 +9,8 @@ use Rattle.bac_network.proofs.Results.{asked_since, delivered_run, delivered_str
 
 pub loop_goes_on : LoopGoesOn
 loop_goes_on = record {
-  first = none_yet;
-  next = one_more;
+  first = λ overtake ask. none_yet (WorldStep overtake) ask;
+  next = λ overtake ask. one_more (WorldStep overtake) ask;
   since = λ overtake ask since number u v h step. since_grows since ask u.log v.log (delivered_grows overtake number u v step) h;
 }
 

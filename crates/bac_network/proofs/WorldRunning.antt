@@ -6,12 +6,11 @@ use Rattle.bac_world.specs.ReusingWorlds.{WorldRunSo, WorldStepSo}
 use Rattle.bac_world.specs.World.{World, WorldRun, MakeNoStray, MakeRequestsAlone}
 use Rattle.bac_world.proofs.Quiet.{alone_after_run}
 use Rattle.bac_requester.specs.declared.ask_fault.AskFault.{AskFault}
-use Rattle.bac_store.specs.declared.change_fault.ChangeFault.{ChangeFault}
 use Rattle.bac_network.specs.AsksAlone.{HasAsksAloneNow}
 use Rattle.bac_network.specs.Histories.{WorldView, HasHistory, HasRequestsAloneNow, as_world, reuses_of}
 use Rattle.bac_network.specs.Rules.{reuses_by}
-use Rattle.bac_network.specs.Runs.{StopsAtSo}
-use Rattle.bac_network.specs.Steps.{BeginsTooSoon, IsFault, NamesNoCopy, NamesNodeLink, NamesNoNode, PassesClock, RefusesChange, TakesMemory}
+use Rattle.bac_network.specs.Runs.{StopsAtSo, TellsWhyNot, event_in}
+use Rattle.bac_network.specs.Steps.{IsFault}
 use Rattle.bac_network.specs.Clocks.{Instant}
 use Rattle.bac_network.specs.Views.{event_view, events_view, instant_after, instant_after_all}
 use Rattle.bac_network.specs.declared.event.Event.{Event}
@@ -140,22 +139,15 @@ asks_so_far old mid events place history done before alone calm =
 clash : (r : Result (Option AskFault) WorldFault) → r ≡ Err fault.NoMemory → r ≡ Err fault.NoSuchNode → ⊥
 clash r a b = cc
 
-pub fault_is : (f : WorldFault) (overtake : ℕ) (w : World) (e : world.Event) (r : Result (Option AskFault) WorldFault) → r ≡ Err f
-    → (IsErrOf r fault.NoSuchNode ↔ NamesNoNode w e) → (IsErrOf r fault.NoSuchDatagram ↔ NamesNoCopy w e)
-    → (IsErrOf r fault.NodeLink ↔ NamesNodeLink w e) → (IsErrOf r fault.ClockEnd ↔ PassesClock w e)
-    → (IsErrOf r fault.TooSoon ↔ BeginsTooSoon w e)
-    → ((why : ChangeFault) → (IsErrOf r (fault.BadChange why) ↔ RefusesChange w e why))
-    → (IsErrOf r fault.NoMemory → TakesMemory overtake w e) → IsFault f overtake w e
-fault_is fault.NoSuchNode overtake w e r is node copy link clock soon change memory = node.0 is
-fault_is fault.NoSuchDatagram overtake w e r is node copy link clock soon change memory = copy.0 is
-fault_is fault.NodeLink overtake w e r is node copy link clock soon change memory = link.0 is
-fault_is fault.ClockEnd overtake w e r is node copy link clock soon change memory = clock.0 is
-fault_is fault.TooSoon overtake w e r is node copy link clock soon change memory = soon.0 is
-fault_is (fault.BadChange why) overtake w e r is node copy link clock soon change memory = (change why).0 is
-fault_is fault.NoMemory overtake w e r is node copy link clock soon change memory = (
-  memory is,
-  λ n. clash r is (node.1 n),
-)
+pub fault_is : (f : WorldFault) (w : WorldView) (e : Event) (r : Result (Option AskFault) WorldFault) → r ≡ Err f → TellsWhyNot r w e
+    → IsFault f w.overtake (as_world w) (event_in w e)
+fault_is fault.NoSuchNode w e r is why = why.node.0 is
+fault_is fault.NoSuchDatagram w e r is why = why.datagram.0 is
+fault_is fault.NodeLink w e r is why = why.link.0 is
+fault_is fault.ClockEnd w e r is why = why.clock.0 is
+fault_is fault.TooSoon w e r is why = why.soon.0 is
+fault_is (fault.BadChange change) w e r is why = (why.change change).0 is
+fault_is fault.NoMemory w e r is why = (why.memory is, λ n. clash r is (why.node.1 n))
 
 pub stops : (f : WorldFault) (old mid new : WorldView) (events : List Event) (place : ℕ) (event : Event) → slice_get events place ≡ Some event
     → WorldRunSo old.overtake (reuses_of old) (as_world old) (take place (events_view old.time events)) (as_world mid) → mid.overtake ≡ old.overtake

@@ -59,6 +59,10 @@ abbrev pub performances : Option Performed → ℕ
 performances None = 0
 performances (Some p) = 1
 
+-- nothing of a journal changed but what nodes did so far, the copies and their room
+abbrev pub SendsAlone : (old new : JournalView) → Type 0
+SendsAlone old new = new ≡ record old { lives = new.lives; copies = new.copies; room = new.room }
+
 -- it has entered; the node is that one after the call
 pub record IsEntered (nodes : List Node) (node : ℕ) (after : Node) (o : Outcome) (old new : JournalView) (log log' : List Fact) : Type 0 where
   pub sent : BecomeCopies nodes old.moment node o.sends old.copies new.copies
@@ -66,3 +70,7 @@ pub record IsEntered (nodes : List Node) (node : ℕ) (after : Node) (o : Outcom
   pub between : List Fact
   pub ended : AreEnded old.notes node o.ended log between
   pub logged : EntersLog nodes old.notes node after o.performed between log'
+
+-- it has, whichever nodes have the journal's links
+abbrev pub Enters : (node : ℕ) → (after : Node) → Outcome → (old new : JournalView) → (log log' : List Fact) → Type 0
+Enters node after o old new log log' = (nodes : List Node) → AreLinks nodes old.links → IsEntered nodes node after o old new log log'

@@ -6,14 +6,13 @@ use Rattle.bac_network.specs.Steps.{IsFault}
 use Rattle.bac_network.specs.declared.fault.WorldFault.{WorldFault}
 use Rattle.bac_liveness.specs.StraightRuns.{ending_in}
 use Rattle.bac_network.specs.Logs.{IsSince, DeliverUnendedSo, Stops}
+use Rattle.bac_network.specs.Runs.{KeepsSettings}
 
 -- so many copies were delivered, from the first of the ask on
 pub record HasGone (ask since first : ℕ) (old new : WorldView) (count : ℕ) : Type 0 where
   pub each : DeliverUnendedSo old.overtake (reuses_of old) ask count first (as_world old) (as_world new)
   pub since_is : IsSince since ask new.log
-  pub overtake : new.overtake ≡ old.overtake
-  pub opening : new.opening ≡ old.opening
-  pub reuses : new.reuses ≡ old.reuses
+  pub settings : KeepsSettings old new
   pub passed : new.time ≡ old.time
 
 -- and that was all

@@ -4,6 +4,7 @@ pub mod Rules
 pub mod Views
 pub mod Strangers
 pub mod Networks
+pub mod Calls
 pub mod Goings
 pub mod Entries
 pub mod Asks
@@ -11,6 +12,7 @@ pub mod Steps
 pub mod Histories
 pub mod AsksAlone
 pub mod OfNone
+pub mod Laws
 pub mod StrangerLogs
 pub mod Fresh
 pub mod Runs
@@ -20,3 +22,4 @@ pub mod StraightRuns
 pub mod Tells
 pub mod Going
 pub mod StraightFaults
+pub mod Straight

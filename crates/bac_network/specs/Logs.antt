@@ -4,7 +4,7 @@ use Rattle.bac_transaction.specs.Meanings.{Ending}
 use Rattle.bac_world.specs.Once.{Fact}
 use Rattle.bac_world.specs.ReusingLogs.{Reuses}
 use Rattle.bac_world.specs.ReusingWorlds.{WorldStepSo}
-use Rattle.bac_world.specs.World.{World, WorldStep}
+use Rattle.bac_world.specs.World.{World, Event, WorldStep}
 use Rattle.bac_world.specs.World.Event.{Deliver}
 use Rattle.bac_liveness.specs.StraightRuns.{ending_in}
 
@@ -21,17 +21,19 @@ abbrev pub ending_by : Option ℕ → List Fact → Option Ending
 ending_by None log = None
 ending_by (Some ask) log = ending_in ask log
 
--- so many copies are delivered, from that number on, each while the log has no ending of the ask
-abbrev pub DeliverUnended : (overtake ask count number : ℕ) → (old new : World) → Type 0
-DeliverUnended overtake ask zero number old new = new ≡ old
-DeliverUnended overtake ask (suc count) number old new =
-    (ending_in ask old.log ≡ None) × (u : World) × WorldStep overtake old (Deliver number) u × DeliverUnended overtake ask count (suc number) u new
+-- so many copies are delivered by such steps, from that number on, each while the log has no ending of the ask
+abbrev pub DeliverUnendedBy : (World → Event → World → Type 0) → (ask count number : ℕ) → (old new : World) → Type 0
+DeliverUnendedBy steps ask zero number old new = new ≡ old
+DeliverUnendedBy steps ask (suc count) number old new =
+    (ending_in ask old.log ≡ None) × (u : World) × steps old (Deliver number) u × DeliverUnendedBy steps ask count (suc number) u new
 
--- the same where these nodes let invoke IDs be used again
+-- in a world of strict nodes
+abbrev pub DeliverUnended : (overtake ask count number : ℕ) → (old new : World) → Type 0
+DeliverUnended overtake ask count number old new = DeliverUnendedBy (WorldStep overtake) ask count number old new
+
+-- where these nodes let invoke IDs be used again
 abbrev pub DeliverUnendedSo : (overtake : ℕ) → Reuses → (ask count number : ℕ) → (old new : World) → Type 0
-DeliverUnendedSo overtake u ask zero number old new = new ≡ old
-DeliverUnendedSo overtake u ask (suc count) number old new =
-    (ending_in ask old.log ≡ None) × (v : World) × WorldStepSo overtake u old (Deliver number) v × DeliverUnendedSo overtake u ask count (suc number) v new
+DeliverUnendedSo overtake u ask count number old new = DeliverUnendedBy (WorldStepSo overtake u) ask count number old new
 
 -- the ask has ended, or no copy is left from that number on
 abbrev pub Stops : (ask number : ℕ) → World → Type 0

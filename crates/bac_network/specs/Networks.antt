@@ -6,6 +6,7 @@ use Rattle.bac_world.specs.Once.{Fact}
 use Rattle.bac_world.specs.ReusingLogs.{Reuses}
 use Rattle.bac_world.specs.World.{World}
 use Rattle.bac_network.specs.Clocks.{instant, time_at, told_at}
+use Rattle.bac_journal.specs.Clocks.{restart_at, restarted_own}
 use Rattle.bac_journal.specs.Entering.{CanGoOnSo}
 use Rattle.bac_journal.specs.Journals.{JournalView}
 use Rattle.bac_journal.specs.Lives.{lives_at}
@@ -36,6 +37,34 @@ pub record IsReady (window overtake : ℕ) (n : Network) : Type 0 where
   pub can : CanGoOnSo reuses window overtake (world_of n)
   pub linked : AreLinks n.nodes.items n.journal.links
   pub apart : (i j : ℕ) (l : Octets) → slice_get n.journal.links i ≡ Some l → slice_get n.journal.links j ≡ Some l → i ≡ j
+
+-- for some windows and limits of overtaking
+abbrev pub CanGoOn : Network → Type 0
+CanGoOn n = (window : ℕ) × (overtake : ℕ) × IsReady window overtake n
+
+-- What a call leaves as it was: the world.
+abbrev pub SameWorld : (old new : Network) → Type 0
+SameWorld old new = world_of new ≡ world_of old
+
+-- the nodes' links
+abbrev pub SameLinks : (old new : Network) → Type 0
+SameLinks old new = new.journal.links ≡ old.journal.links
+
+-- the moment, and the nodes' own clocks
+abbrev pub SameTime : (old new : Network) → Type 0
+SameTime old new = instant new.journal ≡ instant old.journal
+
+-- what each node did so far
+abbrev pub SameLives : (old new : Network) → Type 0
+SameLives old new = new.journal.lives ≡ old.journal.lives
+
+-- where the clock of a node begins that starts now
+abbrev pub restart_in : Network → ℕ
+restart_in n = restart_at n.journal.moment n.journal.own
+
+-- that node's clock began again, and no time passed
+abbrev pub RestartsClock : (node : ℕ) → (old new : Network) → Type 0
+RestartsClock node old new = instant new.journal ≡ record { moment = old.journal.moment; own = restarted_own node old.journal.own }
 
 -- both are one, but for their room
 pub record AreAlike (old new : Network) : Type 0 where

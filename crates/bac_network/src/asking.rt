@@ -7,8 +7,7 @@ ghost use Rattle.bac_world.specs.World.Event.{Ask};
 ghost use Rattle.bac_journal.specs.Journals.{HasNoteRoom};
 ghost use Rattle.bac_journal.specs.Views.{AreLinks};
 ghost use Rattle.bac_network.specs.Asks.{CanAsk, CanBeNoted, IsNotedAsk, TellsFault};
-ghost use Rattle.bac_network.specs.Clocks.{instant};
-ghost use Rattle.bac_network.specs.Networks.{world_of, AreAlike, HasRoom, IsReady};
+ghost use Rattle.bac_network.specs.Networks.{world_of, AreAlike, HasRoom, IsReady, SameLinks, SameTime, SameLives};
 ghost use Rattle.bac_network.specs.Steps.{HappensTelling};
 ghost use Rattle.bac_network.specs.Views.{log_view};
 
@@ -39,9 +38,9 @@ impl Network {
         ensures happens { (overtake : ℕ)
             → HappensTelling overtake (world_of self.old) (Ask client server (limits_view limits.now) (owned_request_view request.now)) result
             (world_of self.new) }
-        ensures links { self.new.journal.links ≡ self.old.journal.links }
-        ensures stays { instant self.new.journal ≡ instant self.old.journal }
-        ensures lived { OnErr result (self.new.journal.lives ≡ self.old.journal.lives) }
+        ensures links { SameLinks self.old self.new }
+        ensures stays { SameTime self.old self.new }
+        ensures lived { OnErr result (SameLives self.old self.new) }
     {
         if client >= self.nodes.len() || server >= self.nodes.len() {
             return Err(WorldFault::NoSuchNode);
@@ -86,9 +85,9 @@ impl Network {
         ensures happens { (overtake : ℕ)
             → HappensTelling overtake (world_of self.old) (Ask client server (limits_view limits.now) (owned_request_view request.now)) result
             (world_of self.new) }
-        ensures links { self.new.journal.links ≡ self.old.journal.links }
-        ensures stays { instant self.new.journal ≡ instant self.old.journal }
-        ensures lived { OnErr result (self.new.journal.lives ≡ self.old.journal.lives) }
+        ensures links { SameLinks self.old self.new }
+        ensures stays { SameTime self.old self.new }
+        ensures lived { OnErr result (SameLives self.old self.new) }
     {
         let peer = Peer {
             link: self.nodes[server].link(),

@@ -1,5 +1,5 @@
 //! Asks of strangers.
-ghost use Rattle.std.specs.Prelude.{◌≡◌, ◌+◌, ◌<◌, ◌≤◌, ◌∷◌, ℕ, IfOk, OnOk, length, vec_capacity, OnErr};
+ghost use Rattle.std.specs.Prelude.{◌≡◌, ◌+◌, ◌<◌, ◌≤◌, ℕ, IfOk, OnOk, length, vec_capacity, OnErr};
 ghost use Rattle.bac_apdu.specs.Views.{limits_view};
 ghost use Rattle.bac_npdu.specs.Views.{peer_view};
 ghost use Rattle.bac_service.specs.Views.{owned_request_view};
@@ -7,8 +7,7 @@ ghost use Rattle.bac_world.specs.World.Event.{AskAway};
 ghost use Rattle.bac_journal.specs.Entering.{tickets_of};
 ghost use Rattle.bac_journal.specs.Journals.{HasStrangerRoom};
 ghost use Rattle.bac_network.specs.Asks.{CanAskAway, IsNotedAway};
-ghost use Rattle.bac_network.specs.Clocks.{instant};
-ghost use Rattle.bac_network.specs.Networks.{world_of, AreAlike, HasRoom, IsReady};
+ghost use Rattle.bac_network.specs.Networks.{world_of, AreAlike, HasRoom, SameLinks, SameTime, SameLives, CanGoOn};
 ghost use Rattle.bac_network.specs.Steps.{HappensTelling};
 ghost use Rattle.bac_network.specs.Views.{log_view};
 
@@ -35,12 +34,12 @@ impl Network {
         limits: &Limits,
         request: &OwnedRequest,
     ) -> Result<Option<AskFault>, WorldFault>
-        requires { (window : ℕ) × (overtake : ℕ) × IsReady window overtake self.old }
+        requires { CanGoOn self.old }
         ensures happens { (overtake : ℕ) → HappensTelling overtake (world_of self.old)
             (AskAway client (peer_view peer.now) (limits_view limits.now) (owned_request_view request.now)) result (world_of self.new) }
-        ensures links { self.new.journal.links ≡ self.old.journal.links }
-        ensures stays { instant self.new.journal ≡ instant self.old.journal }
-        ensures lived { OnErr result (self.new.journal.lives ≡ self.old.journal.lives) }
+        ensures links { SameLinks self.old self.new }
+        ensures stays { SameTime self.old self.new }
+        ensures lived { OnErr result (SameLives self.old self.new) }
     {
         if client >= self.nodes.len() {
             return Err(WorldFault::NoSuchNode);
@@ -85,9 +84,9 @@ impl Network {
         requires copied { owned_request_view copied ≡ owned_request_view request.now }
         ensures happens { (overtake : ℕ) → HappensTelling overtake (world_of self.old)
             (AskAway client (peer_view peer.now) (limits_view limits.now) (owned_request_view request.now)) result (world_of self.new) }
-        ensures links { self.new.journal.links ≡ self.old.journal.links }
-        ensures stays { instant self.new.journal ≡ instant self.old.journal }
-        ensures lived { OnErr result (self.new.journal.lives ≡ self.old.journal.lives) }
+        ensures links { SameLinks self.old self.new }
+        ensures stays { SameTime self.old self.new }
+        ensures lived { OnErr result (SameLives self.old self.new) }
     {
         let now = self.journal.told(client);
         match ask(&mut self.nodes, client, now, peer, limits, request) {

@@ -1,11 +1,9 @@
 //! Nodes that begin late, and programs that begin where others were.
-ghost use Rattle.std.specs.Prelude.{◌≡◌, ◌+◌, ◌<◌, ◌≤◌, ℕ, OnErr, OnOk, length, true, vec_capacity};
-ghost use Rattle.bac_world.specs.World.{IsBegunAgain, is_quiet};
+ghost use Rattle.std.specs.Prelude.{◌≡◌, ◌<◌, ℕ, OnErr, OnOk, length};
 ghost use Rattle.bac_world.specs.World.Event.{Begin, BeginAgain};
-ghost use Rattle.bac_journal.specs.Clocks.{restart_at, restarted_own};
-ghost use Rattle.bac_network.specs.Clocks.{instant};
-ghost use Rattle.bac_network.specs.Networks.{world_of, IsReady};
+ghost use Rattle.bac_network.specs.Networks.{world_of, SameWorld, SameLinks, SameTime, SameLives, restart_in, RestartsClock, CanGoOn};
 ghost use Rattle.bac_network.specs.Steps.{Happens};
+ghost use Rattle.bac_network.specs.Calls.{HasLogRoom, IsQuiet, BeginsAgain};
 
 use crate::fact::Fact;
 use crate::fault::WorldFault;
@@ -19,14 +17,12 @@ use std::alloc::Global;
 impl Network {
     /// A node at which nothing happened begins, with a new clock. It takes no memory.
     pub(crate) fn begin(&mut self, node: usize) -> Result<(), WorldFault>
-        requires { (window : ℕ) × (overtake : ℕ) × IsReady window overtake self.old }
-        ensures happens { (overtake : ℕ) → Happens overtake (world_of self.old)
-            (Begin node (restart_at self.old.journal.moment self.old.journal.own)) result (world_of self.new) }
-        ensures links { self.new.journal.links ≡ self.old.journal.links }
-        ensures passed { OnOk result (instant self.new.journal
-            ≡ record { moment = self.old.journal.moment; own = restarted_own node self.old.journal.own }) }
-        ensures stays { OnErr result (instant self.new.journal ≡ instant self.old.journal) }
-        ensures lived { OnErr result (self.new.journal.lives ≡ self.old.journal.lives) }
+        requires { CanGoOn self.old }
+        ensures happens { (overtake : ℕ) → Happens overtake (world_of self.old) (Begin node (restart_in self.old)) result (world_of self.new) }
+        ensures links { SameLinks self.old self.new }
+        ensures passed { OnOk result (RestartsClock node self.old self.new) }
+        ensures stays { OnErr result (SameTime self.old self.new) }
+        ensures lived { OnErr result (SameLives self.old self.new) }
     {
         if node >= self.nodes.len() {
             return Err(WorldFault::NoSuchNode);
@@ -46,14 +42,12 @@ impl Network {
         first_id: u8,
         store: &Option<Store>,
     ) -> Result<(), WorldFault>
-        requires { (window : ℕ) × (overtake : ℕ) × IsReady window overtake self.old }
-        ensures happens { (overtake : ℕ) → Happens overtake (world_of self.old)
-            (BeginAgain node (restart_at self.old.journal.moment self.old.journal.own) first_id store.now) result (world_of self.new) }
-        ensures links { self.new.journal.links ≡ self.old.journal.links }
-        ensures passed { OnOk result (instant self.new.journal
-            ≡ record { moment = self.old.journal.moment; own = restarted_own node self.old.journal.own }) }
-        ensures stays { OnErr result (instant self.new.journal ≡ instant self.old.journal) }
-        ensures lived { OnErr result (self.new.journal.lives ≡ self.old.journal.lives) }
+        requires { CanGoOn self.old }
+        ensures happens { (overtake : ℕ) → Happens overtake (world_of self.old) (BeginAgain node (restart_in self.old) first_id store.now) result (world_of self.new) }
+        ensures links { SameLinks self.old self.new }
+        ensures passed { OnOk result (RestartsClock node self.old self.new) }
+        ensures stays { OnErr result (SameTime self.old self.new) }
+        ensures lived { OnErr result (SameLives self.old self.new) }
     {
         if node >= self.nodes.len() {
             return Err(WorldFault::NoSuchNode);
@@ -74,15 +68,13 @@ impl Network {
     ) -> Result<(), NoMemory>
         requires there { node < length self.old.nodes.items }
         requires linked { node < length self.old.journal.links }
-        requires quiet { is_quiet (world_of self.old) node ≡ true }
-        ensures begun { OnOk result (IsBegunAgain (world_of self.old) node
-            (restart_at self.old.journal.moment self.old.journal.own) first_id store.now (world_of self.new)) }
-        ensures err { OnErr result (world_of self.new ≡ world_of self.old) }
-        ensures links { self.new.journal.links ≡ self.old.journal.links }
-        ensures passed { OnOk result (instant self.new.journal
-            ≡ record { moment = self.old.journal.moment; own = restarted_own node self.old.journal.own }) }
-        ensures stays { OnErr result (instant self.new.journal ≡ instant self.old.journal) }
-        ensures lived { OnErr result (self.new.journal.lives ≡ self.old.journal.lives) }
+        requires quiet { IsQuiet self.old node }
+        ensures begun { OnOk result (BeginsAgain self.old node first_id store.now self.new) }
+        ensures err { OnErr result (SameWorld self.old self.new) }
+        ensures links { SameLinks self.old self.new }
+        ensures passed { OnOk result (RestartsClock node self.old self.new) }
+        ensures stays { OnErr result (SameTime self.old self.new) }
+        ensures lived { OnErr result (SameLives self.old self.new) }
     {
         let kept = start_of(alloc, store)?;
         let given = start_of(alloc, store)?;
@@ -101,17 +93,15 @@ impl Network {
     ) -> Result<(), NoMemory>
         requires there { node < length self.old.nodes.items }
         requires linked { node < length self.old.journal.links }
-        requires quiet { is_quiet (world_of self.old) node ≡ true }
+        requires quiet { IsQuiet self.old node }
         requires kept { kept ≡ given }
-        requires room { length self.old.log.items + 1 ≤ vec_capacity self.old.log }
-        ensures begun { OnOk result (IsBegunAgain (world_of self.old) node
-            (restart_at self.old.journal.moment self.old.journal.own) first_id given (world_of self.new)) }
-        ensures err { OnErr result (world_of self.new ≡ world_of self.old) }
-        ensures links { self.new.journal.links ≡ self.old.journal.links }
-        ensures passed { OnOk result (instant self.new.journal
-            ≡ record { moment = self.old.journal.moment; own = restarted_own node self.old.journal.own }) }
-        ensures stays { OnErr result (instant self.new.journal ≡ instant self.old.journal) }
-        ensures lived { OnErr result (self.new.journal.lives ≡ self.old.journal.lives) }
+        requires room { HasLogRoom self.old }
+        ensures begun { OnOk result (BeginsAgain self.old node first_id given self.new) }
+        ensures err { OnErr result (SameWorld self.old self.new) }
+        ensures links { SameLinks self.old self.new }
+        ensures passed { OnOk result (RestartsClock node self.old self.new) }
+        ensures stays { OnErr result (SameTime self.old self.new) }
+        ensures lived { OnErr result (SameLives self.old self.new) }
     {
         let now = self.journal.told_at_restart();
         replace_node(&mut self.nodes, node, now, first_id, given)?;

@@ -1,13 +1,11 @@
 //! Changes that nodes make to their own stores.
-ghost use Rattle.std.specs.Prelude.{◌≡◌, ◌+◌, ◌<◌, ◌≤◌, ℕ, OnErr, OnOk, None, Some, length, slice_get, vec_capacity};
-ghost use Rattle.bac_store.specs.AtNode.{change_fault};
+ghost use Rattle.std.specs.Prelude.{◌≡◌, ◌<◌, ℕ, OnErr, OnOk, length};
 ghost use Rattle.bac_store.specs.Views.{change_view};
-ghost use Rattle.bac_world.specs.Node as node_view;
 ghost use Rattle.bac_world.specs.World.{IsChanged};
 ghost use Rattle.bac_world.specs.World.Event.{Change as Happening};
-ghost use Rattle.bac_network.specs.Clocks.{instant};
-ghost use Rattle.bac_network.specs.Networks.{world_of};
+ghost use Rattle.bac_network.specs.Networks.{world_of, SameWorld, SameLinks, SameTime, SameLives};
 ghost use Rattle.bac_network.specs.Steps.{Happens};
+ghost use Rattle.bac_network.specs.Calls.{HasLogRoom, MayChange};
 
 use crate::fact::Fact;
 use crate::fault::WorldFault;
@@ -27,9 +25,9 @@ impl Network {
     ) -> Result<(), WorldFault>
         ensures happens { (overtake : ℕ)
             → Happens overtake (world_of self.old) (Happening node (change_view change.now)) result (world_of self.new) }
-        ensures links { self.new.journal.links ≡ self.old.journal.links }
-        ensures stays { instant self.new.journal ≡ instant self.old.journal }
-        ensures lived { OnErr result (self.new.journal.lives ≡ self.old.journal.lives) }
+        ensures links { SameLinks self.old self.new }
+        ensures stays { SameTime self.old self.new }
+        ensures lived { OnErr result (SameLives self.old self.new) }
     {
         if node >= self.nodes.len() {
             return Err(WorldFault::NoSuchNode);
@@ -43,12 +41,12 @@ impl Network {
     /// A node that there is makes a change without a fault. The log's copy of it and all room are made before anything changes.
     fn change_now(&mut self, alloc: Global, node: usize, change: &Change) -> Result<(), NoMemory>
         requires there { node < length self.old.nodes.items }
-        requires may { (a : node_view.Node) → slice_get self.old.nodes.items node ≡ Some a → change_fault a.store (change_view change.now) ≡ None }
+        requires may { MayChange self.old.nodes.items node (change_view change.now) }
         ensures changed { OnOk result (IsChanged (world_of self.old) node (change_view change.now) (world_of self.new)) }
-        ensures err { OnErr result (world_of self.new ≡ world_of self.old) }
-        ensures links { self.new.journal.links ≡ self.old.journal.links }
-        ensures stays { instant self.new.journal ≡ instant self.old.journal }
-        ensures lived { OnErr result (self.new.journal.lives ≡ self.old.journal.lives) }
+        ensures err { OnErr result (SameWorld self.old self.new) }
+        ensures links { SameLinks self.old self.new }
+        ensures stays { SameTime self.old self.new }
+        ensures lived { OnErr result (SameLives self.old self.new) }
     {
         let kept = change.copy(alloc)?;
         self.make_room(1, 0)?;
@@ -58,14 +56,14 @@ impl Network {
     /// A node that there is makes a change without a fault, and the copy of it enters the log, which has room for it.
     fn make_change(&mut self, node: usize, change: &Change, kept: Change) -> Result<(), NoMemory>
         requires there { node < length self.old.nodes.items }
-        requires may { (a : node_view.Node) → slice_get self.old.nodes.items node ≡ Some a → change_fault a.store (change_view change.now) ≡ None }
+        requires may { MayChange self.old.nodes.items node (change_view change.now) }
         requires kept { change_view kept ≡ change_view change.now }
-        requires room { length self.old.log.items + 1 ≤ vec_capacity self.old.log }
+        requires room { HasLogRoom self.old }
         ensures changed { OnOk result (IsChanged (world_of self.old) node (change_view change.now) (world_of self.new)) }
-        ensures err { OnErr result (world_of self.new ≡ world_of self.old) }
-        ensures links { self.new.journal.links ≡ self.old.journal.links }
-        ensures stays { instant self.new.journal ≡ instant self.old.journal }
-        ensures lived { OnErr result (self.new.journal.lives ≡ self.old.journal.lives) }
+        ensures err { OnErr result (SameWorld self.old self.new) }
+        ensures links { SameLinks self.old self.new }
+        ensures stays { SameTime self.old self.new }
+        ensures lived { OnErr result (SameLives self.old self.new) }
     {
         change_node(&mut self.nodes, node, change)?;
         self.log.push_reserved(Fact::Changed { node, change: kept });

@@ -1,9 +1,11 @@
 //! Worlds whose nodes have clocks of their own.
-ghost use Rattle.std.specs.Prelude.{◌≡◌, ◌↔◌, ◌+◌, ◌<◌, ◌≤◌, ◌⊎◌, ℕ, IsErrOf, IfErr, IfOk, None, OnErr, OnOk, length, slice_get};
+ghost use Rattle.std.specs.Prelude.{◌≡◌, ◌↔◌, IsErrOf, IfErr, IfOk, None, OnErr, OnOk, length, slice_get};
 ghost use Rattle.bac_protocol.specs.Pace.{IsTimely};
 ghost use Rattle.bac_journal.specs.Clocks.{drift_of, own_pace, paced};
 ghost use Rattle.bac_network.specs.Fresh.{clock_world, ruled_clock_world, IsRefusedWithClocks, IsRight};
 ghost use Rattle.bac_network.specs.Histories.{as_world};
+ghost use Rattle.bac_network.specs.Runs.{KeepsSettings};
+ghost use Rattle.bac_network.specs.Clocks.{IsWithinDrift, IsBeyondDrift};
 
 use crate::fault::{NewClocksFault, NewWorldFault, PaceFault};
 use crate::making::{MOST_SLOTS, checked, greatest_window, links_of, nodes_made, stores_of};
@@ -101,10 +103,10 @@ impl World {
         ensures same { as_world self.new ≡ as_world self.old }
         ensures paced { OnOk result (self.new.time ≡ record (self.old.time) { own = paced node rate self.old.time.own }) }
         ensures err { OnErr result (self.new ≡ self.old) }
-        ensures settings { (self.new.overtake ≡ self.old.overtake) × (self.new.opening ≡ self.old.opening) × (self.new.reuses ≡ self.old.reuses) }
+        ensures settings { KeepsSettings self.old self.new }
         ensures node { IsErrOf result PaceFault.NoSuchNode ↔ (slice_get self.old.nodes node ≡ None) }
-        ensures within { OnOk result ((1000000 ≤ rate + drift_of self.old.time.own) × (rate ≤ 1000000 + drift_of self.old.time.own)) }
-        ensures beyond { IsErrOf result PaceFault.BadPace → (rate + drift_of self.old.time.own < 1000000) ⊎ (1000000 + drift_of self.old.time.own < rate) }
+        ensures within { OnOk result (IsWithinDrift (drift_of self.old.time.own) rate) }
+        ensures beyond { IsErrOf result PaceFault.BadPace → IsBeyondDrift (drift_of self.old.time.own) rate }
     {
         if node >= self.network.nodes.len() {
             return Err(PaceFault::NoSuchNode);

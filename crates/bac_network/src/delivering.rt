@@ -1,9 +1,8 @@
 //! Copies that come to their nodes.
-ghost use Rattle.std.specs.Prelude.{◌≡◌, ◌+◌, ℕ, OnErr, OnOk};
+ghost use Rattle.std.specs.Prelude.{◌+◌, ℕ, OnErr, OnOk};
 ghost use Rattle.bac_world.specs.World.Event.{Deliver};
 ghost use Rattle.bac_network.specs.Goings.{Arrives};
-ghost use Rattle.bac_network.specs.Clocks.{instant};
-ghost use Rattle.bac_network.specs.Networks.{world_of, HasRoom, IsReadySo};
+ghost use Rattle.bac_network.specs.Networks.{world_of, HasRoom, IsReadySo, SameWorld, SameLinks, SameTime, SameLives};
 ghost use Rattle.bac_network.specs.Rules.{reuses_by};
 ghost use Rattle.bac_network.specs.Steps.{HappensSo, TakesMemory};
 
@@ -24,9 +23,9 @@ impl Network {
     ) -> Result<(), WorldFault>
         requires { IsReadySo (reuses_by reuses.now) window overtake self.old }
         ensures happens { HappensSo overtake (reuses_by reuses.now) (world_of self.old) (Deliver number) result (world_of self.new) }
-        ensures links { self.new.journal.links ≡ self.old.journal.links }
-        ensures stays { instant self.new.journal ≡ instant self.old.journal }
-        ensures lived { OnErr result (self.new.journal.lives ≡ self.old.journal.lives) }
+        ensures links { SameLinks self.old self.new }
+        ensures stays { SameTime self.old self.new }
+        ensures lived { OnErr result (SameLives self.old self.new) }
     {
         match self.journal.is_deliverable(overtake, number) {
             None => Err(WorldFault::NoSuchDatagram),
@@ -39,10 +38,10 @@ impl Network {
     fn deliver_now(&mut self, window: u8, reuses: &[bool], number: usize) -> Result<(), NoMemory>
         requires { (overtake : ℕ) × IsReadySo (reuses_by reuses.now) window overtake self.old × TakesMemory overtake (world_of self.old) (Deliver number) }
         ensures went { OnOk result (Arrives (reuses_by reuses.now) (world_of self.old) number (world_of self.new)) }
-        ensures err { OnErr result (world_of self.new ≡ world_of self.old) }
-        ensures links { self.new.journal.links ≡ self.old.journal.links }
-        ensures stays { instant self.new.journal ≡ instant self.old.journal }
-        ensures lived { OnErr result (self.new.journal.lives ≡ self.old.journal.lives) }
+        ensures err { OnErr result (SameWorld self.old self.new) }
+        ensures links { SameLinks self.old self.new }
+        ensures stays { SameTime self.old self.new }
+        ensures lived { OnErr result (SameLives self.old self.new) }
     {
         self.make_room(2, usize::from(window) + 1)?;
         self.hand_over(window, reuses, number)
@@ -54,10 +53,10 @@ impl Network {
         requires ready { (overtake : ℕ) × IsReadySo (reuses_by reuses.now) window overtake self.old × TakesMemory overtake (world_of self.old) (Deliver number) }
         requires room { HasRoom 2 (window + 1) self.old }
         ensures went { OnOk result (Arrives (reuses_by reuses.now) (world_of self.old) number (world_of self.new)) }
-        ensures err { OnErr result (world_of self.new ≡ world_of self.old) }
-        ensures links { self.new.journal.links ≡ self.old.journal.links }
-        ensures stays { instant self.new.journal ≡ instant self.old.journal }
-        ensures lived { OnErr result (self.new.journal.lives ≡ self.old.journal.lives) }
+        ensures err { OnErr result (SameWorld self.old self.new) }
+        ensures links { SameLinks self.old self.new }
+        ensures stays { SameTime self.old self.new }
+        ensures lived { OnErr result (SameLives self.old self.new) }
     {
         let (to, outcome) = hear_copy(&mut self.nodes, &self.journal, reuses, number)?;
         enter(

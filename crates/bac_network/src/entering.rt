@@ -1,9 +1,7 @@
 //! How what comes of a node's call enters the journal and the log.
-ghost use Rattle.std.specs.Prelude.{◌≡◌, ◌+◌, ◌<◌, ◌≤◌, List, length, vec_capacity};
+ghost use Rattle.std.specs.Prelude.{◌+◌, ◌<◌, ◌≤◌, length, vec_capacity};
 ghost use Rattle.bac_node.specs.Views.{outcome_view};
-ghost use Rattle.bac_world.specs.Node as world;
-ghost use Rattle.bac_journal.specs.Views.{AreLinks};
-ghost use Rattle.bac_network.specs.Entries.{CanBeEntered, IsEntered, performances};
+ghost use Rattle.bac_network.specs.Entries.{CanBeEntered, performances, SendsAlone, Enters};
 ghost use Rattle.bac_network.specs.Views.{log_view};
 
 use crate::fact::Fact;
@@ -24,9 +22,8 @@ pub(crate) fn enter(
     requires sender { node < length journal.old.links }
     requires room { length (outcome_view outcome).sends ≤ journal.old.room }
     requires log_room { length log.old.items + length (outcome_view outcome).ended + performances (outcome_view outcome).performed ≤ vec_capacity log.old }
-    ensures entered { (nodes : List world.Node) → AreLinks nodes journal.old.links
-        → IsEntered nodes node after.now (outcome_view outcome) journal.old journal.new (log_view log.old.items) (log_view log.new.items) }
-    ensures same { journal.new ≡ record (journal.old) { lives = journal.new.lives; copies = journal.new.copies; room = journal.new.room } }
+    ensures entered { Enters node after.now (outcome_view outcome) journal.old journal.new (log_view log.old.items) (log_view log.new.items) }
+    ensures same { SendsAlone journal.old journal.new }
 {
     let Outcome {
         sends,

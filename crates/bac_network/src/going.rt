@@ -1,19 +1,19 @@
 //! A node's call among the nodes: it goes on, and all others stay.
-ghost use Rattle.std.specs.Prelude.{◌≡◌, ◌↔◌, ◌<◌, ◌≤◌, IfOk, IfErr, OnErr, OnOk, IsErrOf, length, map, slice_get, None, Some};
+ghost use Rattle.std.specs.Prelude.{◌≡◌, ◌↔◌, ◌<◌, ◌≤◌, IfOk, IfErr, OnErr, OnOk, IsErrOf, length, slice_get, Some};
 ghost use Rattle.bac_apdu.specs.Views.{limits_view};
 ghost use Rattle.bac_npdu.specs.Views.{peer_view};
 ghost use Rattle.bac_service.specs.Views.{owned_request_view};
-ghost use Rattle.bac_store.specs.AtNode.{change_fault};
 ghost use Rattle.bac_store.specs.Views.{change_view};
 ghost use Rattle.bac_node.specs.Calls.{IsAsked, IsNotHeard, Refuses, ticked};
 ghost use Rattle.bac_node.specs.Views.{outcome_view};
 ghost use Rattle.bac_world.specs.Laws.{IsMeaningless};
-ghost use Rattle.bac_world.specs.Node.{Node as NodeView, NodeTick, begun_again, restarted, store_after_restart, with_change};
+ghost use Rattle.bac_world.specs.Node.{NodeTick, begun_again, restarted, store_after_restart, with_change};
 ghost use Rattle.bac_world.specs.ReusingNodes.{NodeHears};
 ghost use Rattle.bac_world.specs.World.{Copy};
 ghost use Rattle.bac_network.specs.Clocks.{instant, told_at};
 ghost use Rattle.bac_network.specs.Goings.{ArePunctual, Goes, IsBetween, IsHeardCopy, IsPunctual};
 ghost use Rattle.bac_network.specs.Rules.{reuses_by};
+ghost use Rattle.bac_network.specs.Calls.{MayChange};
 
 use bac_apdu::Limits;
 use bac_journal::Journal;
@@ -145,7 +145,7 @@ pub(crate) fn ask(
 /// A node makes a change of its own store that has no fault.
 pub(crate) fn change_node(nodes: &mut [Node], i: usize, change: &Change) -> Result<(), NoMemory>
     requires there { i < length nodes.old }
-    requires may { (a : NodeView) → slice_get nodes.old i ≡ Some a → change_fault a.store (change_view change.now) ≡ None }
+    requires may { MayChange nodes.old i (change_view change.now) }
     ensures went { OnOk result (Goes nodes.old i (λ a b. b ≡ with_change (change_view change.now) a) nodes.new) }
     ensures err { OnErr result (nodes.new ≡ nodes.old) }
 {

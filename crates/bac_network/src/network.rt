@@ -1,6 +1,6 @@
 //! Nodes, and what is kept beside them.
 ghost use Rattle.std.specs.Prelude.{◌≡◌, OnErr, OnOk};
-ghost use Rattle.bac_network.specs.Networks.{world_of, AreAlike, HasRoom, IsReady, IsReadySo};
+ghost use Rattle.bac_network.specs.Networks.{world_of, AreAlike, HasRoom, IsReady, IsReadySo, SameLinks, SameTime, SameLives};
 ghost use Rattle.bac_network.specs.Rules.{reuses_by};
 ghost use Rattle.bac_network.specs.Steps.{HappensTellingSo, Untells};
 ghost use Rattle.bac_network.specs.Clocks.{instant};
@@ -46,10 +46,10 @@ impl Network {
         requires ready { IsReady window overtake self.old }
         requires hears { IsReadySo (reuses_by reuses.now) window overtake self.old }
         ensures happens { HappensTellingSo overtake (reuses_by reuses.now) (world_of self.old) (event_view (instant self.old.journal) event.now) result (world_of self.new) }
-        ensures links { self.new.journal.links ≡ self.old.journal.links }
+        ensures links { SameLinks self.old self.new }
         ensures passed { OnOk result (instant self.new.journal ≡ instant_after event.now (instant self.old.journal)) }
-        ensures stays { OnErr result (instant self.new.journal ≡ instant self.old.journal) }
-        ensures lived { OnErr result (self.new.journal.lives ≡ self.old.journal.lives) }
+        ensures stays { OnErr result (SameTime self.old self.new) }
+        ensures lived { OnErr result (SameLives self.old self.new) }
     {
         match event {
             Event::Ask {

@@ -1,11 +1,10 @@
 //! Octets that no node sent.
-ghost use Rattle.std.specs.Prelude.{◌≡◌, ◌<◌, ℕ, length, OnErr};
+ghost use Rattle.std.specs.Prelude.{◌<◌, ℕ, length, OnErr};
 ghost use Rattle.bac_world.specs.Laws.{IsMeaningless};
 ghost use Rattle.bac_world.specs.ReusingWorlds.{HearsOutsideSo};
 ghost use Rattle.bac_world.specs.World.Event.{Noise};
 ghost use Rattle.bac_network.specs.Goings.{ArePunctual};
-ghost use Rattle.bac_network.specs.Clocks.{instant};
-ghost use Rattle.bac_network.specs.Networks.{told_in, world_of, IsReadySo};
+ghost use Rattle.bac_network.specs.Networks.{told_in, world_of, IsReadySo, SameLinks, SameTime, SameLives};
 ghost use Rattle.bac_network.specs.Rules.{reuses_by};
 ghost use Rattle.bac_network.specs.Steps.{HappensSo};
 
@@ -26,9 +25,9 @@ impl Network {
     ) -> Result<(), WorldFault>
         requires { (window : ℕ) × (overtake : ℕ) × IsReadySo (reuses_by reuses.now) window overtake self.old }
         ensures happens { (overtake : ℕ) → HappensSo overtake (reuses_by reuses.now) (world_of self.old) (Noise node from octets.now) result (world_of self.new) }
-        ensures links { self.new.journal.links ≡ self.old.journal.links }
-        ensures stays { instant self.new.journal ≡ instant self.old.journal }
-        ensures lived { OnErr result (self.new.journal.lives ≡ self.old.journal.lives) }
+        ensures links { SameLinks self.old self.new }
+        ensures stays { SameTime self.old self.new }
+        ensures lived { OnErr result (SameLives self.old self.new) }
     {
         if node >= self.nodes.len() {
             return Err(WorldFault::NoSuchNode);
@@ -46,8 +45,8 @@ impl Network {
         requires linked { node < length self.old.journal.links }
         requires noise { IsMeaningless from octets.now }
         ensures heard { HearsOutsideSo (IsMeaningless from octets.now) (reuses_by reuses.now) (world_of self.old) node from octets.now (world_of self.new) }
-        ensures links { self.new.journal.links ≡ self.old.journal.links }
-        ensures stays { instant self.new.journal ≡ instant self.old.journal }
+        ensures links { SameLinks self.old self.new }
+        ensures stays { SameTime self.old self.new }
     {
         // a datagram that is dropped takes no memory
         let reuse = reuses_at(reuses, node);

@@ -1,11 +1,9 @@
 //! Nodes that restart.
-ghost use Rattle.std.specs.Prelude.{◌≡◌, ◌+◌, ◌<◌, ◌≤◌, ℕ, IfOk, OnErr, OnOk, length, vec_capacity};
-ghost use Rattle.bac_world.specs.World.{IsRestarted};
+ghost use Rattle.std.specs.Prelude.{◌≡◌, ◌<◌, ℕ, IfOk, OnErr, OnOk, length};
 ghost use Rattle.bac_world.specs.World.Event.{Restart as Happening};
-ghost use Rattle.bac_journal.specs.Clocks.{restart_at, restarted_own};
-ghost use Rattle.bac_network.specs.Clocks.{instant};
-ghost use Rattle.bac_network.specs.Networks.{world_of, IsReady};
+ghost use Rattle.bac_network.specs.Networks.{world_of, SameWorld, SameLinks, SameTime, SameLives, restart_in, RestartsClock, CanGoOn};
 ghost use Rattle.bac_network.specs.Steps.{Happens};
+ghost use Rattle.bac_network.specs.Calls.{HasLogRoom, RestartsNow};
 
 use crate::fact::Fact;
 use crate::fault::WorldFault;
@@ -33,14 +31,12 @@ impl Network {
         node: usize,
         store: &Option<Store>,
     ) -> Result<(), WorldFault>
-        requires { (window : ℕ) × (overtake : ℕ) × IsReady window overtake self.old }
-        ensures happens { (overtake : ℕ) → Happens overtake (world_of self.old)
-            (Happening node (restart_at self.old.journal.moment self.old.journal.own) store.now) result (world_of self.new) }
-        ensures links { self.new.journal.links ≡ self.old.journal.links }
-        ensures passed { OnOk result (instant self.new.journal
-            ≡ record { moment = self.old.journal.moment; own = restarted_own node self.old.journal.own }) }
-        ensures stays { OnErr result (instant self.new.journal ≡ instant self.old.journal) }
-        ensures lived { OnErr result (self.new.journal.lives ≡ self.old.journal.lives) }
+        requires { CanGoOn self.old }
+        ensures happens { (overtake : ℕ) → Happens overtake (world_of self.old) (Happening node (restart_in self.old) store.now) result (world_of self.new) }
+        ensures links { SameLinks self.old self.new }
+        ensures passed { OnOk result (RestartsClock node self.old self.new) }
+        ensures stays { OnErr result (SameTime self.old self.new) }
+        ensures lived { OnErr result (SameLives self.old self.new) }
     {
         if node >= self.nodes.len() {
             return Err(WorldFault::NoSuchNode);
@@ -57,14 +53,12 @@ impl Network {
     ) -> Result<(), NoMemory>
         requires there { node < length self.old.nodes.items }
         requires linked { node < length self.old.journal.links }
-        ensures restarted { OnOk result (IsRestarted (world_of self.old) node
-            (restart_at self.old.journal.moment self.old.journal.own) store.now (world_of self.new)) }
-        ensures err { OnErr result (world_of self.new ≡ world_of self.old) }
-        ensures links { self.new.journal.links ≡ self.old.journal.links }
-        ensures passed { OnOk result (instant self.new.journal
-            ≡ record { moment = self.old.journal.moment; own = restarted_own node self.old.journal.own }) }
-        ensures stays { OnErr result (instant self.new.journal ≡ instant self.old.journal) }
-        ensures lived { OnErr result (self.new.journal.lives ≡ self.old.journal.lives) }
+        ensures restarted { OnOk result (RestartsNow self.old node store.now self.new) }
+        ensures err { OnErr result (SameWorld self.old self.new) }
+        ensures links { SameLinks self.old self.new }
+        ensures passed { OnOk result (RestartsClock node self.old self.new) }
+        ensures stays { OnErr result (SameTime self.old self.new) }
+        ensures lived { OnErr result (SameLives self.old self.new) }
     {
         let kept = start_of(alloc, store)?;
         let given = start_of(alloc, store)?;
@@ -82,15 +76,13 @@ impl Network {
         requires there { node < length self.old.nodes.items }
         requires linked { node < length self.old.journal.links }
         requires kept { kept ≡ given }
-        requires room { length self.old.log.items + 1 ≤ vec_capacity self.old.log }
-        ensures restarted { OnOk result (IsRestarted (world_of self.old) node
-            (restart_at self.old.journal.moment self.old.journal.own) given (world_of self.new)) }
-        ensures err { OnErr result (world_of self.new ≡ world_of self.old) }
-        ensures links { self.new.journal.links ≡ self.old.journal.links }
-        ensures passed { OnOk result (instant self.new.journal
-            ≡ record { moment = self.old.journal.moment; own = restarted_own node self.old.journal.own }) }
-        ensures stays { OnErr result (instant self.new.journal ≡ instant self.old.journal) }
-        ensures lived { OnErr result (self.new.journal.lives ≡ self.old.journal.lives) }
+        requires room { HasLogRoom self.old }
+        ensures restarted { OnOk result (RestartsNow self.old node given self.new) }
+        ensures err { OnErr result (SameWorld self.old self.new) }
+        ensures links { SameLinks self.old self.new }
+        ensures passed { OnOk result (RestartsClock node self.old self.new) }
+        ensures stays { OnErr result (SameTime self.old self.new) }
+        ensures lived { OnErr result (SameLives self.old self.new) }
     {
         let now = self.journal.told_at_restart();
         restart_node(&mut self.nodes, node, now, given)?;

@@ -6,16 +6,16 @@ ghost use Rattle.bac_requester.specs.TransactionViews.{ending_view};
 ghost use Rattle.bac_world.specs.Node.{Node};
 ghost use Rattle.bac_world.specs.ReusingWorlds.{WorldStepSo};
 ghost use Rattle.bac_world.specs.World.Event.{Ask, Deliver};
-ghost use Rattle.bac_network.specs.Histories.{AreChangesPermittedNow, AreEndedOnceNow, ArePerformedOnceNow, AreReplayedNow, HasHistory};
-ghost use Rattle.bac_network.specs.Histories.{HasNoReuse, HasRequestsAloneNow, IsOnceByRequestsAloneNow, IsOnceNow, IsOnceSoNow, as_world, reuses_of};
-ghost use Rattle.bac_network.specs.OfNone.{HasStrangersOfNoneNow};
+ghost use Rattle.bac_network.specs.Histories.{HasHistory, HasNoReuse, as_world, reuses_of};
+ghost use Rattle.bac_network.specs.Laws.{HasRightLog};
+ghost use Rattle.bac_network.specs.Runs.{KeepsSettings};
 ghost use Rattle.bac_network.specs.Steps.{IsFault};
 ghost use Rattle.bac_liveness.specs.StraightRuns.{ending_in};
-ghost use Rattle.bac_network.specs.StraightFaults.{Fails, StopsShort};
 ghost use Rattle.bac_network.specs.Going.{HasStopped, IsStuck};
 ghost use Rattle.bac_network.specs.Logs.{IsSince, Stops, ending_by};
-ghost use Rattle.bac_network.specs.StraightRuns.{AsksIf, CanBeAnswered, Goes, GoesAt, IsAnsweredSoon, IsWellMadeAt, WentSoFar};
-ghost use Rattle.bac_network.specs.StraightRuns.{limits_of_server};
+ghost use Rattle.bac_network.specs.Straight.{RunsStraight};
+ghost use Rattle.bac_network.specs.StraightFaults.{Fails};
+ghost use Rattle.bac_network.specs.StraightRuns.{AsksIf, Goes, IsWellMadeAt, limits_of_server};
 
 use crate::ended::ending_of;
 use crate::{Event, World, WorldFault};
@@ -85,9 +85,7 @@ fn ask(
     ensures fault { IfErr result (λ f. IsFault f world.old.overtake (as_world world.old)
         (Ask client server (limits_view limits) (owned_request_view request))) }
     ensures err { OnErr result (world.new ≡ world.old) }
-    ensures overtake { world.new.overtake ≡ world.old.overtake }
-    ensures opening { world.new.opening ≡ world.old.opening }
-    ensures rules { world.new.reuses ≡ world.old.reuses }
+    ensures settings { KeepsSettings world.old world.new }
     ensures passed { world.new.time ≡ world.old.time }
 {
     let event = Event::Ask {
@@ -122,9 +120,7 @@ fn deliver(world: &mut World, number: usize) -> Result<(), WorldFault>
     ensures went { OnOk result (WorldStepSo world.old.overtake (reuses_of world.old) (as_world world.old) (Deliver number) (as_world world.new)) }
     ensures fault { IfErr result (λ f. IsFault f world.old.overtake (as_world world.old) (Deliver number)) }
     ensures err { OnErr result (world.new ≡ world.old) }
-    ensures overtake { world.new.overtake ≡ world.old.overtake }
-    ensures opening { world.new.opening ≡ world.old.opening }
-    ensures rules { world.new.reuses ≡ world.old.reuses }
+    ensures settings { KeepsSettings world.old world.new }
     ensures passed { world.new.time ≡ world.old.time }
 {
     world.step(&Event::Deliver { number })?;
@@ -190,9 +186,7 @@ fn ask_and_deliver(
     ensures goes { HasNoReuse world.old → MatchResult result (λ s. Goes world.old.overtake (as_world world.old) client server (limits_view limits) (owned_request_view request)
         (ending_by s.ask world.new.log) s.deliveries (as_world world.new))
         (λ f. Fails f world.old.overtake (as_world world.old) client server (limits_view limits) (owned_request_view request) (as_world world.new)) }
-    ensures overtake { world.new.overtake ≡ world.old.overtake }
-    ensures opening { world.new.opening ≡ world.old.opening }
-    ensures rules { world.new.reuses ≡ world.old.reuses }
+    ensures settings { KeepsSettings world.old world.new }
     ensures passed { world.new.time ≡ world.old.time }
 {
     let number = world.asks().len();
@@ -214,33 +208,18 @@ fn ask_and_deliver(
 /// It stops at the first event that fails, and returns its fault; the events before it have happened. Errors: `NoSuchNode` where the world lacks one of the
 /// nodes, and then nothing has changed; `NoMemory` where an allocation fails. No other: each copy that it delivers is there. It takes no memory of its own.
 ///
-/// Where nodes let invoke IDs be used again, it is a run of the world as any other, by what `World::step` says.
+/// What is promised of the run (`straight`) is of worlds in which no node lets invoke IDs be used again. Where nodes do, it is a run of the world as
+/// any other, by what `World::step` says.
 pub fn straight(
     world: &mut World,
     client: usize,
     server: usize,
     request: OwnedRequest,
 ) -> Result<StraightRun, WorldFault>
-    ensures run { HasNoReuse world.old → WentSoFar world.old.overtake (as_world world.old) client server (owned_request_view request) (as_world world.new) }
-    ensures goes { HasNoReuse world.old → IfOk result (λ s. GoesAt world.old.overtake (as_world world.old) client server (owned_request_view request)
-        (ending_by s.ask world.new.log) s.deliveries (as_world world.new)) }
-    ensures stopped { HasNoReuse world.old
-        → IfErr result (λ f. StopsShort f world.old.overtake (as_world world.old) client server (owned_request_view request) (as_world world.new)) }
-    ensures answered { HasNoReuse world.old → (a b : Node) → CanBeAnswered world.old.overtake (as_world world.old) client server a b (owned_request_view request)
-        → IfOk result (λ s. IsAnsweredSoon (as_world world.old) client server a b (owned_request_view request)
-        (ending_by s.ask world.new.log) s.deliveries (as_world world.new)) }
-    ensures overtake { world.new.overtake ≡ world.old.overtake }
-    ensures opening { world.new.opening ≡ world.old.opening }
-    ensures rules { world.new.reuses ≡ world.old.reuses }
+    ensures straight { HasNoReuse world.old → RunsStraight result world.old client server (owned_request_view request) world.new }
+    ensures settings { KeepsSettings world.old world.new }
     ensures passed { world.new.time ≡ world.old.time }
-    ensures once { IsOnceSoNow world.new }
-    ensures once_without_reuse { HasNoReuse world.old → IsOnceNow world.new }
-    ensures performed { HasNoReuse world.old → ArePerformedOnceNow world.new }
-    ensures ended { AreEndedOnceNow world.new }
-    ensures permitted { AreChangesPermittedNow world.new }
-    ensures stores { AreReplayedNow world.new }
-    ensures strangers { HasStrangersOfNoneNow world.new }
-    ensures requests_alone { HasNoReuse world.old → HasRequestsAloneNow world.old → IsOnceByRequestsAloneNow world.new }
+    ensures log { HasRightLog world.new }
 {
     // the laws of every world, here and where the run ends
     world.is_once();

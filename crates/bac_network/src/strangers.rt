@@ -1,12 +1,11 @@
 //! Octets of strangers.
-ghost use Rattle.std.specs.Prelude.{◌≡◌, ◌+◌, ◌<◌, ℕ, OnErr, OnOk, length};
-ghost use Rattle.bac_world.specs.ReusingWorlds.{HearsOutsideSo};
+ghost use Rattle.std.specs.Prelude.{◌+◌, ◌<◌, ℕ, OnErr, OnOk, length};
 ghost use Rattle.bac_world.specs.World.{IsOfNone};
 ghost use Rattle.bac_world.specs.World.Event.{Stray};
-ghost use Rattle.bac_network.specs.Clocks.{instant};
-ghost use Rattle.bac_network.specs.Networks.{world_of, HasRoom, IsReadySo};
+ghost use Rattle.bac_network.specs.Networks.{world_of, HasRoom, IsReadySo, SameWorld, SameLinks, SameTime, SameLives};
 ghost use Rattle.bac_network.specs.Rules.{reuses_by};
 ghost use Rattle.bac_network.specs.Steps.{HappensSo};
+ghost use Rattle.bac_network.specs.Calls.{HearsStray};
 
 use crate::entering::enter;
 use crate::fault::WorldFault;
@@ -27,9 +26,9 @@ impl Network {
     ) -> Result<(), WorldFault>
         requires { (overtake : ℕ) × IsReadySo (reuses_by reuses.now) window overtake self.old }
         ensures happens { (overtake : ℕ) → HappensSo overtake (reuses_by reuses.now) (world_of self.old) (Stray node from octets.now) result (world_of self.new) }
-        ensures links { self.new.journal.links ≡ self.old.journal.links }
-        ensures stays { instant self.new.journal ≡ instant self.old.journal }
-        ensures lived { OnErr result (self.new.journal.lives ≡ self.old.journal.lives) }
+        ensures links { SameLinks self.old self.new }
+        ensures stays { SameTime self.old self.new }
+        ensures lived { OnErr result (SameLives self.old self.new) }
     {
         if node >= self.nodes.len() {
             return Err(WorldFault::NoSuchNode);
@@ -52,11 +51,11 @@ impl Network {
         requires ready { (overtake : ℕ) × IsReadySo (reuses_by reuses.now) window overtake self.old }
         requires there { node < length self.old.nodes.items }
         requires stranger { IsOfNone self.old.nodes.items from }
-        ensures went { OnOk result (HearsOutsideSo (IsOfNone self.old.nodes.items from) (reuses_by reuses.now) (world_of self.old) node from octets.now (world_of self.new)) }
-        ensures err { OnErr result (world_of self.new ≡ world_of self.old) }
-        ensures links { self.new.journal.links ≡ self.old.journal.links }
-        ensures stays { instant self.new.journal ≡ instant self.old.journal }
-        ensures lived { OnErr result (self.new.journal.lives ≡ self.old.journal.lives) }
+        ensures went { OnOk result (HearsStray reuses.now self.old node from octets.now self.new) }
+        ensures err { OnErr result (SameWorld self.old self.new) }
+        ensures links { SameLinks self.old self.new }
+        ensures stays { SameTime self.old self.new }
+        ensures lived { OnErr result (SameLives self.old self.new) }
     {
         self.make_room(2, usize::from(window) + 1)?;
         self.hear_with_room(window, reuses, node, from, octets)
@@ -76,11 +75,11 @@ impl Network {
         requires there { node < length self.old.nodes.items }
         requires stranger { IsOfNone self.old.nodes.items from }
         requires room { HasRoom 2 (window + 1) self.old }
-        ensures went { OnOk result (HearsOutsideSo (IsOfNone self.old.nodes.items from) (reuses_by reuses.now) (world_of self.old) node from octets.now (world_of self.new)) }
-        ensures err { OnErr result (world_of self.new ≡ world_of self.old) }
-        ensures links { self.new.journal.links ≡ self.old.journal.links }
-        ensures stays { instant self.new.journal ≡ instant self.old.journal }
-        ensures lived { OnErr result (self.new.journal.lives ≡ self.old.journal.lives) }
+        ensures went { OnOk result (HearsStray reuses.now self.old node from octets.now self.new) }
+        ensures err { OnErr result (SameWorld self.old self.new) }
+        ensures links { SameLinks self.old self.new }
+        ensures stays { SameTime self.old self.new }
+        ensures lived { OnErr result (SameLives self.old self.new) }
     {
         let reuse = reuses_at(reuses, node);
         let now = self.journal.told(node);

@@ -1,21 +1,13 @@
 //! A world.
-ghost use Rattle.std.specs.Prelude.{◌≡◌, ◌≤◌, ◌↔◌, ◌∷◌, [], ℕ, IsErrOf, IsTrue, IfErr, IfOk, OnErr, OnOk, MatchOption, MatchResult, None, Some};
-ghost use Rattle.std.specs.Prelude.{length, map, slice_get, take};
-ghost use Rattle.bac_store.specs.declared.change_fault.ChangeFault.{ChangeFault};
-ghost use Rattle.bac_world.specs.ReusingWorlds.{WorldRunSo, WorldStepSo};
-ghost use Rattle.bac_world.specs.World.{WorldRun, WorldStep, stores_of};
+ghost use Rattle.std.specs.Prelude.{◌≤◌, ◌≡◌, ◌↔◌, IsTrue, IfErr, IfOk, OnErr, OnOk, MatchOption, None, Some, map, take};
+ghost use Rattle.bac_world.specs.World.{stores_of};
 ghost use Rattle.bac_journal.specs.Clocks.{parts_of};
 ghost use Rattle.bac_journal.specs.Notes.{notes_view};
 ghost use Rattle.bac_journal.specs.Views.{copy_view};
-ghost use Rattle.bac_network.specs.AsksAlone.{HasAsksAloneNow, IsOnceOfAsksNow};
-ghost use Rattle.bac_network.specs.Histories.{HasHistorySo, HasNoReuse, IsOnceSoNow, reuses_of};
-ghost use Rattle.bac_network.specs.Histories.{AreChangesPermittedNow, AreEndedOnceNow, ArePerformedOnceNow, AreReplayedNow, HasHistory};
-ghost use Rattle.bac_network.specs.Histories.{AreServedApartNow, HasNoStrangerNow, HasRequestsAloneNow, IsOnceAmongNodesNow, IsOnceByRequestsAloneNow};
-ghost use Rattle.bac_network.specs.Histories.{IsOnceNow, as_world};
-ghost use Rattle.bac_network.specs.OfNone.{HasStrangersOfNoneNow};
-ghost use Rattle.bac_network.specs.Steps.{BeginsTooSoon, NamesNoCopy, NamesNoNode, NamesNodeLink, PassesClock, RefusesChange, TakesMemory, Tells};
-ghost use Rattle.bac_network.specs.Runs.{AsksTakeEffectOnce, RequestsTakeEffectOnce, StopsAt, StopsAtSo};
-ghost use Rattle.bac_network.specs.Views.{event_view, events_view, instant_after, instant_after_all, log_view};
+ghost use Rattle.bac_network.specs.Histories.{HasHistorySo, HasNoReuse, as_world};
+ghost use Rattle.bac_network.specs.Laws.{HasRightLog, IsStrict};
+ghost use Rattle.bac_network.specs.Runs.{KeepsSettings, RunsStrictly, RunsTo, StepsStrictly, StepsTo, StopsAtSo, TellsIn, TellsWhyNot, events_in};
+ghost use Rattle.bac_network.specs.Views.{instant_after, instant_after_all, log_view};
 
 use crate::are_alike;
 use crate::event::Event;
@@ -143,31 +135,21 @@ impl World {
     }
 
     /// A law of every world; the call does nothing. A run of a fresh world with the opening stores led to this one (`history`), and its log is right
-    /// with the stores (`once`): every accepted ask was performed at most once, but for a read at a node that lets invoke IDs be used again. Every ask
+    /// (`log`). By it every accepted ask was performed at most once, but for a read at a node that lets invoke IDs be used again (`once`). Every ask
     /// ended at most once, and was answered with a reply with which it was performed (`ended`). Each change that a node made in its own store had no
     /// fault for it as it then was (`permitted`). Performed requests, changes and restarts alone changed the stores (`stores`). Each peer that the log
     /// has as a stranger is at a link of no node (`strangers`).
     ///
-    /// The rest is of worlds in which no node lets invoke IDs be used again (`history_without_reuse`, `once_without_reuse`). Every accepted ask was
-    /// performed at most once, as it was asked, with the reply of its server's store as it then was (`performed`). Where no node changed its own store or
-    /// restarted, performed requests alone changed the stores (`requests_alone`). Where there is nothing of strangers, all of this holds of nodes alone
-    /// (`among_nodes`). Where both is so, asks of nodes, performed requests and endings alone are in the log, which is right with the stores
-    /// (`asks_alone`). What a node performed for one stranger under one invoke ID, between two of its restarts, is of several entries. They began more
-    /// than 65,000 ms apart, by the node's clock (`apart`).
+    /// The rest is of worlds in which no node lets invoke IDs be used again (`without_reuse`). Every accepted ask was performed at most once, as it was
+    /// asked, with the reply of its server's store as it then was (`log`). Where no node changed its own store or restarted, performed requests alone
+    /// changed the stores (`requests_alone`). Where there is nothing of strangers, all of this holds of nodes alone (`among_nodes`). Where both is so,
+    /// asks of nodes, performed requests and endings alone are in the log, which is right with the stores (`asks_alone`). What a node performed for one
+    /// stranger under one invoke ID, between two of its restarts, is of several entries. They began more than 65,000 ms apart, by the node's clock
+    /// (`apart`).
     pub fn is_once(&self)
         ensures history { HasHistorySo self.now }
-        ensures once { IsOnceSoNow self.now }
-        ensures history_without_reuse { HasNoReuse self.now → HasHistory self.now }
-        ensures once_without_reuse { HasNoReuse self.now → IsOnceNow self.now }
-        ensures performed { HasNoReuse self.now → ArePerformedOnceNow self.now }
-        ensures ended { AreEndedOnceNow self.now }
-        ensures permitted { AreChangesPermittedNow self.now }
-        ensures stores { AreReplayedNow self.now }
-        ensures requests_alone { HasNoReuse self.now → HasRequestsAloneNow self.now → IsOnceByRequestsAloneNow self.now }
-        ensures among_nodes { HasNoReuse self.now → HasNoStrangerNow self.now → IsOnceAmongNodesNow self.now }
-        ensures asks_alone { HasNoReuse self.now → HasAsksAloneNow self.now → IsOnceOfAsksNow self.now }
-        ensures apart { HasNoReuse self.now → AreServedApartNow self.now }
-        ensures strangers { HasStrangersOfNoneNow self.now }
+        ensures log { HasRightLog self.now }
+        ensures without_reuse { HasNoReuse self.now → IsStrict self.now }
     {
         // all of it follows from the invariant of the fields
         let _network = &self.network;
@@ -184,33 +166,16 @@ impl World {
     /// - `TooSoon` exactly where a node is there and may not begin now;
     /// - after these `NoMemory` where an allocation fails: never for noise, for a copy that is not deliverable, or for the clock.
     ///
-    /// What is promised of worlds in which no node lets invoke IDs be used again is as for `is_once` (`went_without_reuse`, `asks_alone`).
+    /// What is promised of worlds in which no node lets invoke IDs be used again is as for `is_once` (`without_reuse`).
     pub fn step(&mut self, event: &Event) -> Result<Option<AskFault>, WorldFault>
-        ensures went { OnOk result (WorldStepSo self.old.overtake (reuses_of self.old) (as_world self.old) (event_view self.old.time event.now)
-            (as_world self.new)) }
-        ensures went_without_reuse { HasNoReuse self.old
-            → OnOk result (WorldStep self.old.overtake (as_world self.old) (event_view self.old.time event.now) (as_world self.new)) }
-        ensures told { IfOk result (λ told. Tells told (as_world self.old) (event_view self.old.time event.now) (as_world self.new)) }
-        ensures node { IsErrOf result WorldFault.NoSuchNode ↔ NamesNoNode (as_world self.old) (event_view self.old.time event.now) }
-        ensures datagram { IsErrOf result WorldFault.NoSuchDatagram ↔ NamesNoCopy (as_world self.old) (event_view self.old.time event.now) }
-        ensures link { IsErrOf result WorldFault.NodeLink ↔ NamesNodeLink (as_world self.old) (event_view self.old.time event.now) }
-        ensures clock { IsErrOf result WorldFault.ClockEnd ↔ PassesClock (as_world self.old) (event_view self.old.time event.now) }
-        ensures soon { IsErrOf result WorldFault.TooSoon ↔ BeginsTooSoon (as_world self.old) (event_view self.old.time event.now) }
-        ensures change { (why : ChangeFault)
-            → (IsErrOf result (WorldFault.BadChange why) ↔ RefusesChange (as_world self.old) (event_view self.old.time event.now) why) }
-        ensures memory { IsErrOf result WorldFault.NoMemory → TakesMemory self.old.overtake (as_world self.old) (event_view self.old.time event.now) }
+        ensures went { OnOk result (StepsTo self.old event.now self.new) }
+        ensures told { IfOk result (λ told. TellsIn told self.old event.now self.new) }
+        ensures faults { TellsWhyNot result self.old event.now }
         ensures passed { OnOk result (self.new.time ≡ instant_after event.now self.old.time) }
         ensures err { OnErr result (self.new ≡ self.old) }
-        ensures settings { (self.new.overtake ≡ self.old.overtake) × (self.new.opening ≡ self.old.opening) × (self.new.reuses ≡ self.old.reuses) }
-        ensures once { IsOnceSoNow self.new }
-        ensures once_without_reuse { HasNoReuse self.old → IsOnceNow self.new }
-        ensures performed { HasNoReuse self.old → ArePerformedOnceNow self.new }
-        ensures ended { AreEndedOnceNow self.new }
-        ensures permitted { AreChangesPermittedNow self.new }
-        ensures stores { AreReplayedNow self.new }
-        ensures strangers { HasStrangersOfNoneNow self.new }
-        ensures requests_alone { HasNoReuse self.old → RequestsTakeEffectOnce self.old (event_view self.old.time event.now ∷ []) self.new }
-        ensures asks_alone { HasNoReuse self.old → AsksTakeEffectOnce self.old (event_view self.old.time event.now ∷ []) self.new }
+        ensures settings { KeepsSettings self.old self.new }
+        ensures log { HasRightLog self.new }
+        ensures without_reuse { HasNoReuse self.old → StepsStrictly result self.old event.now self.new }
     {
         self.network.step(self.alloc, self.overtake, self.window, &self.reuses, event)
     }
@@ -220,31 +185,19 @@ impl World {
     /// For every list of asks, deliveries, losses, repeats, reorderings, noise, ticks and clock steps (`requests_alone`), every accepted ask takes
     /// effect at most once. It takes effect exactly once where a service answer reached its client. The request performed and the answer are its own,
     /// whole. Each server's store is its opening store after the performed requests in their order. With changes and restarts of nodes too, the log
-    /// is right with the stores (`once`). Strangers may send any octets and be asked in all of these: what they had performed is in the log, in its
+    /// is right with the stores (`log`). Strangers may send any octets and be asked in all of these: what they had performed is in the log, in its
     /// place, and counts as performed. The log has no peer at a node's link as a stranger (`strangers`). The time is what the events that happened
     /// made of it (`passed`). Where there is nothing of strangers, no change and no restart, the log has asks, performed requests and endings alone, and
-    /// is right with the stores (`asks_alone`). All but `once` is of worlds in which no node lets invoke IDs be used again; where nodes do, these may
-    /// perform a read more than once.
+    /// is right with the stores (`asks_alone`). All but `log` is of worlds in which no node lets invoke IDs be used again (`without_reuse`); where nodes
+    /// do, these may perform a read more than once.
     pub fn run(&mut self, events: &[Event]) -> Result<(), RunFault>
-        ensures went { OnOk result (WorldRunSo self.old.overtake (reuses_of self.old) (as_world self.old) (events_view self.old.time events.now)
-            (as_world self.new)) }
-        ensures stopped { IfErr result (λ f. StopsAtSo f self.old (events_view self.old.time events.now) self.new) }
-        ensures went_without_reuse { HasNoReuse self.old
-            → OnOk result (WorldRun self.old.overtake (as_world self.old) (events_view self.old.time events.now) (as_world self.new)) }
-        ensures stopped_without_reuse { HasNoReuse self.old
-            → IfErr result (λ f. StopsAt f self.old (events_view self.old.time events.now) self.new) }
+        ensures went { OnOk result (RunsTo self.old events.now self.new) }
+        ensures stopped { IfErr result (λ f. StopsAtSo f self.old (events_in self.old events.now) self.new) }
         ensures passed { OnOk result (self.new.time ≡ instant_after_all events.now self.old.time) }
         ensures passed_before { IfErr result (λ f. self.new.time ≡ instant_after_all (take f.place events.now) self.old.time) }
-        ensures settings { (self.new.overtake ≡ self.old.overtake) × (self.new.opening ≡ self.old.opening) × (self.new.reuses ≡ self.old.reuses) }
-        ensures once { IsOnceSoNow self.new }
-        ensures once_without_reuse { HasNoReuse self.old → IsOnceNow self.new }
-        ensures performed { HasNoReuse self.old → ArePerformedOnceNow self.new }
-        ensures ended { AreEndedOnceNow self.new }
-        ensures permitted { AreChangesPermittedNow self.new }
-        ensures stores { AreReplayedNow self.new }
-        ensures strangers { HasStrangersOfNoneNow self.new }
-        ensures requests_alone { HasNoReuse self.old → RequestsTakeEffectOnce self.old (events_view self.old.time events.now) self.new }
-        ensures asks_alone { HasNoReuse self.old → AsksTakeEffectOnce self.old (events_view self.old.time events.now) self.new }
+        ensures settings { KeepsSettings self.old self.new }
+        ensures log { HasRightLog self.new }
+        ensures without_reuse { HasNoReuse self.old → RunsStrictly result self.old events.now self.new }
     {
         // the law of every world, here and where the run ends
         self.is_once();

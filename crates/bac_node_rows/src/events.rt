@@ -47,7 +47,9 @@ pub(crate) fn node_of(scene: &str, row: &mut Row) -> Option<Node> {
 /// Prints what came of a call that was accepted.
 fn told_of(mut outcome: Outcome, row: &mut Row) -> Came {
     print_outcome(&mut outcome, row);
-    if outcome.dropped.is_some() {
+    let is_dropped = outcome.dropped.is_some();
+    drop(outcome);
+    if is_dropped {
         Came::Dropped
     } else {
         Came::Heard
@@ -90,23 +92,33 @@ fn behind_rules<'a>(verb: &str, words: &'a str) -> &'a str {
     }
 }
 
-/// A datagram, or an APDU in a frame. Octets that are not an APDU have no frame.
+/// An APDU in a frame. Octets that are not an APDU have no frame.
+fn framed_apdu(octets: &[u8], row: &mut Row) -> Vec<u8> {
+    row.needs(read(octets).is_ok());
+    framed(octets, row)
+}
+
+/// A datagram, or an APDU in a frame.
 fn datagram_of(verb: &str, digits: &str, row: &mut Row) -> Vec<u8> {
     let octets = row.octets_or_fault(digits, 0);
     if verb == "hear" {
-        return octets;
+        octets
+    } else {
+        framed_apdu(&octets, row)
     }
-    row.needs(read(&octets).is_ok());
-    framed(&octets, row)
 }
 
 /// A datagram or an APDU arrives, at a node whose rules the verb says.
 fn hears(node: &mut Node, now: u64, verb: &str, words: &str, row: &mut Row) -> Came {
-    let rules = rules_of(verb, words);
     let heard = behind_rules(verb, words);
     let octets = datagram_of(verb, after(heard, 1), row);
     let from = link(row.number8_or_fault(heard, 0));
-    let came = told(node.hear(&rules, now, from, &octets), row);
+    let came = told(node.hear(&rules_of(verb, words), now, from, &octets), row);
+    within(verb, came, row)
+}
+
+/// What comes of that at a node with a bound on its memory, if the verb says so.
+fn within(verb: &str, came: Came, row: &mut Row) -> Came {
     match came {
         // the bound on memory refuses too: the row says so, and does not try again
         Came::NoMemory if verb == "memory" => {
@@ -149,7 +161,11 @@ fn asks(node: &mut Node, now: u64, words: &str, row: &mut Row) -> Came {
     };
     let limits = limits_of(word(words, 1), row);
     match request_of(after(words, 2), row) {
-        Some(request) => told_of_ask(node.ask(now, &peer, &limits, &request), row),
+        Some(request) => {
+            let came = node.ask(now, &peer, &limits, &request);
+            drop(request);
+            told_of_ask(came, row)
+        }
         None => Came::Refused,
     }
 }
@@ -172,7 +188,11 @@ fn told_of_change(changed: Result<(), ChangeFault>, row: &mut Row) -> Came {
 /// A node changes its own store.
 fn changes(node: &mut Node, change: Option<Change>, row: &mut Row) -> Came {
     match change {
-        Some(change) => told_of_change(node.change(&change), row),
+        Some(change) => {
+            let changed = node.change(&change);
+            drop(change);
+            told_of_change(changed, row)
+        }
         None => Came::Refused,
     }
 }
@@ -199,6 +219,7 @@ fn compare(node: &Node, scene: &str, row: &mut Row) {
         row.say("new node ");
         row.say_truth(node.same(&new));
         row.tell_truth(" store ", node.store().same(new.store()));
+        drop(new);
     }
 }
 

@@ -1,6 +1,7 @@
 //! Rows of worlds that are made, or are not.
 //!
 //! A line is the number of the second node's link and a scene, in which `|` stands for the end of a line. Prints `made`, or the fault.
+use crate::lists::keep;
 use crate::scene::{line_of, link, nodes_of, overtake_of};
 use bac_network::{NewClocksFault, NewWorldFault, Pace, World};
 use bac_node::Config;
@@ -12,7 +13,7 @@ use bac_store::Store;
 fn starts_of(words: &str, row: &mut Row) -> Vec<u32> {
     let mut starts = Vec::new(row.alloc);
     for word in words.split(' ') {
-        row.needs(starts.push(number32(word, 0)).is_ok());
+        keep(number32(word, 0), &mut starts, row);
     }
     starts
 }
@@ -71,7 +72,10 @@ fn print_fault(fault: NewClocksFault, row: &mut Row) {
 /// Prints whether a scene is made.
 fn tell_made(number: u8, scene: &str, row: &mut Row) {
     match made(scene, nodes_at(number, scene, row), row) {
-        Ok(_) => row.say("made\n"),
+        Ok(world) => {
+            drop(world);
+            row.say("made\n");
+        }
         Err(fault) => print_fault(fault, row),
     }
 }

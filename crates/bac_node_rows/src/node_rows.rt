@@ -14,6 +14,22 @@ struct Twins<'a> {
     twin: Node,
 }
 
+/// Whether an event at the twin found memory, and had no fault.
+fn is_played(came: Came, told: &Row) -> bool {
+    match came {
+        Came::NoMemory => false,
+        _ => !told.has_failed,
+    }
+}
+
+/// The latest moment of a node after a line, by the one before it.
+fn latest_after(came: Came, line: &str, before: u64) -> u64 {
+    match came {
+        Came::Heard | Came::Dropped => number(line, 0),
+        _ => before,
+    }
+}
+
 impl Twins<'_> {
     /// The result of an event at the node: of the second call where an allocation fails in the first.
     fn node_meets(&mut self, line: &str, row: &mut Row) -> Came {
@@ -32,7 +48,7 @@ impl Twins<'_> {
     fn twin_tells(&mut self, line: &str, told: &[u8], row: &mut Row) -> bool {
         let mut other = Row::new(row.alloc);
         let came = happens(&mut self.twin, self.scene, line, &mut other);
-        row.needs(!matches!(came, Came::NoMemory) && !other.has_failed);
+        row.needs(is_played(came, &other));
         other.told.as_slice() == told
     }
 
@@ -64,10 +80,7 @@ impl Stage for Twins<'_> {
         let mut told = Row::new(row.alloc);
         let came = self.node_meets(line, &mut told);
         row.take(&told);
-        let latest = match came {
-            Came::Heard | Came::Dropped => number(line, 0),
-            _ => before,
-        };
+        let latest = latest_after(came, line, before);
         let is_alike = self.twin_agrees(line, came, &told.told, row);
         if !is_alike || self.node.latest() != latest {
             row.say("otherwise at the twin\n");
@@ -79,11 +92,24 @@ impl Stage for Twins<'_> {
     }
 }
 
+/// Plays the lines of a row on two nodes of a scene.
+fn play_twins(mut twins: Twins<'_>, lines: &str, row: &mut Row) {
+    let scene = twins.scene;
+    play(&mut twins, scene, lines, row);
+    drop(twins);
+}
+
+/// Plays the lines of a row on a node of a scene and its twin.
+fn play_beside(scene: &str, node: Node, lines: &str, row: &mut Row) {
+    match node_of(scene, row) {
+        Some(twin) => play_twins(Twins { scene, node, twin }, lines, row),
+        None => drop(node),
+    }
+}
+
 /// Plays the lines of a row on a node of a scene.
 pub(crate) fn play_node(scene: &str, lines: &str, row: &mut Row) {
-    let node = node_of(scene, row);
-    let twin = node_of(scene, row);
-    if let (Some(node), Some(twin)) = (node, twin) {
-        play(&mut Twins { scene, node, twin }, scene, lines, row);
+    if let Some(node) = node_of(scene, row) {
+        play_beside(scene, node, lines, row);
     }
 }

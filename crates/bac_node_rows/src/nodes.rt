@@ -2,6 +2,7 @@
 //!
 //! A row has two sides, each with a client and a server; a line that begins with `twin` is about the second side. A side's links can be made to fail at a call,
 //! and its clock can read the moments of a list.
+use crate::lists::keep;
 use crate::medium::Medium;
 use crate::runs::{ask, ask_in_pair, rounds, serve};
 use crate::side::{MemoryNode, Side};
@@ -25,7 +26,10 @@ fn print_content(reply: Reply<'_>, row: &mut Row) {
 
 fn print_file(store: &Store, request: &Request<'_>, row: &mut Row) {
     match store.prepare(row.alloc, request) {
-        Ok(planned) => print_content(planned.reply(), row),
+        Ok(planned) => {
+            print_content(planned.reply(), row);
+            drop(planned);
+        }
         Err(_) => row.fail(),
     }
 }
@@ -50,7 +54,7 @@ fn fail(medium: &mut Medium, words: &str) {
 /// `moments M M ..`: the moments that the clock reads.
 fn moments(medium: &mut Medium, words: &str, row: &mut Row) {
     for word in words.split(' ') {
-        row.needs(medium.moments.push(decimal(word)).is_ok());
+        keep(decimal(word), &mut medium.moments, row);
     }
 }
 
@@ -152,14 +156,20 @@ fn all_happen(one: &mut Side<'_>, twin: &mut Side<'_>, lines: &str, row: &mut Ro
 /// Plays the lines of a row beside that side.
 fn play_beside(medium: &RefCell<Medium>, one: &mut Side<'_>, lines: &str, row: &mut Row) {
     match Side::new(row.alloc, medium) {
-        Some(mut twin) => all_happen(one, &mut twin, lines, row),
+        Some(mut twin) => {
+            all_happen(one, &mut twin, lines, row);
+            drop(twin);
+        }
         None => row.fail(),
     }
 }
 
 fn play_on(medium: &RefCell<Medium>, other: &RefCell<Medium>, lines: &str, row: &mut Row) {
     match Side::new(row.alloc, medium) {
-        Some(mut one) => play_beside(other, &mut one, lines, row),
+        Some(mut one) => {
+            play_beside(other, &mut one, lines, row);
+            drop(one);
+        }
         None => row.fail(),
     }
 }

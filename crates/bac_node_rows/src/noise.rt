@@ -52,6 +52,7 @@ fn noise_comes(world: &mut World, node: usize, row: &mut Row) {
     for number in 0..world.copies().len() {
         let mut noise = copied(world, node, number, row);
         prefixes_come(world, &mut noise, row);
+        drop(noise);
     }
 }
 
@@ -67,5 +68,6 @@ pub(crate) fn no_octets_come(world: &mut World, row: &mut Row) {
     for node in 0..world.nodes().len() {
         let noise = noise_at(node, &[], row);
         row.needs(world.step(&noise).is_ok());
+        drop(noise);
     }
 }

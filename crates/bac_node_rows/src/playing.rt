@@ -86,6 +86,12 @@ impl<'a> Player<'a> {
         }
         self.compare(out);
     }
+
+    /// Prints how many events there were.
+    fn ends(&self, out: &mut Row) {
+        out.tell("# events\n", self.events);
+        out.needs(!self.told.has_failed && !self.wanted.has_failed);
+    }
 }
 
 /// What scripts of a scene begin with.
@@ -107,6 +113,5 @@ pub(crate) fn play<S: Stage>(stage: &mut S, scene: &str, script: &str, out: &mut
     };
     player.goes_by(stage, first_of(scene), out);
     player.goes_by(stage, script, out);
-    out.tell("# events\n", player.events);
-    out.needs(!player.told.has_failed && !player.wanted.has_failed);
+    player.ends(out);
 }

@@ -120,7 +120,10 @@ pub(crate) fn print_fault(fault: TurnFault, row: &mut Row) {
 /// Prints how an ask ended.
 pub(crate) fn print_end(end: Result<AskEnd, TurnFault>, row: &mut Row) {
     match end {
-        Ok(AskEnd::Ended(ending)) => print_answer(&ending, row),
+        Ok(AskEnd::Ended(ending)) => {
+            print_answer(&ending, row);
+            drop(ending);
+        }
         Ok(AskEnd::Refused(fault)) => row.tell("refused #\n", u64::from(fault.number())),
         Ok(AskEnd::NoEnding) => row.say("no ending\n"),
         Err(fault) => print_fault(fault, row),

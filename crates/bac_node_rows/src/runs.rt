@@ -26,7 +26,9 @@ pub(crate) fn ask(side: &mut Side<'_>, words: &str, row: &mut Row) {
     };
     let mut clock = side.clock();
     if let Some(question) = question(after(words, 1), row) {
-        print_end(side.client.ask(&mut clock, &question, &limit), row);
+        let end = side.client.ask(&mut clock, &question, &limit);
+        drop(question);
+        print_end(end, row);
     }
 }
 
@@ -42,13 +44,17 @@ pub(crate) fn ask_in_pair(side: &mut Side<'_>, words: &str, row: &mut Row) {
             &question,
             turns,
         );
+        drop(question);
         print_end(end, row);
     }
 }
 
 fn turn_of(node: &mut MemoryNode<'_>, now: u64, row: &mut Row) {
     match node.turn(now) {
-        Ok(turn) => print_done(&turn, row),
+        Ok(turn) => {
+            print_done(&turn, row);
+            drop(turn);
+        }
         Err(fault) => print_fault(fault, row),
     }
 }

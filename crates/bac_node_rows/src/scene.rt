@@ -6,6 +6,7 @@
 //! overtaking limit, 128 where there is no such line. `clocks DRIFT LIFE START START ..`: the world's nodes have clocks of their own, with that drift
 //! in parts in a million. Copies live so long, and each clock begins at its start. `NAME: TEXT` is a text that lines may name. What follows a line
 //! `first` is what each script begins with.
+use crate::lists::keep;
 use crate::words::{change_of, request_of};
 use bac_apdu::{Apdu, Limits, read};
 use bac_node::Config;
@@ -44,7 +45,11 @@ pub(crate) fn limits_of(digits: &str, row: &mut Row) -> Limits {
 /// Performs the request of some words.
 fn performs(store: &mut Store, words: &str, row: &mut Row) {
     if let Some(request) = request_of(words, row) {
-        row.needs(store.perform(row.alloc, &request.as_request()).is_ok());
+        match store.perform(row.alloc, &request.as_request()) {
+            Ok(reply) => drop(reply),
+            Err(_) => row.fail(),
+        }
+        drop(request);
     }
 }
 
@@ -68,23 +73,29 @@ pub(crate) fn house_after(words: &str, row: &mut Row) -> Option<Store> {
 }
 
 /// The store of the one object that a change is about.
-fn store_after(alloc: Global, change: Option<Change>) -> Option<Store> {
+fn store_after(alloc: Global, change: &Change) -> Option<Store> {
     match change {
-        Some(
-            Change::Value {
-                object,
-                property,
-                octets,
-            },
-        ) => store_of(alloc, object, property, &octets),
-        _ => None,
+        Change::Value {
+            object,
+            property,
+            octets,
+        } => store_of(alloc, *object, *property, octets),
+        Change::File { .. } => None,
     }
+}
+
+/// The store of the one object that the words of `set` are about.
+fn store_set(words: &str, row: &mut Row) -> Option<Store> {
+    let change = change_of("set", words, row)?;
+    let store = store_after(row.alloc, &change);
+    drop(change);
+    store
 }
 
 /// The store of one object: `T:I PROPERTY HEX`.
 fn store_with(words: &str, row: &mut Row) -> Option<Store> {
     match plain(row.alloc, words) {
-        Ok(words) => store_after(row.alloc, change_of("set", &words, row)),
+        Ok(words) => store_set(&words, row),
         Err(_) => None,
     }
 }
@@ -107,7 +118,7 @@ fn put_node(number_here: u8, words: &str, nodes: &mut Vec<(Config, Store)>, row:
         reply_slots: number(words, 3) as usize,
     };
     match store_by(after(words, 4), row) {
-        Some(store) => row.needs(nodes.push((config, store)).is_ok()),
+        Some(store) => keep((config, store), nodes, row),
         None => row.fail(),
     }
 }

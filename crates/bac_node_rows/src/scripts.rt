@@ -62,21 +62,28 @@ fn run_all(way: Way, lines: &str, row: &mut Row) {
     run_text(way, lines, b"\n", row);
 }
 
-/// Plays a row of a kind.
-pub(crate) fn play(kind: &str, lines: &str, row: &mut Row) {
+/// How the scripts of a kind are run.
+fn way_of(kind: &str) -> Option<Way> {
     match place_of(
         "script scripts noted chart mermaid text texts json jsons",
         kind,
     ) {
-        0 => run_all(Way::Plain, lines, row),
-        1 => run_each(Way::Plain, lines, row),
-        2 => run_each(Way::Noted, lines, row),
-        3 => run_all(Way::Shown(View::Chart), lines, row),
-        4 => run_all(Way::Shown(View::Mermaid), lines, row),
-        5 => run_all(Way::Shown(View::Text), lines, row),
-        6 => run_each(Way::Shown(View::Text), lines, row),
-        7 => run_all(Way::Shown(View::Objects), lines, row),
-        8 => run_each(Way::Shown(View::Objects), lines, row),
-        _ => row.fail(),
+        0 | 1 => Some(Way::Plain),
+        2 => Some(Way::Noted),
+        3 => Some(Way::Shown(View::Chart)),
+        4 => Some(Way::Shown(View::Mermaid)),
+        5 | 6 => Some(Way::Shown(View::Text)),
+        7 | 8 => Some(Way::Shown(View::Objects)),
+        _ => None,
+    }
+}
+
+/// Plays a row of a kind: in those of some kinds each line is a script.
+pub(crate) fn play(kind: &str, lines: &str, row: &mut Row) {
+    let has_many = place_of("scripts noted texts jsons", kind) < 4;
+    match way_of(kind) {
+        Some(way) if has_many => run_each(way, lines, row),
+        Some(way) => run_all(way, lines, row),
+        None => row.fail(),
     }
 }

@@ -53,6 +53,11 @@ pub(crate) fn node_on<L: Link + Drop>(
     }
 }
 
+/// A node with the house store at an end of a medium.
+fn memory_node(alloc: Global, medium: &RefCell<Medium>, end: End) -> Option<MemoryNode<'_>> {
+    node_on(alloc, end.link(), MemoryLink::new(medium, end))
+}
+
 /// A client and a server on one medium.
 #[derive(Drop)]
 pub(crate) struct Side<'a> {
@@ -62,18 +67,30 @@ pub(crate) struct Side<'a> {
 }
 
 impl<'a> Side<'a> {
-    /// A side whose nodes are new, on links of a medium.
-    pub(crate) fn new(alloc: Global, medium: &'a RefCell<Medium>) -> Option<Side<'a>> {
-        let (client, server) = (End::Client, End::Server);
-        let client = node_on(alloc, client.link(), MemoryLink::new(medium, client));
-        let server = node_on(alloc, server.link(), MemoryLink::new(medium, server));
-        match (client, server) {
-            (Some(client), Some(server)) => Some(Side {
+    /// A side with that client, whose server is new.
+    fn with_server(
+        alloc: Global,
+        medium: &'a RefCell<Medium>,
+        client: MemoryNode<'a>,
+    ) -> Option<Side<'a>> {
+        match memory_node(alloc, medium, End::Server) {
+            Some(server) => Some(Side {
                 medium,
                 client,
                 server,
             }),
-            _ => None,
+            None => {
+                drop(client);
+                None
+            }
+        }
+    }
+
+    /// A side whose nodes are new, on links of a medium.
+    pub(crate) fn new(alloc: Global, medium: &'a RefCell<Medium>) -> Option<Side<'a>> {
+        match memory_node(alloc, medium, End::Client) {
+            Some(client) => Side::with_server(alloc, medium, client),
+            None => None,
         }
     }
 

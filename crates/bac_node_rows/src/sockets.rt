@@ -37,15 +37,27 @@ fn exchange<R: Net + Clock>(
         Some(mut node) => {
             serve(rt, &mut node, row);
             receive(client, 1_000, row);
+            drop(node);
         }
         None => row.fail(),
     }
 }
 
+/// A client sends octets to a node on another socket, as in `exchange`.
+fn meet<R: Net + Clock>(rt: &R, client: &mut UdpLink, line: &str, row: &mut Row) {
+    match UdpLink::bind(rt, 0) {
+        Ok(link) => exchange(rt, client, link, line, row),
+        Err(_) => row.fail(),
+    }
+}
+
 /// A socket sends the octets of a line, a node takes one turn on its own, and the first socket receives the answer.
 pub(crate) fn play<R: Net + Clock>(rt: &R, line: &str, row: &mut Row) {
-    match (UdpLink::bind(rt, 0), UdpLink::bind(rt, 0)) {
-        (Ok(mut client), Ok(link)) => exchange(rt, &mut client, link, line, row),
-        _ => row.fail(),
+    match UdpLink::bind(rt, 0) {
+        Ok(mut client) => {
+            meet(rt, &mut client, line, row);
+            drop(client);
+        }
+        Err(_) => row.fail(),
     }
 }

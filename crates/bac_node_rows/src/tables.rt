@@ -56,7 +56,10 @@ fn made(way: Way, config: Config, store: Store, row: &Row) -> Result<Node, NewNo
 
 fn tell_node(name: &str, made: Result<Node, NewNodeFault>, row: &mut Row) {
     match made {
-        Ok(node) => print_node(name, &node, row),
+        Ok(node) => {
+            print_node(name, &node, row);
+            drop(node);
+        }
         Err(NewNodeFault::NoMemory) => row.fail(),
         Err(fault) => row.line(format_args!("{name}: {fault}")),
     }
@@ -68,6 +71,7 @@ fn tell_world(name: &str, made: Result<World, NewWorldFault>, row: &mut Row) {
             for node in world.nodes() {
                 print_node(name, node, row);
             }
+            drop(world);
         }
         Err(NewWorldFault::NoMemory) => row.fail(),
         Err(fault) => row.line(format_args!("{name}: {fault}")),

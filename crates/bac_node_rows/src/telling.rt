@@ -5,21 +5,25 @@ use bac_node::Outcome;
 use bac_requester::Ending;
 use bac_responder::{Act, Effect};
 use bac_rows::row::Row;
-use bac_transaction::Datagram;
+use bac_service::OwnedRequest;
+use bac_transaction::{Datagram, PeerKey};
 
-/// An APDU in a plain frame, which expects a reply exactly where it is a Confirmed-Request.
+/// The control octet of the plain frame of an APDU: it expects a reply exactly where that is a Confirmed-Request.
+fn control_of(apdu: &[u8]) -> u8 {
+    match apdu.first() {
+        Some(first) if *first < 0x10 => 4,
+        _ => 0,
+    }
+}
+
+/// An APDU in a plain frame.
 pub(crate) fn framed(apdu: &[u8], row: &mut Row) -> Vec<u8> {
     let [high, low] = ((apdu.len().saturating_add(6) % 65_536) as u16).to_be_bytes();
-    let is_request = matches!(apdu.first(), Some(first) if *first < 0x10);
-    let control = if is_request { 4 } else { 0 };
-    let mut octets = Vec::new(row.alloc);
-    row.needs(
-        octets
-            .extend_from_slice(&[0x81, 0x0A, high, low, 1, control])
-            .is_ok(),
-    );
-    row.needs(octets.extend_from_slice(apdu).is_ok());
-    octets
+    let mut frame = Row::new(row.alloc);
+    frame.put_all(&[0x81, 0x0A, high, low, 1, control_of(apdu)]);
+    frame.put_all(apdu);
+    row.needs(!frame.has_failed);
+    frame.told
 }
 
 /// Whether octets are the plain frame of an APDU.
@@ -50,10 +54,8 @@ pub(crate) fn print_sends(sends: &[Datagram], row: &mut Row) {
     }
 }
 
-/// Prints a request that was performed, and its reply: the client and the invoke ID, the request's word and its service data.
-fn print_performed(act: Act, row: &mut Row) {
-    let Act { key, effect } = act;
-    let Effect { request, reply } = effect;
+/// Prints a request of a client that was performed: the client and the invoke ID, the request's word and its service data.
+fn print_asked(key: &PeerKey, request: &OwnedRequest, row: &mut Row) {
     row.tell_two(
         "performed #:# ",
         u64::from(key.peer.link[3]),
@@ -61,9 +63,18 @@ fn print_performed(act: Act, row: &mut Row) {
     );
     row.say(request.as_request().service().verb());
     row.put(b' ');
-    say_request(&request, row);
+    say_request(request, row);
     row.put(b' ');
-    print_answer(&Ending::Answered(reply), row);
+}
+
+/// Prints a request that was performed, and its reply.
+fn print_performed(act: Act, row: &mut Row) {
+    print_asked(&act.key, &act.effect.request, row);
+    let Effect { request, reply } = act.effect;
+    drop(request);
+    let ending = Ending::Answered(reply);
+    print_answer(&ending, row);
+    drop(ending);
 }
 
 /// Prints the result of a call, and takes the effect out of it.

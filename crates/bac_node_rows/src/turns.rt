@@ -57,7 +57,10 @@ pub(crate) fn buffer(side: &Side<'_>, count: usize, row: &mut Row) {
 
 fn print_taken(taken: Result<Turn, TurnFault>, row: &mut Row) {
     match taken {
-        Ok(turn) => print_turn(&turn, row),
+        Ok(turn) => {
+            print_turn(&turn, row);
+            drop(turn);
+        }
         Err(fault) => print_fault(fault, row),
     }
 }
@@ -96,5 +99,6 @@ pub(crate) fn begin(side: &mut Side<'_>, words: &str, row: &mut Row) {
     let now = word(words, 0).parse::<u64>().unwrap_or(side.moment());
     if let Some(question) = question(after(words, 1), row) {
         begins(side, now, &question, row);
+        drop(question);
     }
 }

@@ -7,15 +7,18 @@
 //!
 //! `new NODE`: another node begins at the link, as the first one did; `restart NODE`: it restarts and waits. `clock NODE EXACT RATE`: from that moment on the
 //! node's clock shows EXACT millionths of a millisecond, and RATE more after each millisecond. Without such a line it shows the moment.
+use crate::lists::keep;
 use crate::nodes::file;
 use crate::playing::{Stage, play};
 use crate::printing::{print_one_ended, print_refusal, print_ticket};
 use crate::scene::{link, nodes_of};
 use crate::words::{change_of, request_of};
+use bac_apdu::Limits;
 use bac_node::{Node, Outcome};
 use bac_npdu::{LinkAddress, Peer, Route};
 use bac_requester::{AskFault, Asked};
 use bac_rows::row::{Row, after, decimal, number, number8, place_of, word};
+use bac_store::Change;
 use bac_transaction::Datagram;
 
 /// Reads 60,000 octets of file 1.
@@ -148,17 +151,22 @@ impl Wire<'_> {
         for datagram in sends {
             let sent = Sent { from, datagram };
             print_sent(self.sent.len(), &sent, row);
-            row.needs(self.sent.push(sent).is_ok());
+            keep(sent, &mut self.sent, row);
         }
+    }
+
+    /// Prints an outcome at the node of that link, and keeps what it sends.
+    fn take_all(&mut self, from: LinkAddress, mut outcome: Outcome, row: &mut Row) {
+        print_done(&outcome, row);
+        let sends = std::mem::replace(&mut outcome.sends, Vec::new(row.alloc));
+        drop(outcome);
+        self.take(from, sends, row);
     }
 
     /// Prints the result of an event at the node of that link, and keeps what it sends.
     fn go_on(&mut self, from: LinkAddress, came: Option<Outcome>, row: &mut Row) {
         match came {
-            Some(outcome) => {
-                print_done(&outcome, row);
-                self.take(from, outcome.sends, row);
-            }
+            Some(outcome) => self.take_all(from, outcome, row),
             None => row.fail(),
         }
     }
@@ -182,6 +190,14 @@ impl Wire<'_> {
         }
     }
 
+    /// What a node takes of APDUs.
+    fn limits_at(&self, node: usize) -> Option<Limits> {
+        match self.nodes.get(node) {
+            Some(node) => Some(node.settings().limits),
+            None => None,
+        }
+    }
+
     /// What a node answers that asks at a moment; None is a fault.
     fn begin(
         &mut self,
@@ -191,12 +207,12 @@ impl Wire<'_> {
         row: &mut Row,
     ) -> Option<Result<Asked, AskFault>> {
         let peer = peer_of(word(words, 0), row);
-        let limits = self.nodes.get(place_of_link(peer.link))?.settings().limits;
+        let limits = self.limits_at(place_of_link(peer.link))?;
         let client = self.nodes.get_mut(client)?;
-        match request_of(after(words, 1), row) {
-            Some(request) => Some(client.ask(now, &peer, &limits, &request)),
-            None => None,
-        }
+        let request = request_of(after(words, 1), row)?;
+        let came = client.ask(now, &peer, &limits, &request);
+        drop(request);
+        Some(came)
     }
 
     fn asks(&mut self, moment: u64, words: &str, row: &mut Row) {
@@ -246,20 +262,41 @@ impl Wire<'_> {
         self.go_on(link_of(place), came, row);
     }
 
+    /// A node makes a change in its own store.
+    fn makes(&mut self, place: usize, change: &Change, row: &mut Row) {
+        match self.nodes.get_mut(place) {
+            Some(node) => row.needs(node.change(change).is_ok()),
+            None => row.fail(),
+        }
+    }
+
     /// A node changes its own store.
     fn changes(&mut self, words: &str, row: &mut Row) {
-        let change = change_of("set", after(words, 1), row);
-        match (self.nodes.get_mut(number(words, 0) as usize), change) {
-            (Some(node), Some(change)) => row.needs(node.change(&change).is_ok()),
-            _ => row.fail(),
+        match change_of("set", after(words, 1), row) {
+            Some(change) => {
+                self.makes(number(words, 0) as usize, &change, row);
+                drop(change);
+            }
+            None => row.fail(),
+        }
+    }
+
+    /// That node is at the link.
+    fn put(&mut self, place: usize, anew: Node, row: &mut Row) {
+        match self.nodes.get_mut(place) {
+            Some(node) => drop(std::mem::replace(node, anew)),
+            None => {
+                drop(anew);
+                row.fail();
+            }
         }
     }
 
     /// Another node begins at the link.
     fn begins_anew(&mut self, place: usize, row: &mut Row) {
-        match (self.nodes.get_mut(place), made(self.scene, place, row)) {
-            (Some(node), Some(anew)) => *node = anew,
-            _ => row.fail(),
+        match made(self.scene, place, row) {
+            Some(anew) => self.put(place, anew, row),
+            None => row.fail(),
         }
     }
 
@@ -321,10 +358,10 @@ impl Stage for Wire<'_> {
 fn make_all(wire: &mut Wire<'_>, row: &mut Row) {
     for (config, store) in nodes_of(wire.scene, 0, row) {
         match Node::new(row.alloc, config, store) {
-            Ok(node) => row.needs(wire.nodes.push(node).is_ok()),
+            Ok(node) => keep(node, &mut wire.nodes, row),
             Err(_) => row.fail(),
         }
-        row.needs(wire.clocks.push(Shown::right()).is_ok());
+        keep(Shown::right(), &mut wire.clocks, row);
     }
 }
 

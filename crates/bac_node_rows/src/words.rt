@@ -1,16 +1,23 @@
 //! The words of a line.
+use crate::lists::keep;
 use bac_rows::row::Row;
 use bac_service::OwnedRequest;
 use bac_service_text::read_request_words;
-use bac_simulate::{SetFile, SetProperty, Statement, read_statement};
+use bac_simulate::{Statement, read_statement};
 use bac_store::Change;
+
+/// The words of a text.
+fn words_of<'a>(text: &'a str, row: &mut Row) -> Vec<&'a [u8]> {
+    let mut words = Vec::new(row.alloc);
+    for word in text.split(' ') {
+        keep(word.as_bytes(), &mut words, row);
+    }
+    words
+}
 
 /// The request of some words; None is a fault.
 pub(crate) fn request_of(text: &str, row: &mut Row) -> Option<OwnedRequest> {
-    let mut words = Vec::new(row.alloc);
-    for word in text.split(' ') {
-        row.needs(words.push(word.as_bytes()).is_ok());
-    }
+    let words = words_of(text, row);
     let request = read_request_words(row.alloc, &words).ok();
     row.needs(request.is_some());
     request
@@ -19,20 +26,19 @@ pub(crate) fn request_of(text: &str, row: &mut Row) -> Option<OwnedRequest> {
 /// The change that a statement makes, without the node.
 fn change_in(statement: Statement) -> Option<Change> {
     match statement {
-        Statement::SetProperty(
-            SetProperty {
-                object,
-                property,
-                octets,
-                ..
-            },
-        ) => Some(Change::Value {
-            object,
-            property,
-            octets,
+        Statement::SetProperty(set) => Some(Change::Value {
+            object: set.object,
+            property: set.property,
+            octets: set.octets,
         }),
-        Statement::SetFile(SetFile { object, octets, .. }) => Some(Change::File { object, octets }),
-        _ => None,
+        Statement::SetFile(set) => Some(Change::File {
+            object: set.object,
+            octets: set.octets,
+        }),
+        other => {
+            drop(other);
+            None
+        }
     }
 }
 

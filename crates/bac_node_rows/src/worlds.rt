@@ -9,12 +9,14 @@
 //!
 //! `noisy LINE`: before the line each proper prefix of each datagram that was sent arrives at each node of the world. At each node of its twin a
 //! datagram without octets arrives.
+use crate::lists::keep;
 use crate::making::made;
 use crate::noise::{all_noise_comes, no_octets_come};
 use crate::playing::{Stage, play};
 use crate::printing::{print_ending, print_performed, print_request};
 use crate::scene::{house_after, link, nodes_of};
 use crate::words::request_of;
+use bac_apdu::Limits;
 use bac_network::{Event, Fact, StraightRun, World, WorldFault, straight};
 use bac_rows::row::{Row, after, first, number, number8, number32, place_of};
 use bac_service::OwnedRequest;
@@ -80,7 +82,10 @@ fn restart_anew(world: &mut World, words: &str, row: &mut Row) {
     let node = number(words, 0) as usize;
     let store = house_after(after(words, 1), row);
     row.needs(store.is_some());
-    match world.step(&Event::Restart { node, store }) {
+    let event = Event::Restart { node, store };
+    let came = world.step(&event);
+    drop(event);
+    match came {
         Ok(None) => row.say("restarted anew\n"),
         Err(WorldFault::NoMemory) => row.say(NO_MEMORY),
         _ => row.fail(),
@@ -88,8 +93,9 @@ fn restart_anew(world: &mut World, words: &str, row: &mut Row) {
 }
 
 /// Makes an event happen, and prints nothing.
-fn steps(world: &mut World, event: &Event, row: &mut Row) {
-    row.needs(world.step(event).is_ok());
+fn steps(world: &mut World, event: Event, row: &mut Row) {
+    row.needs(world.step(&event).is_ok());
+    drop(event);
 }
 
 /// Prints how many copies and facts there are.
@@ -114,8 +120,8 @@ fn octets_come(world: &mut World, words: &str, row: &mut Row) {
     let node = number(words, 0) as usize;
     let from = link(number8(words, 1));
     let octets = row.octets(words, 2);
-    steps(world, &Event::Advance { by: 1 }, row);
-    steps(world, &Event::Noise { node, from, octets }, row);
+    steps(world, Event::Advance { by: 1 }, row);
+    steps(world, Event::Noise { node, from, octets }, row);
     row.say("heard ");
     row.say_truth(has_heard(world, node));
     row.put(b' ');
@@ -125,21 +131,33 @@ fn octets_come(world: &mut World, words: &str, row: &mut Row) {
 /// Delivers so many copies, each once, in the order of sending.
 fn flow(world: &mut World, count: usize, row: &mut Row) {
     for number in 0..count {
-        steps(world, &Event::Deliver { number }, row);
+        steps(world, Event::Deliver { number }, row);
     }
     print_counts(world, row);
 }
 
+/// What a node takes.
+fn limits_at(world: &World, node: usize) -> Option<Limits> {
+    match world.nodes().get(node) {
+        Some(node) => Some(node.settings().limits),
+        None => None,
+    }
+}
+
 /// The event of an ask, by what the asked node takes.
 fn ask_event(world: &World, ask: Ask) -> Option<Event> {
-    let server = ask.server as usize;
-    let limits = world.nodes().get(server)?.settings().limits;
-    Some(Event::Ask {
-        client: ask.client as usize,
-        server,
-        limits,
-        request: ask.request,
-    })
+    match limits_at(world, ask.server as usize) {
+        Some(limits) => Some(Event::Ask {
+            client: ask.client as usize,
+            server: ask.server as usize,
+            limits,
+            request: ask.request,
+        }),
+        None => {
+            drop(ask);
+            None
+        }
+    }
 }
 
 /// The event of a statement.
@@ -153,7 +171,10 @@ fn event_of(world: &World, statement: Statement) -> Option<Event> {
             node: node as usize,
         }),
         Statement::Advance(by) => Some(Event::Advance { by }),
-        _ => None,
+        other => {
+            drop(other);
+            None
+        }
     }
 }
 
@@ -164,7 +185,7 @@ fn put_event(world: &World, line: &str, events: &mut Vec<Event>, row: &mut Row) 
         Err(_) => None,
     };
     match event {
-        Some(event) => row.needs(events.push(event).is_ok()),
+        Some(event) => keep(event, events, row),
         None => row.fail(),
     }
 }
@@ -320,11 +341,23 @@ fn world_of(scene: &str, row: &mut Row) -> Option<World> {
     world
 }
 
+/// Plays the lines of a row in two worlds of a scene.
+fn play_twins(mut twins: Twins, scene: &str, lines: &str, row: &mut Row) {
+    play(&mut twins, scene, lines, row);
+    drop(twins);
+}
+
+/// Plays the lines of a row in a world of a scene and its twin.
+fn play_beside(world: World, scene: &str, lines: &str, row: &mut Row) {
+    match world_of(scene, row) {
+        Some(twin) => play_twins(Twins { world, twin }, scene, lines, row),
+        None => drop(world),
+    }
+}
+
 /// Plays the lines of a row in a world of a scene.
 pub(crate) fn play_world(scene: &str, lines: &str, row: &mut Row) {
-    let world = world_of(scene, row);
-    let twin = world_of(scene, row);
-    if let (Some(world), Some(twin)) = (world, twin) {
-        play(&mut Twins { world, twin }, scene, lines, row);
+    if let Some(world) = world_of(scene, row) {
+        play_beside(world, scene, lines, row);
     }
 }

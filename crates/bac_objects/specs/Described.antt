@@ -17,6 +17,7 @@ use Rattle.bac_objects.specs.Names.{is_bare, names_of}
 use Rattle.bac_objects.specs.Properties.{property_with, spelling_of}
 use Rattle.bac_objects.specs.Reading.{array_of, other, table_of}
 use Rattle.bac_objects.specs.Standard.{is_written, rows_of, with_rows}
+use Rattle.bac_objects.specs.States.{limited}
 use Rattle.bac_objects.specs.declared.form.Kind.TheVariants.{Enumerated}
 use Rattle.bac_objects.specs.declared.form.ValueForm.{ValueForm}
 use Rattle.bac_objects.specs.declared.form.ValueForm.TheVariants.{Value}
@@ -132,12 +133,16 @@ filled name = if length name == 0 then Err (other wanted.FilledName) else Ok nam
 abbrev pub filled_name : Members → Result (List ℕ) Problem
 filled_name ms = name_in ms >>= filled
 
+-- the properties of an object of this type and a file that may be written or not: within its states, and with those that the standard requires and they lack
+abbrev pub completed : (kind : ℕ) → (written : Bool) → List Property → Result (List Property) Problem
+completed kind written ps = with_rows (limited kind ps) (rows_of kind written)
+
 -- the properties, which fit together, and those that the standard requires and the table lacks
 unfoldable pub all_properties : ObjectId → Option File → Members → Result (List Property) Flaw
 all_properties id file ms = do
   properties ← properties_on id [] ms
   properties ← at (Some id) (codes "present-value") (consistent id.kind properties)
-  at (Some id) [] (with_rows properties (rows_of id.kind (is_written file)))
+  at (Some id) [] (completed id.kind (is_written file) properties)
 
 unfoldable pub object_of : Data → Result Object Flaw
 object_of d = do

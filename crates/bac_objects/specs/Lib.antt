@@ -11,5 +11,6 @@ pub mod Properties
 pub mod Reading
 pub mod Right
 pub mod Standard
+pub mod States
 pub mod Values
 pub mod Views

@@ -79,6 +79,28 @@ struct Collecting {
 }
 
 impl Collecting {
+    /// What is found in the text of a document at first: its lines that are no TOML.
+    fn of(alloc: Global, text: &str, table: &Table, findings: Vec<Finding>) -> Collecting {
+        Collecting {
+            alloc,
+            outline: Outline::of(alloc, text),
+            is_described: means_described(table),
+            is_whole: findings
+                .iter()
+                .all(|finding| matches!(finding.wrong, Wrong::SingleObject)),
+            has_device: false,
+            ids: Vec::new(alloc),
+            findings,
+            more: None,
+        }
+    }
+
+    /// Notes what is wrong with a document.
+    fn read(&mut self, document: &Table) -> Result<(), NoMemory> {
+        self.read_outside(document)?;
+        self.read_list(document)
+    }
+
     /// Notes what is wrong at a place, which stands on the line of that key.
     fn note(&mut self, at: At<'_>, line_key: &str, wrong: Wrong) -> Result<(), NoMemory> {
         let place = Place {
@@ -331,6 +353,32 @@ impl Collecting {
         self.note(at, at.key, wrong)
     }
 
+    /// Whether one of the keys of an object without a meaning is most like a known key, and was told as such.
+    fn is_misspelled(&self, table: &Table, known: &str) -> Result<bool, NoMemory> {
+        for (key, _) in table.iter() {
+            let key = key.as_str();
+            let near = nearest(self.alloc, key, DESCRIBED_KEYS)?;
+            if near.is_some_and(|near| near == known) && property_in(key.as_bytes()).is_none() {
+                return Ok(true);
+            }
+        }
+        Ok(false)
+    }
+
+    /// Notes a present-value that is missing, unless its key is misspelled.
+    fn note_no_present_value(
+        &mut self,
+        whose: Whose,
+        table: &Table,
+        problem: Problem,
+    ) -> Result<(), NoMemory> {
+        let key = "present-value";
+        if self.is_misspelled(table, key)? {
+            return Ok(());
+        }
+        self.note_value(At { whose, key }, None, problem)
+    }
+
     /// Notes a present-value that is missing, or is none of the states of its object, among the properties that were read.
     fn read_present_value(
         &mut self,
@@ -354,8 +402,23 @@ impl Collecting {
                 _ => Ok(()),
             };
         }
-        let key = "present-value";
-        self.note_value(At { whose, key }, None, problem)
+        self.note_no_present_value(whose, table, problem)
+    }
+
+    /// Reads one property of an object, or notes what is wrong with it.
+    fn read_property(
+        &mut self,
+        at: At<'_>,
+        value: &Value,
+        done: &mut Vec<Property>,
+    ) -> Result<(), NoMemory> {
+        let kind = at.whose.kind;
+        match self.property_of(kind, done, at.key, value) {
+            Ok(property) => Ok(done.push(property)?),
+            Err(ValueFault::Wrong(problem)) if is_no_property(problem) => self.note_no_property(at),
+            Err(ValueFault::Wrong(problem)) if kind.is_none() && may_be_name(problem) => Ok(()),
+            Err(fault) => self.note_fault(at, Some(value), fault),
+        }
     }
 
     /// Notes what is wrong with the properties of an object.
@@ -364,17 +427,8 @@ impl Collecting {
         let mut done = Vec::new(self.alloc);
         for (key, value) in table.iter() {
             let key = key.as_str();
-            if is_reserved(kind.unwrap_or(FILE), key) {
-                continue;
-            }
-            let at = At { whose, key };
-            match self.property_of(kind, &done, key, value) {
-                Ok(property) => done.push(property)?,
-                Err(ValueFault::Wrong(problem)) if is_no_property(problem) => {
-                    self.note_no_property(at)?;
-                }
-                Err(ValueFault::Wrong(problem)) if kind.is_none() && may_be_name(problem) => {}
-                Err(fault) => self.note_fault(at, Some(value), fault)?,
+            if !is_reserved(kind.unwrap_or(FILE), key) {
+                self.read_property(At { whose, key }, value, &mut done)?;
             }
         }
         if self.is_described {
@@ -634,6 +688,39 @@ fn is_no_property(problem: Problem) -> bool {
     matches!(problem.wanted, Wanted::Property | Wanted::AnyProperty)
 }
 
+/// Findings in the order of their lines, and that there are more.
+fn in_order(findings: Vec<Finding>, more: Option<Finding>) -> Result<Vec<Finding>, NoMemory> {
+    let mut findings = findings;
+    findings.sort_by_key(|finding| finding.line.unwrap_or(usize::MAX))?;
+    if let Some(more) = more {
+        findings.push(more)?;
+    }
+    Ok(findings)
+}
+
+/// The findings of lines that are no TOML, and those of what is left of a document.
+fn collected(
+    alloc: Global,
+    mended: &Mended,
+    findings: Vec<Finding>,
+) -> Result<Vec<Finding>, NoMemory> {
+    let Ok(text) = std::str::from_utf8(&mended.octets) else {
+        return Ok(findings);
+    };
+    let mut collecting = Collecting::of(alloc, text, &mended.table, findings);
+    collecting.read(&mended.table)?;
+    in_order(collecting.findings, collecting.more)
+}
+
+/// All faults of a text.
+fn findings_of(alloc: Global, text: &str) -> Result<Vec<Finding>, NoMemory> {
+    let mut findings = Vec::new(alloc);
+    match read_mended(alloc, text, &mut findings)? {
+        Some(mended) => collected(alloc, &mended, findings),
+        None => Ok(findings),
+    }
+}
+
 /// All faults of a document that [`read_objects`](crate::read_objects) refuses, in the order of their lines, those without one last: of lines that are no TOML (the first 16); of its keys outside
 /// of objects; of each object; and why the objects of a document that describes them are together no store (the first 32 reasons). Where there are more of these, the
 /// last one says so. Of a text that is not UTF-8 there is none here: the refusal of `read_objects` has its line.
@@ -642,38 +729,11 @@ fn is_no_property(problem: Problem) -> bool {
 ///
 /// An Err says that an allocation failed.
 pub fn document_findings(alloc: Global, text: &[u8]) -> Result<Vec<Finding>, NoMemory> {
-    let mut findings = Vec::new(alloc);
     if text.len() > TOLD_LIMIT {
-        return Ok(findings);
+        return Ok(Vec::new(alloc));
     }
-    let Ok(whole) = std::str::from_utf8(text) else {
-        return Ok(findings);
-    };
-    let Some(Mended { table, octets }) = read_mended(alloc, whole, &mut findings)? else {
-        return Ok(findings);
-    };
-    let Ok(text) = std::str::from_utf8(&octets) else {
-        return Ok(findings);
-    };
-    let mut collecting = Collecting {
-        alloc,
-        outline: Outline::of(alloc, text),
-        is_described: means_described(&table),
-        is_whole: findings
-            .iter()
-            .all(|finding| matches!(finding.wrong, Wrong::SingleObject)),
-        has_device: false,
-        ids: Vec::new(alloc),
-        findings,
-        more: None,
-    };
-    collecting.read_outside(&table)?;
-    collecting.read_list(&table)?;
-    let more = collecting.more.take();
-    let mut findings = collecting.findings;
-    findings.sort_by_key(|finding| finding.line.unwrap_or(usize::MAX))?;
-    if let Some(more) = more {
-        findings.push(more)?;
+    match std::str::from_utf8(text) {
+        Ok(text) => findings_of(alloc, text),
+        Err(_) => Ok(Vec::new(alloc)),
     }
-    Ok(findings)
 }

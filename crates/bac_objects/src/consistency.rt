@@ -133,7 +133,7 @@ fn is_beyond(value: Option<u64>, states: Option<u64>) -> bool
 }
 
 /// The number that values are, where there are any.
-fn number_in(values: Option<&[u8]>) -> Option<u64>
+pub(crate) fn number_in(values: Option<&[u8]>) -> Option<u64>
     ensures { result ≡ number_of (option_map (λ v. v.now) values.entry) }
 {
     match values {
@@ -167,7 +167,7 @@ fn lacking(wanted: Option<Wanted>) -> Option<Problem>
     }
 }
 
-fn is_multi_state(kind: u16) -> bool
+pub(crate) fn is_multi_state(kind: u16) -> bool
     ensures { result ≡ is_multi_state_of kind }
 {
     matches!(kind, 13 | 14 | 19)

@@ -7,7 +7,7 @@ ghost use Rattle.bac_store.specs.Views.{file_view, object_view, property_view};
 ghost use Rattle.toml.specs.View.{array_view, table_view, view};
 ghost use Rattle.std.specs.String.{string_bytes};
 ghost use Rattle.bac_objects.specs.Answers.{Reads, ReadsObject};
-ghost use Rattle.bac_objects.specs.Described.{all_properties as all_properties_of, filled_name as filled_name_of, identifier_in as identifier_of, is_described as is_described_in, list_in as list_of, object_of, objects_in as objects_of, objects_on, properties_on, with_object as with_object_of, with_property as with_property_of};
+ghost use Rattle.bac_objects.specs.Described.{all_properties as all_properties_of, completed as completed_of, filled_name as filled_name_of, identifier_in as identifier_of, is_described as is_described_in, list_in as list_of, object_of, objects_in as objects_of, objects_on, properties_on, with_object as with_object_of, with_property as with_property_of};
 ghost use Rattle.bac_objects.specs.Documents.{IsDescribedTable, ReadsDocument};
 ghost use Rattle.bac_objects.specs.Objects.{in_object as in_object_of};
 
@@ -21,6 +21,7 @@ use crate::object::{at, file_of, is_reserved, name_in};
 use crate::problem::{Given, Problem, Wanted};
 use crate::scalars::array;
 use crate::standard::{is_written, rows_of, with_rows};
+use crate::states::limited;
 use bac_store::{DescriptionFault, DescriptionFlaw, File, OBJECTS_LIMIT, Object, Property, Store};
 use bac_value::ObjectIdentifier;
 use std::alloc::Global;
@@ -112,6 +113,19 @@ fn properties_in<'a>(
     Ok(properties)
 }
 
+/// The properties of an object of this type and a file that may be written or not: within its states, and with those that the standard requires and they lack.
+fn completed(
+    alloc: Global,
+    kind: u16,
+    written: bool,
+    properties: Vec<Property>,
+) -> Result<Vec<Property>, ValueFault>
+    ensures { Reads (λ v. map property_view v.items) result (completed_of kind written (map property_view properties.items)) }
+{
+    let properties = limited(alloc, kind, properties)?;
+    with_rows(alloc, properties, rows_of(kind, written))
+}
+
 /// Reads the properties of an object, which fit together, and adds those that the standard requires and the table lacks.
 #[tactic(auto, unfolding(crate::specs::Described::all_properties))]
 fn all_properties<'a>(
@@ -128,7 +142,7 @@ fn all_properties<'a>(
         Ok(properties) => properties,
         Err(problem) => return Err(at(Some(id), "present-value", ValueFault::Wrong(problem))),
     };
-    match with_rows(alloc, properties, rows_of(id.kind, is_written(file))) {
+    match completed(alloc, id.kind, is_written(file), properties) {
         Ok(properties) => Ok(properties),
         Err(fault) => Err(at(Some(id), "", fault)),
     }

@@ -167,7 +167,7 @@ fn line_of(text: &[u8], error: &Error) -> usize {
 ///
 /// An object has at most 1,024 keys; a document that is not described at most 10,000 objects. The name of a described object is not empty, its units are
 /// Enumerated, and its number-of-states is an Unsigned from 1 on. If it is analog, binary or multi-state, it has a present-value, of a multi-state object none beyond
-/// its number-of-states.
+/// its number-of-states. Where a client may write that, and the document gives it no limits, they are from 1 to the number-of-states.
 ///
 /// Returns `Refused` if a document that describes a store has a fault that its objects alone don't show.
 ///

@@ -14,6 +14,7 @@ use bac_store::{DescriptionFault, DescriptionFlaw, VALUE_LIMIT};
 use bac_value::NoMemory;
 use bac_value_text::property_in;
 use std::alloc::Global;
+use std::num::nearest_i64_to_f64;
 use toml::{Table, Value};
 
 /// An object type whose properties may have any values.
@@ -310,21 +311,40 @@ fn limits_words(alloc: Global, table: &Table) -> Result<Option<String>, NoMemory
     Ok(Some(format!(in alloc; "{least} to {greatest}")?))
 }
 
-/// Whether a number is above another one that TOML writes in the same form.
-fn is_above(least: &Value, greatest: &Value) -> bool {
+/// The number that a limit is, or that of its name, as a float.
+fn float_of(names: Option<Enumeration>, limit: &Value) -> Option<f64> {
+    match limit {
+        Value::Integer(number) => Some(nearest_i64_to_f64(*number)),
+        Value::Float(number) => Some(*number),
+        Value::String(name) => {
+            let number = names?.number_of(name.as_bytes())?;
+            Some(nearest_i64_to_f64(i64::from(number)))
+        }
+        _ => None,
+    }
+}
+
+/// Whether a number is above another one, each as TOML writes it or by its name.
+fn is_above(names: Option<Enumeration>, least: &Value, greatest: &Value) -> bool {
     match (least, greatest) {
         (Value::Integer(least), Value::Integer(greatest)) => *least > *greatest,
-        (Value::Float(least), Value::Float(greatest)) => *least > *greatest,
-        _ => false,
+        _ => match (float_of(names, least), float_of(names, greatest)) {
+            (Some(least), Some(greatest)) => least > greatest,
+            _ => false,
+        },
     }
 }
 
 /// The limits in the table of a value whose least is above their greatest, if they are such.
-fn turned_limits(alloc: Global, table: &Table) -> Result<Option<Wrong>, NoMemory> {
+fn turned_limits(
+    alloc: Global,
+    names: Option<Enumeration>,
+    table: &Table,
+) -> Result<Option<Wrong>, NoMemory> {
     let (Some(least), Some(greatest)) = (member(table, "min"), member(table, "max")) else {
         return Ok(None);
     };
-    if !is_above(least, greatest) {
+    if !is_above(names, least, greatest) {
         return Ok(None);
     }
     let least = shown(alloc, least)?;
@@ -332,9 +352,13 @@ fn turned_limits(alloc: Global, table: &Table) -> Result<Option<Wrong>, NoMemory
     Ok(Some(Wrong::Turned { least, greatest }))
 }
 
-/// What is wrong with the values of a table that have limits; None where it has no values or no limits.
-fn wrong_limits(alloc: Global, table: &Table) -> Result<Option<Wrong>, NoMemory> {
-    if let Some(turned) = turned_limits(alloc, table)? {
+/// What is wrong with the values of a table that have limits; `names` are those of their numbers. None where it has no values or no limits.
+fn wrong_limits(
+    alloc: Global,
+    names: Option<Enumeration>,
+    table: &Table,
+) -> Result<Option<Wrong>, NoMemory> {
+    if let Some(turned) = turned_limits(alloc, names, table)? {
         return Ok(Some(turned));
     }
     let Ok((_, value)) = found(forms(), table) else {
@@ -395,7 +419,10 @@ pub(crate) fn refused(
 ) -> Result<Wrong, NoMemory> {
     let DescriptionFault { property, why, .. } = fault;
     let wrong = match (why, kind, property, value) {
-        (DescriptionFlaw::Limits, _, _, Some(Value::Table(table))) => wrong_limits(alloc, table)?,
+        (DescriptionFlaw::Limits, _, Some(number), Some(Value::Table(table))) => {
+            let names = names_of(kind.unwrap_or(VENDORS), number);
+            wrong_limits(alloc, names, table)?
+        }
         (DescriptionFlaw::Values, Some(kind), Some(number), Some(Value::Table(table))) => {
             wrong_values(alloc, kind, number, table)?
         }

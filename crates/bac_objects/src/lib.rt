@@ -26,6 +26,7 @@ mod property;
 mod refusals;
 mod scalars;
 mod standard;
+mod states;
 mod steps;
 mod type_names;
 mod values;

@@ -162,6 +162,25 @@ fn end_of(text: &str, begin: usize, value_end: Option<usize>, line_end: usize) -
     }
 }
 
+/// The octets with other words in place of those from a place to another, whose ends of lines stay.
+fn replaced(
+    alloc: Global,
+    octets: &[u8],
+    begin: usize,
+    end: usize,
+    words: &str,
+) -> Result<Vec<u8>, NoMemory> {
+    let mut mended = Vec::from_slice(alloc, octets.get(..begin).unwrap_or(&[]))?;
+    mended.extend_from_slice(words.as_bytes())?;
+    for octet in octets.get(begin..end).unwrap_or(&[]) {
+        if *octet == b'\n' {
+            mended.push(b'\n')?;
+        }
+    }
+    mended.extend_from_slice(octets.get(end..).unwrap_or(&[]))?;
+    Ok(mended)
+}
+
 /// The text without the lines of the key or the head in which a fault is. None where nothing behind them can be told.
 fn without(
     alloc: Global,
@@ -181,15 +200,101 @@ fn without(
         value_end
     };
     let end = end_of(text, begin, value_end, end_of_line(octets, span));
-    let mut mended = Vec::from_slice(alloc, octets.get(..begin).unwrap_or(&[]))?;
-    mended.extend_from_slice(meant.as_bytes())?;
-    for octet in octets.get(begin..end).unwrap_or(&[]) {
-        if *octet == b'\n' {
-            mended.push(b'\n')?;
+    Ok(Some(replaced(alloc, octets, begin, end, meant)?))
+}
+
+/// What comes of reading a text once.
+#[derive(Drop)]
+enum Round {
+    /// It is TOML.
+    Read(Table),
+    /// It is not: what is read next.
+    Mended(Vec<u8>),
+    /// It is not, and nothing more can be told.
+    Ended,
+}
+
+/// Notes that the first head of an object is one bracket short, and mends it. None where none is so.
+fn mended_head(
+    alloc: Global,
+    text: &str,
+    findings: &mut Vec<Finding>,
+) -> Result<Option<Vec<u8>>, NoMemory> {
+    let Some(place) = single_head(alloc, text)? else {
+        return Ok(None);
+    };
+    findings.push(finding_at(alloc, text, place.start, Wrong::SingleObject))?;
+    Ok(Some(with_head(alloc, text, &place)?))
+}
+
+/// Adds a finding, unless its line is none behind that of the last one. Returns whether it was added.
+fn note_next(findings: &mut Vec<Finding>, finding: Finding) -> Result<bool, NoMemory> {
+    let last = match findings.last() {
+        Some(last) => last.line,
+        None => None,
+    };
+    if finding.line <= last {
+        return Ok(false);
+    }
+    findings.push(finding)?;
+    Ok(true)
+}
+
+/// Notes the line in which a text is no TOML, and mends it.
+fn mended_line(
+    alloc: Global,
+    text: &str,
+    span: &Range<usize>,
+    error: Error,
+    findings: &mut Vec<Finding>,
+) -> Result<Round, NoMemory> {
+    let is_again = error.message() == DUPLICATE;
+    let finding = finding_of(alloc, text, span.start, error)?;
+    if !note_next(findings, finding)? {
+        return Ok(Round::Ended);
+    }
+    match without(alloc, text, span, is_again)? {
+        Some(mended) => Ok(Round::Mended(mended)),
+        None => Ok(Round::Ended),
+    }
+}
+
+/// Notes that there are more lines that are no TOML, from a place on.
+fn note_more(
+    alloc: Global,
+    text: &str,
+    place: usize,
+    findings: &mut Vec<Finding>,
+) -> Result<Round, NoMemory> {
+    let line = line_behind(text.as_bytes(), place);
+    findings.push(Finding::more(alloc, Some(line)))?;
+    Ok(Round::Ended)
+}
+
+/// Reads a text, and mends it where it is no TOML, unless that is the last round.
+fn read_round(
+    alloc: Global,
+    octets: &[u8],
+    is_last: bool,
+    findings: &mut Vec<Finding>,
+) -> Result<Round, NoMemory> {
+    let Ok(text) = str::from_utf8(octets) else {
+        return Ok(Round::Ended);
+    };
+    if !is_last {
+        if let Some(mended) = mended_head(alloc, text, findings)? {
+            return Ok(Round::Mended(mended));
         }
     }
-    mended.extend_from_slice(octets.get(end..).unwrap_or(&[]))?;
-    Ok(Some(mended))
+    let error = match toml::table_from_str(alloc, text) {
+        Ok(table) => return Ok(Round::Read(table)),
+        Err(error) => error,
+    };
+    match error.span() {
+        Some(span) if is_last => note_more(alloc, text, span.start, findings),
+        Some(span) => mended_line(alloc, text, &span, error, findings),
+        None => Err(NoMemory),
+    }
 }
 
 /// Reads a document as far as it is TOML, and adds what is wrong with the lines that are not; behind the first ones, that there are more. None where too much is
@@ -200,44 +305,13 @@ pub(crate) fn read_mended(
     findings: &mut Vec<Finding>,
 ) -> Result<Option<Mended>, NoMemory> {
     let mut octets = Vec::from_slice(alloc, text.as_bytes())?;
-    let mut last = None;
     for round in 0..MOST_UNREAD + 1 {
-        let Ok(text) = str::from_utf8(&octets) else {
-            return Ok(None);
-        };
-        let single = single_head(alloc, text)?;
-        if let Some(place) = single
-            && round < MOST_UNREAD
-        {
-            let finding = finding_at(alloc, text, place.start, Wrong::SingleObject);
-            last = finding.line;
-            findings.push(finding)?;
-            octets = with_head(alloc, text, &place)?;
-            continue;
+        let read = read_round(alloc, &octets, round == MOST_UNREAD, findings)?;
+        match read {
+            Round::Read(table) => return Ok(Some(Mended { table, octets })),
+            Round::Mended(mended) => octets = mended,
+            Round::Ended => return Ok(None),
         }
-        let error = match toml::table_from_str(alloc, text) {
-            Ok(table) => return Ok(Some(Mended { table, octets })),
-            Err(error) => error,
-        };
-        let Some(span) = error.span() else {
-            return Err(NoMemory);
-        };
-        if round == MOST_UNREAD {
-            let line = line_behind(text.as_bytes(), span.start);
-            findings.push(Finding::more(alloc, Some(line)))?;
-            return Ok(None);
-        }
-        let finding = finding_of(alloc, text, span.start, error)?;
-        if finding.line <= last {
-            return Ok(None);
-        }
-        last = finding.line;
-        findings.push(finding)?;
-        let is_again = error.message() == DUPLICATE;
-        let Some(mended) = without(alloc, text, &span, is_again)? else {
-            return Ok(None);
-        };
-        octets = mended;
     }
     Ok(None)
 }

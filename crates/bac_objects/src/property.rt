@@ -59,7 +59,7 @@ fn listed_number(key: &str) -> Result<u32, Problem>
 }
 
 /// A value encoded as data.
-fn spelled(alloc: Global, value: &bac_value::Value) -> Result<DataBuf, NoMemory>
+pub(crate) fn spelled(alloc: Global, value: &bac_value::Value) -> Result<DataBuf, NoMemory>
     ensures { IfOk result (λ d. d.octets.items ≡ value_spelling (value_view value.now)) }
 {
     let mut octets = Vec::new(alloc);

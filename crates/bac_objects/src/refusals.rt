@@ -90,29 +90,44 @@ struct Placed {
     places: Vec<usize>,
 }
 
+impl Placed {
+    /// Adds what is right of an object at a place and was not refused.
+    fn add(
+        &mut self,
+        alloc: Global,
+        value: &Value,
+        place: usize,
+        refused: &[DescriptionFault],
+    ) -> Result<(), NoMemory> {
+        let Some(object) = right_object(alloc, value)? else {
+            return Ok(());
+        };
+        let mut object = object;
+        object.properties.retain(|property| !is_refused(refused, place, Some(property.number)));
+        self.objects.push(object)?;
+        Ok(self.places.push(place)?)
+    }
+}
+
 /// The objects of a list, as far as they are right, without what was refused: as many as are needed to refuse them.
 fn objects_without(
     alloc: Global,
     list: &Array,
     refused: &[DescriptionFault],
 ) -> Result<Placed, NoMemory> {
-    let mut objects = Vec::new(alloc);
-    let mut places = Vec::new(alloc);
+    let mut placed = Placed {
+        objects: Vec::new(alloc),
+        places: Vec::new(alloc),
+    };
     for (place, value) in list.iter().enumerate() {
-        if objects.len() == DESCRIBED_LIMIT {
+        if placed.objects.len() == DESCRIBED_LIMIT {
             break;
         }
-        if is_refused(refused, place, None) {
-            continue;
-        }
-        if let Some(object) = right_object(alloc, value)? {
-            let mut object = object;
-            object.properties.retain(|property| !is_refused(refused, place, Some(property.number)));
-            objects.push(object)?;
-            places.push(place)?;
+        if !is_refused(refused, place, None) {
+            placed.add(alloc, value, place, refused)?;
         }
     }
-    Ok(Placed { objects, places })
+    Ok(placed)
 }
 
 /// Why the objects of a list are no store.

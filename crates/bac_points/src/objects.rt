@@ -40,11 +40,11 @@ const MOST: u64 = 4_294_967_295;
 
 /// What stands behind why the object-list of a device of any instance was not read.
 const ANY_ADVICE: &[u8] =
-    b"this device has no object-list that can be read; --device N asks for that of device N, and bac read OBJECT reads objects by name\n";
+    b"this device has no object-list that can be read; --device N asks for that of device N, and bac read TYPE:INSTANCE reads one object\n";
 
 /// What stands behind why that of a device by its instance was not read.
 const OWN_ADVICE: &[u8] =
-    b"this device has no such object-list; bac read OBJECT reads objects by name\n";
+    b"the device has no such object: leave out --device, or give its own instance; bac read TYPE:INSTANCE reads one object\n";
 
 /// The object-list of a device, or an element of it.
 fn list_of(device: ObjectIdentifier, index: Option<u32>) -> PropertyReference

@@ -61,7 +61,8 @@ const DIFFERS: &[u8] = b"written, but now ";
 const FORM: &str = "expected OBJECT [PROPERTY] VALUE";
 
 /// The same, where there are more words than those.
-const SHORTER_FORM: &str = "expected OBJECT [PROPERTY] VALUE; a text with blanks needs quotes";
+const SHORTER_FORM: &str =
+    "expected OBJECT [PROPERTY] VALUE; a text with blanks needs quotes, and a priority is --priority N";
 
 /// A Null, encoded (clause 20.2.2).
 const NULL: [u8; 1] = [0];
@@ -173,6 +174,17 @@ fn number_wanted(kind: Kind) -> &'static str {
     }
 }
 
+/// What a number of a kind is that is not finite: one in digits is too great for the kind.
+fn not_finite(kind: Kind, text: &str) -> &'static str {
+    if !text.as_bytes().iter().any(|octet| octet.is_ascii_digit()) {
+        return "not a finite number";
+    }
+    match kind {
+        Kind::Double => "beyond what a double holds (1.8e308)",
+        _ => "beyond what a real holds (3.4e38)",
+    }
+}
+
 /// Complains of a text that is no name of a value of the property, and tells which there are.
 fn print_unknown<E: Write>(
     alloc: Global,
@@ -212,6 +224,11 @@ fn print_bad_value<E: Write>(
             let wanted = number_wanted(kind);
             // if that fails too, only the status is left
             let _ = writeln!(err, "bad words: \"{text}\" is not {wanted}");
+            Status::CommandLine
+        }
+        WrittenFault::NotFinite => {
+            let number = not_finite(kind, text);
+            let _ = writeln!(err, "bad words: \"{text}\" is {number}");
             Status::CommandLine
         }
         _ => {

@@ -5,7 +5,7 @@ ghost use Rattle.bac_driver.specs.Calls.{one_more};
 use crate::behind::Behind;
 use crate::databases::database_at;
 use crate::files::copy_front;
-use crate::scene::{BenchClock, Scene, Setup};
+use crate::scene::{BenchClock, Scene, Setup, host_of};
 use bac_driver::{Link, LinkFault};
 use bac_environment::{ClientSockets, NoPair, Sockets, StandardError, StandardInput};
 use bac_guard::{Guard, Guarded};
@@ -185,6 +185,14 @@ impl<'a> BenchMachine<'a> {
             || port < taken
     }
 
+    /// What the scene says by `way` of the host of a link: the address from which the machine sends there, or that it tells none. None where it says nothing.
+    fn way_to(&self, link: [u8; 6]) -> Option<Option<[u8; 4]>> {
+        let [a, b, c, d, _, _] = link;
+        let host = format!(in self.alloc; "{a}.{b}.{c}.{d}").ok()?;
+        let heading = self.setup.named("way", host.as_str(), 0)?;
+        Some(host_of(heading.words))
+    }
+
     /// The clock of a guard: that of the scene, or where it has none, one that stands.
     fn guard_clock(&self) -> BenchClock {
         match self.scene.clock {
@@ -269,8 +277,11 @@ impl ClientSockets for BenchMachine<'_> {
         true
     }
 
-    fn source_towards(&self, _link: [u8; 6]) -> Option<[u8; 4]> {
-        self.scene.source
+    fn source_towards(&self, link: [u8; 6]) -> Option<[u8; 4]> {
+        match self.way_to(link) {
+            Some(source) => source,
+            None => self.scene.source,
+        }
     }
 
     /// Where nothing can be sent, no link can be reached.

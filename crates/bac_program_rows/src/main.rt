@@ -24,6 +24,7 @@
 //!   can be written to standard output.
 //! - `full FROM TO`: where a server asks whether standard error has room, it has none from the FROM-th time on, counted from 0, and again from the TO-th on.
 //! - `taken N`: clients try the ports from 40,000 on, and so many of them are taken. `source A.B.C.D`: the address that the machine sends from.
+//!   `way HOST A.B.C.D`: it sends to that host from this address; `way HOST none`: it tells none from which it sends there.
 //! - `machine`: the command line runs on the files, sockets and clock of the machine that plays the rows; of the other lines only `errors` means something then.
 //!   `machine taken PORT`: that port of 127.0.0.1 is taken meanwhile.
 //! - `built TEXT`: that is known of how the program was built.

@@ -78,7 +78,7 @@ impl<'a> Setup<'a> {
 /// The words that begin lines of a setup.
 const WORDS: &[&str] = &[
     "|", "#", "links", "clock", "day", "file", "hex", "disk", "database", "terminal", "screen",
-    "errors", "output", "taken", "source", "machine", "pairs", "built", "full",
+    "errors", "output", "taken", "source", "way", "machine", "pairs", "built", "full",
 ];
 
 /// Whether each line of a text begins with a word that sets a scene.
@@ -109,7 +109,7 @@ pub(crate) struct Scene<'a> {
     pub taken: Option<u16>,
     /// From which time on that it is asked standard error has no room, and from which on it has some again.
     pub full: Option<(u64, u64)>,
-    /// The address that it sends from.
+    /// The address that it sends from, where no line `way` says another.
     pub source: Option<[u8; 4]>,
     pub is_terminal: bool,
     /// Whether standard output is a terminal.

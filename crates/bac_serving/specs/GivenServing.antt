@@ -53,6 +53,11 @@ pub record IsPort (given : ArgMatches) (port : ℕ) : Type 0 where
   pub number_is : IsGivenPort given number
   pub is : port ≡ port_or number
 
+pub record IsPortNamed (given : ArgMatches) (is : Bool) : Type 0 where
+  pub number : Option ℕ
+  pub number_is : IsGivenPort given number
+  pub so : is ≡ is_some number
+
 -- ---- slots
 
 abbrev pub slots_without : (turns : Option ℕ) → ℕ
@@ -146,6 +151,7 @@ level_given word = word >>= level_named
 pub record IsServing (given : ArgMatches) (s : Serving) : Type 0 where
   pub host : IsHost (words_text given (codes "at")) (Some s.host)
   pub port : IsPort given s.port
+  pub port_named : IsPortNamed given s.names_port
   pub turns : IsNumber given (codes "turns") s.turns
   pub seconds : IsNumber given (codes "seconds") s.seconds
   pub slots : AreSlots given s.turns s.slots

@@ -30,7 +30,13 @@ impl FaultTime {
 /// The object of a fault: the members of a line of the log.
 fn fault_json(alloc: Global, at: FaultTime, text: &[u8]) -> Result<Json, AllocError> {
     let text = text_json(alloc, text)?;
-    let time = time_json(alloc, at.time_of_day())?;
+    let time = match time_json(alloc, at.time_of_day()) {
+        Ok(time) => time,
+        Err(error) => {
+            drop(text);
+            return Err(error);
+        }
+    };
     Members::new(alloc)
         .json("change", Json::Null)
         .json("count", Json::Null)
@@ -54,7 +60,9 @@ fn print_fault_object<E: Write>(
     err: &mut E,
 ) -> io::Result<()> {
     let object = fault_json(alloc, at, text)?;
-    print_json(alloc, &object, err)
+    let done = print_json(alloc, &object, err);
+    drop(object);
+    done
 }
 
 /// Prints an object of JSON for each line of a text.

@@ -20,6 +20,7 @@ use bac_value::NoMemory;
 use std::alloc::Global;
 use std::io;
 use std::io::{ErrorKind, Read, Write};
+use std::mem::replace;
 
 /// 1 MiB, in octets.
 pub(crate) const MEBIBYTE: u64 = 1_048_576;
@@ -92,6 +93,17 @@ enum Stepped {
     Ended(Outcome),
 }
 
+/// What a look at a document has found, before the node is asked.
+#[derive(Drop)]
+enum Seen {
+    /// Nothing that is new, or not all of it yet.
+    Nothing,
+    /// A document that has other octets than before.
+    Read(Outcome),
+    /// The file cannot be read.
+    Unread(io::Error),
+}
+
 /// What a document as it is now changes.
 #[derive(Drop)]
 struct News {
@@ -111,6 +123,16 @@ enum Taken {
     Refused(Refusal),
 }
 
+/// What comes of a document for which that stands: without memory it is tried again.
+fn taken_by(refusal: Refusal) -> Taken {
+    if matches!(&refusal, Refusal::Wrong(DocumentFault::NoMemory)) {
+        drop(refusal);
+        Taken::Later
+    } else {
+        Taken::Refused(refusal)
+    }
+}
+
 /// The objects that a document lists which means a store.
 fn objects_in(alloc: Global, octets: &[u8]) -> Result<Vec<Object>, NoMemory> {
     match read_object_list(alloc, octets) {
@@ -127,30 +149,55 @@ fn read_at_once(alloc: Global, octets: &[u8]) -> Result<ReadDocument, Refusal> {
     };
     match objects_in(alloc, octets) {
         Ok(objects) => Ok(ReadDocument { store, objects }),
-        Err(_) => Err(Refusal::Wrong(DocumentFault::NoMemory)),
+        Err(_) => {
+            drop(store);
+            Err(Refusal::Wrong(DocumentFault::NoMemory))
+        }
     }
 }
 
-/// What a document changes of the store that it meant before, when it listed those objects. `NoMemory` where that is refused.
+/// Why a document is not followed whose changes have that fault.
+fn refusal_of(fault: FollowFault) -> Refusal {
+    match fault {
+        FollowFault::NoMemory => Refusal::Wrong(DocumentFault::NoMemory),
+        fault => Refusal::Unfit(fault),
+    }
+}
+
+/// What a document changes of the store that it meant before, when it listed those objects. An Err says why the node makes no changes.
 fn news_in(
     alloc: Global,
     before: &Store,
     served: &[Object],
     read: ReadDocument,
-) -> Result<Result<News, Refusal>, NoMemory> {
-    let ReadDocument { store, objects } = read;
+) -> Result<News, Taken> {
     let documents = Documents {
         before,
-        now: &store,
+        now: &read.store,
     };
-    match changes_between(alloc, documents, served, &objects) {
-        Ok(changes) => Ok(Ok(News {
-            store,
-            objects,
-            changes,
-        })),
-        Err(FollowFault::NoMemory) => Err(NoMemory),
-        Err(fault) => Ok(Err(Refusal::Unfit(fault))),
+    match changes_between(alloc, documents, served, &read.objects) {
+        Ok(changes) => {
+            let ReadDocument { store, objects } = read;
+            Ok(News {
+                store,
+                objects,
+                changes,
+            })
+        }
+        Err(fault) => {
+            drop(read);
+            Err(taken_by(refusal_of(fault)))
+        }
+    }
+}
+
+impl News {
+    /// What the node gets of it.
+    fn told(&self) -> DocumentNews<'_> {
+        DocumentNews {
+            document: &self.store,
+            changes: &self.changes,
+        }
     }
 }
 
@@ -172,6 +219,7 @@ impl Taking {
         let passed = self.octets.get(begin..self.steps.passed()).unwrap_or(&[]);
         self.marks = self.marks.saturating_add(marks_in(passed));
         if self.marks > KEY_LIMIT {
+            drop(read);
             return Err(Refusal::TooManyKeys);
         }
         match read {
@@ -179,20 +227,24 @@ impl Taking {
                 self.is_read = is_read;
                 Ok(())
             }
-            Err(_) if has_too_many_keys(&self.octets) => Err(Refusal::TooManyKeys),
-            Err(fault) => Err(Refusal::Wrong(fault)),
+            Err(fault) => Err(self.refusal_by(fault)),
+        }
+    }
+
+    /// Why a document with that fault is not followed.
+    fn refusal_by(&self, fault: DocumentFault) -> Refusal {
+        if has_too_many_keys(&self.octets) {
+            drop(fault);
+            Refusal::TooManyKeys
+        } else {
+            Refusal::Wrong(fault)
         }
     }
 
     /// Reads a step, or ends with the store of all that was read.
     fn step(self) -> Stepped {
         if self.is_read {
-            let Taking {
-                octets,
-                steps,
-                marks: _,
-                is_read: _,
-            } = self;
+            let Taking { octets, steps, .. } = self;
             let read = match steps.finish() {
                 Ok(read) => Ok(read),
                 Err(fault) => Err(Refusal::Wrong(fault)),
@@ -203,12 +255,8 @@ impl Taking {
         let Err(refusal) = taking.read_step() else {
             return Stepped::GoesOn(taking);
         };
-        let Taking {
-            octets,
-            steps: _,
-            marks: _,
-            is_read: _,
-        } = taking;
+        let Taking { octets, steps, .. } = taking;
+        drop(steps);
         Stepped::Ended(Outcome {
             octets,
             read: Err(refusal),
@@ -262,7 +310,7 @@ fn print_refusal<E: Write>(
     alloc: Global,
     path: &str,
     octets: &[u8],
-    refusal: Refusal,
+    refusal: &Refusal,
     err: &mut E,
 ) {
     match refusal {
@@ -272,9 +320,9 @@ fn print_refusal<E: Write>(
             let _ = writeln!(err, "{path}: {fault}");
         }
         Refusal::Wrong(fault) => {
-            let _ = print_document_fault(alloc, path, octets, &fault, err);
+            let _ = print_document_fault(alloc, path, octets, fault, err);
         }
-        Refusal::Unfit(fault) => print_unfit(alloc, path, fault, err),
+        Refusal::Unfit(fault) => print_unfit(alloc, path, *fault, err),
     }
 }
 
@@ -301,8 +349,8 @@ impl<'p, R: Read + Drop> Followed<'p, R> {
         octets: Vec<u8>,
         store: &Store,
     ) -> Result<Followed<'p, R>, NoMemory> {
-        let store = store.copy(alloc)?;
         let objects = objects_in(alloc, &octets)?;
+        let store = store.copy(alloc)?;
         Ok(Followed {
             alloc,
             at,
@@ -327,34 +375,29 @@ impl<'p, R: Read + Drop> Followed<'p, R> {
         }
     }
 
-    /// The node makes the changes of the document, in order. Returns whether all were made: otherwise they are left for the next look.
-    fn make<S: Stretching, E: Write>(
-        &mut self,
-        server: &mut S,
-        news: News,
-        log: &mut LevelLog,
-        err: &mut E,
-    ) -> Result<bool, Status>
-        ensures changed { OnOk result (IsChanged (S.state server.old).bound_node (S.state server.new).bound_node) }
-        ensures sound { OnOk result (S.IsSound server.old → S.IsSound server.new) }
-        ensures honest { OnOk result (S.IsHonest server.new → S.IsHonest server.old) }
-        ensures failed { IfErr result IsFailure }
-    {
+    /// What a document that was read changes. An Err says why the node makes no changes.
+    fn news_of(&self, read: Result<ReadDocument, Refusal>) -> Result<News, Taken> {
+        match read {
+            Ok(read) => news_in(self.alloc, &self.store, &self.objects, read),
+            Err(refusal) => Err(taken_by(refusal)),
+        }
+    }
+
+    /// Notes what the document means, where the node made all changes; otherwise they are left for the next look.
+    fn note(&mut self, is_made: bool, news: News) -> Taken {
+        if !is_made {
+            drop(news);
+            return Taken::Later;
+        }
         let News {
             store,
             objects,
             changes,
         } = news;
-        let news = DocumentNews {
-            document: &store,
-            changes: &changes,
-        };
-        let is_made = server.follow(news, log, err)?;
-        if is_made {
-            self.store = store;
-            self.objects = objects;
-        }
-        Ok(is_made)
+        drop(changes);
+        drop(replace(&mut self.store, store));
+        drop(replace(&mut self.objects, objects));
+        Taken::All
     }
 
     /// Tells why the document, whose octets those are, is not followed now: in the form of the log.
@@ -362,7 +405,7 @@ impl<'p, R: Read + Drop> Followed<'p, R> {
         &self,
         server: &mut S,
         octets: &[u8],
-        refusal: Refusal,
+        refusal: &Refusal,
         format: LogFormat,
         err: &mut E,
     )
@@ -394,20 +437,17 @@ impl<'p, R: Read + Drop> Followed<'p, R> {
         ensures honest { OnOk result (S.IsHonest server.new → S.IsHonest server.old) }
         ensures failed { IfErr result IsFailure }
     {
-        let read = match read {
-            Ok(read) => read,
-            Err(Refusal::Wrong(DocumentFault::NoMemory)) => return Ok(Taken::Later),
-            Err(refusal) => return Ok(Taken::Refused(refusal)),
-        };
-        let news = match news_in(self.alloc, &self.store, &self.objects, read) {
-            Ok(Ok(news)) => news,
-            Ok(Err(refusal)) => return Ok(Taken::Refused(refusal)),
-            Err(_) => return Ok(Taken::Later),
-        };
-        if self.make(server, news, log, err)? {
-            Ok(Taken::All)
-        } else {
-            Ok(Taken::Later)
+        match self.news_of(read) {
+            Ok(news) => {
+                match server.follow(news.told(), log, err) {
+                    Ok(is_made) => Ok(self.note(is_made, news)),
+                    Err(status) => {
+                        drop(news);
+                        Err(status)
+                    }
+                }
+            }
+            Err(taken) => Ok(taken),
         }
     }
 
@@ -427,14 +467,16 @@ impl<'p, R: Read + Drop> Followed<'p, R> {
     {
         let Outcome { octets, read } = outcome;
         match self.take(server, read, log, err)? {
-            Taken::All => {}
+            Taken::All => self.octets = Some(octets),
             Taken::Later => {
                 let _ = no_memory(err);
-                return Ok(());
             }
-            Taken::Refused(refusal) => self.tell(server, &octets, refusal, format, err),
+            Taken::Refused(refusal) => {
+                self.tell(server, &octets, &refusal, format, err);
+                drop(refusal);
+                self.octets = Some(octets);
+            }
         }
-        self.octets = Some(octets);
         Ok(())
     }
 
@@ -481,10 +523,9 @@ impl<'p, R: Read + Drop> Followed<'p, R> {
             let _ = no_memory(err);
             return;
         }
-        if self.octets.is_some() {
+        if self.octets.take().is_some() {
             self.tell_unread(server, error, format, err);
         }
-        self.octets = None;
     }
 
     /// The file as far as it has been read; where none is open, it is opened.
@@ -501,36 +542,53 @@ impl<'p, R: Read + Drop> Followed<'p, R> {
     /// Reads the file on by a step. Returns its octets once it has ended; where it cannot be read, it is closed.
     fn read_on<F: RegularFiles<File = R>>(&mut self, files: &F) -> io::Result<Option<Vec<u8>>> {
         let mut reading = self.opened(files)?;
-        if reading.read_step(self.at.most)? {
-            return Ok(Some(reading.into_octets()));
+        match reading.read_step(self.at.most) {
+            Ok(true) => Ok(Some(reading.into_octets())),
+            Ok(false) => {
+                drop(self.reading.replace(reading));
+                Ok(None)
+            }
+            Err(error) => {
+                drop(reading);
+                Err(error)
+            }
         }
-        self.reading = Some(reading);
-        Ok(None)
     }
 
-    /// Looks at the octets of the document. If it had others before, the node makes its changes: those of a short one at once, of others after some steps.
-    fn look_at<S: Stretching, E: Write>(
-        &mut self,
-        octets: Vec<u8>,
-        server: &mut S,
-        format: LogFormat,
-        log: &mut LevelLog,
-        err: &mut E,
-    ) -> Result<(), Status>
-        ensures changed { OnOk result (IsChanged (S.state server.old).bound_node (S.state server.new).bound_node) }
-        ensures sound { OnOk result (S.IsSound server.old → S.IsSound server.new) }
-        ensures honest { OnOk result (S.IsHonest server.new → S.IsHonest server.old) }
-        ensures failed { IfErr result IsFailure }
-    {
+    /// What the octets of the document mean, if it had others before: those of a short one at once, of others after some steps.
+    fn seen_in(&mut self, octets: Vec<u8>) -> Seen {
         if self.has_read(&octets) {
-            return Ok(());
+            return Seen::Nothing;
         }
         if octets.len() > AT_ONCE || marks_in(&octets) > KEYS_AT_ONCE {
-            self.taking = Some(Taking::new(self.alloc, octets));
-            return Ok(());
+            drop(self.taking.replace(Taking::new(self.alloc, octets)));
+            return Seen::Nothing;
         }
         let read = read_at_once(self.alloc, &octets);
-        self.end(Outcome { octets, read }, server, format, log, err)
+        Seen::Read(Outcome { octets, read })
+    }
+
+    /// Reads the objects of a long document on by a step.
+    fn take_step(&mut self, taking: Taking) -> Seen {
+        match taking.step() {
+            Stepped::GoesOn(taking) => {
+                drop(self.taking.replace(taking));
+                Seen::Nothing
+            }
+            Stepped::Ended(outcome) => Seen::Read(outcome),
+        }
+    }
+
+    /// Reads the document on by a step.
+    fn see<F: RegularFiles<File = R>>(&mut self, files: &F) -> Seen {
+        if let Some(taking) = self.taking.take() {
+            return self.take_step(taking);
+        }
+        match self.read_on(files) {
+            Ok(Some(octets)) => self.seen_in(octets),
+            Ok(None) => Seen::Nothing,
+            Err(error) => Seen::Unread(error),
+        }
     }
 
     /// Reads the document on by a step. Once it is read, and has other octets than before, the node makes its changes; a document that is wrong is told once, and
@@ -550,19 +608,10 @@ impl<'p, R: Read + Drop> Followed<'p, R> {
         ensures honest { OnOk result (S.IsHonest server.new → S.IsHonest server.old) }
         ensures failed { IfErr result IsFailure }
     {
-        if let Some(taking) = self.taking.take() {
-            return match taking.step() {
-                Stepped::GoesOn(taking) => {
-                    self.taking = Some(taking);
-                    Ok(())
-                }
-                Stepped::Ended(outcome) => self.end(outcome, server, format, log, err),
-            };
-        }
-        match self.read_on(files) {
-            Ok(Some(octets)) => self.look_at(octets, server, format, log, err),
-            Ok(None) => Ok(()),
-            Err(error) => {
+        match self.see(files) {
+            Seen::Nothing => Ok(()),
+            Seen::Read(outcome) => self.end(outcome, server, format, log, err),
+            Seen::Unread(error) => {
                 self.print_unread(server, &error, format, err);
                 Ok(())
             }

@@ -118,6 +118,27 @@ fn note_all<K: Keeper>(
 }
 
 /// A keeper that has a store keeps changes of it. They have to make of it the store of the node: `BadRow` where they do not.
+fn keep_changes<K: Keeper>(
+    alloc: Global,
+    changes: &[Change],
+    store: &Objects,
+    kept: &mut Objects,
+    keeper: &mut K,
+) -> Result<(), KeepFault>
+    requires { K.IsHonest keeper.old → HasNoted K.IsOpen K.noted keeper.old kept.old }
+    ensures kept { OnOk result (K.IsHonest keeper.new → IsKept K.IsOpen K.kept K.noted keeper.new store.now) }
+    ensures honest { OnOk result (K.IsHonest keeper.new → K.IsHonest keeper.old) }
+{
+    note_all(alloc, changes, kept, keeper)?;
+    keeper.keep()?;
+    if kept.same(store) {
+        Ok(())
+    } else {
+        Err(KeepFault::BadRow)
+    }
+}
+
+/// The same of a keeper with its store.
 fn with_changes<K: Keeper>(
     alloc: Global,
     opened: (K, Objects),
@@ -129,12 +150,15 @@ fn with_changes<K: Keeper>(
     ensures honest { IfOk result (λ k. K.IsHonest k → K.IsHonest opened.0) }
 {
     let (mut keeper, mut kept) = opened;
-    note_all(alloc, changes, &mut kept, &mut keeper)?;
-    keeper.keep()?;
-    if kept.same(store) {
-        Ok(keeper)
-    } else {
-        Err(KeepFault::BadRow)
+    match keep_changes(alloc, changes, store, &mut kept, &mut keeper) {
+        Ok(()) => {
+            drop(kept);
+            Ok(keeper)
+        }
+        Err(fault) => {
+            drop(kept);
+            Err(fault)
+        }
     }
 }
 

@@ -126,10 +126,21 @@ pub fn forget_kept<F: OpenFiles, M: Databases, O: Write, E: Write>(
         Err(fault) => return print_not_forgotten(alloc, path, fault, err),
     };
     if cells.is_empty() {
+        drop(cells);
+        drop(database);
         return print_nothing_kept(alloc, path, selection, err);
     }
     match print_cells(alloc, ListForm::Lines, &cells, out) {
-        Ok(()) => Status::Done,
-        Err(error) => output_failed(err, &error),
+        Ok(()) => {
+            drop(cells);
+            drop(database);
+            Status::Done
+        }
+        Err(error) => {
+            let status = output_failed(err, &error);
+            drop(cells);
+            drop(database);
+            status
+        }
     }
 }

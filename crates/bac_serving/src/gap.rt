@@ -6,7 +6,7 @@ ghost use Rattle.bac_serving.specs.Gaps.{PIECE as piece_limit, after_dropped, af
 const PIECE: usize = 4_096;
 
 /// What became of the line that is being written.
-#[derive(Clone, Copy, Debug, PartialEq, Eq)]
+#[derive(Clone, Copy)]
 pub(crate) enum Line {
     /// It has not begun.
     Next,
@@ -17,7 +17,7 @@ pub(crate) enum Line {
 }
 
 /// What was dropped of a text since it was told last.
-#[derive(Clone, Copy, Debug, PartialEq, Eq)]
+#[derive(Clone, Copy)]
 pub(crate) struct Gap {
     pub line: Line,
     /// Whether the end of a line is missing whose beginning was written.

@@ -16,7 +16,8 @@ use crate::dropping::Dropping;
 use crate::following_keeper::FollowingKeeper;
 use crate::keep_faults::print_keep_fault;
 use crate::kept_station::KeptStation;
-use crate::looking::{Looker, Served, serve_with, served_document, station_of};
+use crate::looking::{Looker, Served, serve_with, served_document};
+use crate::online::station_of;
 use crate::part_words::print_about;
 use crate::serving::{Serving, Start, print_not_bound, serve_kept_from};
 use bac_commands::CommandError;
@@ -181,7 +182,11 @@ fn keeper_over<S: Store + Drop, E: Write>(
     };
     match tell_idle(alloc, path, &mut keeper, err) {
         Ok(()) => Ok((keeper, store)),
-        Err(status) => Err(status),
+        Err(status) => {
+            drop(keeper);
+            drop(store);
+            Err(status)
+        }
     }
 }
 
@@ -190,14 +195,19 @@ fn keeper_left<L: Link + Drop, C: Clock + Drop, K: Keeper>(server: KeptServer<L,
     ensures { IfSome result (λ k. k ≡ keeper_in server.round) }
 {
     let KeptServer {
-        bound_node: _,
-        clock: _,
+        bound_node,
+        clock,
         round,
         fault,
     } = server;
+    drop(bound_node);
+    drop(clock);
     match fault {
         None => Some(round.into_keeper()),
-        Some(_) => None,
+        Some(_) => {
+            drop(round);
+            None
+        }
     }
 }
 
@@ -288,9 +298,19 @@ fn serve_round<
 {
     let (environment, path) = environment;
     let Served { store, followed } = served;
-    let (station, start) = match station_of(environment, serving, store, err) {
+    let (station, start) = match station_of(
+        environment.alloc,
+        environment.machine,
+        serving,
+        store,
+        err,
+    ) {
         Ok(station) => station,
-        Err(status) => return (status, None),
+        Err(status) => {
+            drop(round);
+            drop(followed);
+            return (status, None);
+        }
     };
     let alloc = environment.alloc;
     match followed {

@@ -53,18 +53,31 @@ impl<L: Link, C: Clock + Drop, K: Keeper> KeptStation<L, C, K> {
         error.report_at(self.bound_node.node().link(), err)
     }
 
+    /// Complains of what could not be kept.
+    fn refuse<E: Write>(&mut self, fault: KeepFault, err: &mut E) -> Status
+        ensures { IsFailure result }
+    {
+        match fault {
+            KeepFault::NoMemory => no_memory(err),
+            fault => self.stop(CommandError::Keep(fault), err),
+        }
+    }
+
     /// Its keeper in the end, if it has not failed.
     pub(crate) fn into_keeper(self) -> Option<K>
         ensures { IfSome result (λ k. MatchOption self.round ⊥ (λ r. k ≡ keeper_of r)) }
     {
         let KeptStation {
             alloc: _,
-            bound_node: _,
-            clock: _,
+            bound_node,
+            clock,
             round,
             fault,
         } = self;
+        drop(bound_node);
+        drop(clock);
         if fault.is_some() {
+            drop(round);
             return None;
         }
         match round {
@@ -129,6 +142,7 @@ impl<L: Link, C: Clock + Drop, K: FollowingKeeper> Stretching for KeptStation<L,
         };
         if made.is_err() {
             // some changes may have been made, and none is kept
+            drop(round);
             return Err(no_memory(err));
         }
         match round_over(self.alloc, round, news, self.bound_node.node().store()) {
@@ -136,8 +150,7 @@ impl<L: Link, C: Clock + Drop, K: FollowingKeeper> Stretching for KeptStation<L,
                 self.round = Some(round);
                 Ok(true)
             }
-            Err(KeepFault::NoMemory) => Err(no_memory(err)),
-            Err(fault) => Err(self.stop(CommandError::Keep(fault), err)),
+            Err(fault) => Err(self.refuse(fault, err)),
         }
     }
 

@@ -250,7 +250,16 @@ pub fn list_kept<F: OpenFiles, M: Databases, O: Write, E: Write>(
         Err(fault) => return print_not_kept(alloc, path, fault, err),
     };
     match print_cells(alloc, form, &cells, out) {
-        Ok(()) => Status::Done,
-        Err(error) => output_failed(err, &error),
+        Ok(()) => {
+            drop(cells);
+            drop(database);
+            Status::Done
+        }
+        Err(error) => {
+            let status = output_failed(err, &error);
+            drop(cells);
+            drop(database);
+            status
+        }
     }
 }

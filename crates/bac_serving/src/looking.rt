@@ -3,14 +3,12 @@ ghost use Rattle.std.specs.Prelude.{◌≡◌, ◌≤◌, true, is_some, IfErr, 
 ghost use Rattle.std.specs.Option.{option_map};
 ghost use Rattle.bac_commands.specs.Statuses.{ByStatus};
 ghost use Rattle.std.specs.Io.KnownBytes.{Keeps};
-ghost use Rattle.bac_driver.specs.Runs.{timed};
 ghost use Rattle.bac_driver.specs.Serving.{IsBefore, IsOver};
 ghost use Rattle.bac_driver.specs.Waits.{MOST};
 ghost use Rattle.bac_text.specs.Statuses.{IsFailure, IsStop};
 ghost use Rattle.bac_environment.specs.Files.{OfFile, OnFile};
 ghost use Rattle.bac_serving.specs.Keeping.{IsDocument, is_followed};
 ghost use Rattle.bac_serving.specs.Looking.{IsServedLooking, ServesLooking};
-ghost use Rattle.bac_serving.specs.Online.{IsServer};
 ghost use Rattle.bac_serving.specs.Stretches.{IsChanged, PrintsStretches, TakesStretch, TakesStretches, stop_limit, stop_of, stretch_limit};
 ghost use Rattle.bac_serving.specs.Stretches.{STRETCH as stretch_most};
 ghost use Rattle.bac_environment.specs.Sockets.{OnClock, OnPort};
@@ -21,14 +19,13 @@ use crate::extent::has_too_many_keys;
 use crate::followed::{Followed, FollowedPath, print_too_many_keys, print_unread_words};
 use crate::keep_faults::print_keep_fault;
 use crate::objects::{document_of, store_in};
-use crate::serving::{Serving, Start, epoch_of, print_listening, print_not_bound};
+use crate::online::station_of;
+use crate::serving::{Serving, Start};
 use crate::stretching::Stretching;
-use bac_commands::{bound_server, clock_unread};
-use bac_driver::{Clock, RunLimit, WaitLimit};
+use bac_driver::{RunLimit, WaitLimit};
 use bac_environment::{
-    Environment, OpenFiles, RegularFiles, Sockets, StandardError, StandardInput, Station, octets_of,
+    Environment, RegularFiles, Sockets, StandardError, StandardInput, octets_of,
 };
-use bac_node::NewNodeFault;
 use bac_server::{LevelLog, LogFormat, print_served};
 use bac_store::Store;
 use bac_text::{Status, complain, no_memory};
@@ -108,6 +105,15 @@ impl<'p, R: Read + Drop> Looker<'p, R> {
             _ => STRETCH,
         }
     }
+
+    /// Nothing more is looked at. Where all went well, the log ends.
+    fn end<E: Write>(self, is_well: bool, err: &mut E) {
+        let Looker { followed, log, .. } = self;
+        drop(followed);
+        if is_well {
+            log.end(err);
+        }
+    }
 }
 
 /// The limit of the stretch that begins at a moment, of so many milliseconds, of a server that stops at a moment, if there is one.
@@ -181,7 +187,10 @@ fn followed_from<'p, R: Read + Drop, E: Write>(
             store,
             followed: Some(followed),
         }),
-        Err(_) => Err(no_memory(err)),
+        Err(_) => {
+            drop(store);
+            Err(no_memory(err))
+        }
     }
 }
 
@@ -234,51 +243,6 @@ pub(crate) fn served_document<'p, F: RegularFiles, M: Sockets, E: Write>(
             followed: None,
         }),
     }
-}
-
-/// A node with a store on its link, and when it begins.
-pub(crate) fn station_of<F: OpenFiles, M: Sockets, E: Write>(
-    environment: &Environment<'_, F, M>,
-    serving: &Serving,
-    store: Store,
-    err: &mut E,
-) -> Result<(Station<M::Link, M::Timer>, Start), Status>
-    ensures server { IfOk result (λ r. IsServer (OnPort M.is_bound M.Link.failures M.Link.calls) (OnClock M.is_made M.Timer.told) serving.now store r.1.moment
-        (timed r.0.bound_node (M.Timer.told r.0.clock))) }
-    ensures told { IfErr result IsStop }
-{
-    let alloc = environment.alloc;
-    let machine = environment.machine;
-    let (link, address) = match machine.bind(serving.host, serving.port, &serving.guard) {
-        Ok(bound) => bound,
-        Err(error) => return Err(print_not_bound(serving, &error, err)),
-    };
-    let Some(mut clock) = environment.machine.timer() else {
-        return Err(clock_unread(err));
-    };
-    let start = clock.now();
-    let objects = store.object_count();
-    let restart = serving.restart(start);
-    let bound = bound_server(alloc, link, address, store, serving.slots, restart);
-    let mut bound_node = match bound {
-        Ok(bound_node) => bound_node,
-        Err(NewNodeFault::BadSlots) => {
-            return Err(complain(err, "bad slots", Status::CommandLine));
-        }
-        Err(_) => return Err(no_memory(err)),
-    };
-    serving.set(&mut bound_node);
-    let began = Start {
-        moment: start,
-        epoch: epoch_of(start, environment.machine.time_of_day()),
-    };
-    print_listening(alloc, serving, address, objects, began, err);
-    let station = Station {
-        alloc,
-        bound_node,
-        clock,
-    };
-    Ok((station, began))
 }
 
 /// Looks at what a server looks at. Returns whether it stops with standard input, which has ended. The status says why it cannot serve on.
@@ -414,8 +378,8 @@ pub(crate) fn serve_with<
     if let Some(path) = looker.kept_in {
         print_keep_fault(path, server.fault(), &mut err);
     }
+    looker.end(printed.is_ok(), &mut err);
     printed?;
-    looker.log.end(&mut err);
     err.end();
     Ok(())
 }
@@ -433,9 +397,17 @@ fn serve_store<F: RegularFiles, M: Sockets + StandardInput + StandardError, O: W
     ensures failed { IfErr result (λ s. ByStatus s ⊥ ⊥ (Keeps (O.contents out.old) (O.contents out.new))) }
 {
     let Served { store, followed } = served;
-    let (mut station, start) = station_of(environment, serving, store, err)?;
+    let (mut station, start) = station_of(
+        environment.alloc,
+        environment.machine,
+        serving,
+        store,
+        err,
+    )?;
     let looker = Looker::new(environment.alloc, serving, start, followed, None);
-    serve_with(environment, looker, &mut station, out, err)
+    let done = serve_with(environment, looker, &mut station, out, err);
+    drop(station);
+    done
 }
 
 /// Serves a node over the objects of a document, or the house if there is no document. At least once a second it looks at the document, if it follows it, and at

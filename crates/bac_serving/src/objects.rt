@@ -23,6 +23,22 @@ use bac_text::{Status, no_memory};
 use std::alloc::Global;
 use std::io::{Read, Write};
 
+/// Complains of octets that mean no store.
+fn print_no_store<E: Write>(
+    alloc: Global,
+    path: &str,
+    octets: &[u8],
+    fault: &DocumentFault,
+    err: &mut E,
+) -> Status
+    ensures { IsStop result }
+{
+    if matches!(fault, DocumentFault::NoMemory) {
+        return no_memory(err);
+    }
+    print_document_fault(alloc, path, octets, fault, err)
+}
+
 /// The store that octets mean; where they mean none, `err` and the status say why.
 pub(crate) fn store_in<E: Write>(
     alloc: Global,
@@ -35,8 +51,11 @@ pub(crate) fn store_in<E: Write>(
 {
     match read_objects(alloc, octets) {
         Ok(store) => Ok(store),
-        Err(DocumentFault::NoMemory) => Err(no_memory(err)),
-        Err(fault) => Err(print_document_fault(alloc, path, octets, &fault, err)),
+        Err(fault) => {
+            let status = print_no_store(alloc, path, octets, &fault, err);
+            drop(fault);
+            Err(status)
+        }
     }
 }
 

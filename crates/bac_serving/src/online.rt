@@ -1,5 +1,10 @@
 //! A node with a store on a link of the machine: what `serve` does.
-ghost use Rattle.bac_serving.specs.Online.{IsServedBy};
+ghost use Rattle.std.specs.Prelude.{◌≡◌, false, IfErr, IfOk};
+ghost use Rattle.bac_node.specs.Fresh.{large_slots_fit};
+ghost use Rattle.bac_driver.specs.Runs.{timed};
+ghost use Rattle.bac_text.specs.Statuses.{IsStop};
+ghost use Rattle.bac_commands.specs.Statuses.{ByStatus};
+ghost use Rattle.bac_serving.specs.Online.{IsServedBy, IsServer};
 ghost use Rattle.bac_environment.specs.Sockets.{OnClock, OnPort};
 
 use crate::dropping::Dropping;
@@ -13,6 +18,51 @@ use bac_text::{Status, complain, no_memory};
 use std::alloc::Global;
 use std::io::Write;
 
+/// A node with a store on its link, and when it begins. An Err is `CommandLine` only where there can't be so many slots.
+pub(crate) fn station_of<M: Sockets, E: Write>(
+    alloc: Global,
+    machine: &M,
+    serving: &Serving,
+    store: Store,
+    err: &mut E,
+) -> Result<(Station<M::Link, M::Timer>, Start), Status>
+    ensures server { IfOk result (λ r. IsServer (OnPort M.is_bound M.Link.failures M.Link.calls) (OnClock M.is_made M.Timer.told) serving.now store r.1.moment
+        (timed r.0.bound_node (M.Timer.told r.0.clock))) }
+    ensures refused { IfErr result (λ s. ByStatus s ⊥ ⊥ (large_slots_fit serving.now.slots ≡ false)) }
+    ensures told { IfErr result IsStop }
+{
+    let (link, address) = match machine.bind(serving.host, serving.port, &serving.guard) {
+        Ok(bound) => bound,
+        Err(error) => return Err(print_not_bound(serving, &error, err)),
+    };
+    let Some(mut clock) = machine.timer() else {
+        return Err(clock_unread(err));
+    };
+    let start = clock.now();
+    let objects = store.object_count();
+    let restart = serving.restart(start);
+    let bound = bound_server(alloc, link, address, store, serving.slots, restart);
+    let mut bound_node = match bound {
+        Ok(bound_node) => bound_node,
+        Err(NewNodeFault::BadSlots) => {
+            return Err(complain(err, "bad slots", Status::CommandLine));
+        }
+        Err(_) => return Err(no_memory(err)),
+    };
+    serving.set(&mut bound_node);
+    let began = Start {
+        moment: start,
+        epoch: epoch_of(start, machine.time_of_day()),
+    };
+    print_listening(alloc, serving, address, objects, began, err);
+    let station = Station {
+        alloc,
+        bound_node,
+        clock,
+    };
+    Ok((station, began))
+}
+
 /// A node with a store serves.
 pub(crate) fn serve<M: Sockets + StandardError, O: Write, E: Write>(
     alloc: Global,
@@ -25,44 +75,15 @@ pub(crate) fn serve<M: Sockets + StandardError, O: Write, E: Write>(
     ensures { IsServedBy store (OnPort M.is_bound M.Link.failures M.Link.calls) (OnClock M.is_made M.Timer.told) result serving.now
         (O.contents out.old) (O.contents out.new) }
 {
-    let bound = match machine.bind(serving.host, serving.port, &serving.guard) {
-        Ok(bound) => bound,
-        Err(error) => return print_not_bound(serving, &error, err),
-    };
-    let Some(mut timer) = machine.timer() else {
-        return clock_unread(err);
-    };
-    let address = bound.1;
-    let start = timer.now();
-    let objects = store.object_count();
-    let restart = serving.restart(start);
-    let mut bound_node = match bound_server(
-        alloc,
-        bound.0,
-        address,
-        store,
-        serving.slots,
-        restart,
-    ) {
-        Ok(bound_node) => bound_node,
-        Err(NewNodeFault::BadSlots) => return complain(err, "bad slots", Status::CommandLine),
-        Err(_) => return no_memory(err),
-    };
-    serving.set(&mut bound_node);
-    let began = Start {
-        moment: start,
-        epoch: epoch_of(start, machine.time_of_day()),
-    };
-    print_listening(alloc, serving, address, objects, began, err);
-    let mut station = Station {
-        alloc,
-        bound_node,
-        clock: timer,
+    let (mut station, began) = match station_of(alloc, machine, serving, store, err) {
+        Ok(made) => made,
+        Err(status) => return status,
     };
     let format = serving.log_format(began);
     // from here on standard error must not make the server wait
     let mut err = Dropping::new(alloc, machine, machine.timer(), format, err);
     let status = serve_from(serving, began, &mut station, out, &mut err);
     err.end();
+    drop(station);
     status
 }

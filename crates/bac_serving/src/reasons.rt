@@ -36,5 +36,6 @@ pub(crate) fn print_document_fault<E: Write>(
     for finding in &findings {
         let _ = writeln!(err, "{path}: {finding}");
     }
+    drop(findings);
     Status::CommandLine
 }

@@ -42,6 +42,8 @@ pub struct Serving {
     pub host: [u8; 4],
     /// The UDP port.
     pub port: u16,
+    /// Whether the port was named; otherwise it is that of BACnet/IP.
+    pub names_port: bool,
     /// The most turns that it takes, each of 100 milliseconds at most; None for any number, which wait until something is due.
     pub turns: Option<u64>,
     /// After so many seconds no turn begins; None for any number.
@@ -71,7 +73,7 @@ pub struct Serving {
 }
 
 /// When a server begins.
-#[derive(Clone, Copy, PartialEq, Eq)]
+#[derive(Clone, Copy)]
 pub(crate) struct Start {
     /// The moment of its clock, in milliseconds.
     pub moment: u64,
@@ -208,18 +210,40 @@ fn print_refused<E: Write>(serving: &Serving, error: &io::Error, err: &mut E) ->
     Status::Output
 }
 
-/// The same; where another program has the port, the last line says what to do.
+/// Tells that another program has the port, and which option names another, where that was not given.
+fn print_taken<E: Write>(serving: &Serving, err: &mut E) {
+    let port = serving.port;
+    let option = if serving.names_port {
+        ""
+    } else {
+        " with --port"
+    };
+    // if that fails too, only the status is left
+    let _ = writeln!(
+        err,
+        "port {port} is taken: stop the program that has it, or give another{option}"
+    );
+}
+
+/// Tells that an address is none of this machine, and how to list those that are.
+fn print_foreign<E: Write>(host: [u8; 4], err: &mut E) {
+    let [a, b, c, d] = host;
+    // if that fails too, only the status is left
+    let _ = writeln!(
+        err,
+        "{a}.{b}.{c}.{d} is not an address of this host: `ip addr` lists its addresses"
+    );
+}
+
+/// The same; where another program has the port, or the address is none of this machine, the last line says what to do.
 pub(crate) fn print_not_bound<E: Write>(serving: &Serving, error: &io::Error, err: &mut E) -> Status
     ensures { result ≡ status.Output }
 {
     let status = print_refused(serving, error, err);
-    if error.kind() == ErrorKind::AddrInUse {
-        let port = serving.port;
-        // if that fails too, only the status is left
-        let _ = writeln!(
-            err,
-            "port {port} is taken: stop the program that has it, or give another with --port"
-        );
+    match error.kind() {
+        ErrorKind::AddrInUse => print_taken(serving, err),
+        ErrorKind::AddrNotAvailable => print_foreign(serving.host, err),
+        _ => {}
     }
     status
 }

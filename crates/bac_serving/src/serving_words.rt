@@ -2,7 +2,7 @@
 ghost use Rattle.std.specs.Prelude.{◌≡◌, codes, None, IfSome, MatchOption};
 ghost use Rattle.std.specs.Option.{option_map};
 ghost use Rattle.bac_environment.specs.Given.{words_text};
-ghost use Rattle.bac_serving.specs.GivenServing.{AreSlots, IsGivenPort, IsHost, IsHostText, IsInVain, IsNoHost, IsPort, IsRefused, IsRules, IsServing, digits_before, level_given, level_named, memory_given, memory_named, slots_without, times, with_unit, within, without_plus};
+ghost use Rattle.bac_serving.specs.GivenServing.{AreSlots, IsGivenPort, IsHost, IsHostText, IsInVain, IsNoHost, IsPort, IsPortNamed, IsRefused, IsRules, IsServing, digits_before, level_given, level_named, memory_given, memory_named, slots_without, times, with_unit, within, without_plus};
 ghost use Rattle.bac_serving.specs.Serving.{is_reusing, rules_by};
 
 use crate::guard_words::guard_of;
@@ -55,6 +55,13 @@ fn port_of(given: &ArgMatches<'_>) -> u16
         Some(port) => port,
         None => BACNET_PORT,
     }
+}
+
+/// Whether a port is given.
+fn is_port_named(given: &ArgMatches<'_>) -> bool
+    ensures { IsPortNamed given.now result }
+{
+    given_port(given).is_some()
 }
 
 /// Whether it lets clients use invoke IDs again: in a run of so many turns where it is told to, otherwise unless it is strict.
@@ -246,6 +253,7 @@ pub fn serving_of(given: &ArgMatches<'_>) -> Option<Serving>
     Some(Serving {
         host,
         port: port_of(given),
+        names_port: is_port_named(given),
         turns,
         seconds: number_of(given, "seconds"),
         slots,

@@ -14,7 +14,8 @@ use Rattle.bac_network.specs.declared.event.Event.{Event}
 use Rattle.bac_network.specs.declared.event.Event.TheVariants as event
 use Rattle.bac_store.specs.AtNode.{change_fault_number}
 use Rattle.bac_store.specs.declared.change_fault.ChangeFault.{ChangeFault}
-use Rattle.bac_network.specs.Steps.{BeginsTooSoon, IsFault, NamesNoCopy, NamesNodeLink, NamesNoNode, PassesClock, RefusesChange, TakesMemory, Tells}
+use Rattle.bac_network.specs.Runs.{TellsWhyNot}
+use Rattle.bac_network.specs.Steps.{IsFault, RefusesChange, Tells}
 use Rattle.bac_network.proofs.WorldRunning.{fault_is}
 use Rattle.bac_simulate.specs.declared.script.ScriptLine as code
 use Rattle.bac_simulate.specs.Scripts.{ScriptLine, Happens, Lost, Note, Began, Paced}
@@ -87,38 +88,26 @@ abbrev pub the_pace_err : PaceFault → Result (Unit {0}) PaceFault
 the_pace_err f = Err f
 
 pub fails : {A : Type 0} (t : Printing A) (line : ℕ) (e : Event) (f : WorldFault) (old new : WorldView) (said : List A) → change_fault_in f ≡ None
-    → (IsErrOf (the_err f) fault.NoSuchNode ↔ NamesNoNode (as_world old) (event_view old.time e))
-    → (IsErrOf (the_err f) fault.NoSuchDatagram ↔ NamesNoCopy (as_world old) (event_view old.time e))
-    → (IsErrOf (the_err f) fault.NodeLink ↔ NamesNodeLink (as_world old) (event_view old.time e))
-    → (IsErrOf (the_err f) fault.ClockEnd ↔ PassesClock (as_world old) (event_view old.time e))
-    → (IsErrOf (the_err f) fault.TooSoon ↔ BeginsTooSoon (as_world old) (event_view old.time e))
-    → ((why : ChangeFault) → (IsErrOf (the_err f) (fault.BadChange why) ↔ RefusesChange (as_world old) (event_view old.time e) why))
-    → (IsErrOf (the_err f) fault.NoMemory → TakesMemory old.overtake (as_world old) (event_view old.time e))
+    → TellsWhyNot (the_err f) old e
     → new ≡ old → t.ended line (fault_number f) said → Steps t line false (Happens (happening_view e)) old new said
-fails t line e f old new said ends node copy link clock soon change memory same is =
+fails t line e f old new said ends tells same is =
     record {
       fault = f;
       ends = ends;
       why =
           subst (IsFault f old.overtake (as_world old)) (same_event old.time e)
-          (fault_is f old.overtake (as_world old) (event_view old.time e) (the_err f) refl node copy link clock soon change memory);
+          (fault_is f old e (the_err f) refl tells);
       same = same;
       is = is;
     }
 
 pub stopped : (line : ℕ) (e : Event) (f : WorldFault) (old new : WorldView) (number : ℕ) (a b : Option (List ℕ)) → change_fault_in f ≡ None
-    → (IsErrOf (the_err f) fault.NoSuchNode ↔ NamesNoNode (as_world old) (event_view old.time e))
-    → (IsErrOf (the_err f) fault.NoSuchDatagram ↔ NamesNoCopy (as_world old) (event_view old.time e))
-    → (IsErrOf (the_err f) fault.NodeLink ↔ NamesNodeLink (as_world old) (event_view old.time e))
-    → (IsErrOf (the_err f) fault.ClockEnd ↔ PassesClock (as_world old) (event_view old.time e))
-    → (IsErrOf (the_err f) fault.TooSoon ↔ BeginsTooSoon (as_world old) (event_view old.time e))
-    → ((why : ChangeFault) → (IsErrOf (the_err f) (fault.BadChange why) ↔ RefusesChange (as_world old) (event_view old.time e) why))
-    → (IsErrOf (the_err f) fault.NoMemory → TakesMemory old.overtake (as_world old) (event_view old.time e))
+    → TellsWhyNot (the_err f) old e
     → new ≡ old → number ≡ fault_number f → Appends a b (fault_line line number) → AppendsText a b (IsStep line false (Happens (happening_view e)) old new)
-stopped line e f old new number a b ends node copy link clock soon change memory same is printed = (
+stopped line e f old new number a b ends tells same is printed = (
   fault_line line (fault_number f),
   (
-    fails in_text line e f old new (fault_line line (fault_number f)) ends node copy link clock soon change memory same refl,
+    fails in_text line e f old new (fault_line line (fault_number f)) ends tells same refl,
     subst (λ (n : ℕ). Appends a b (fault_line line n)) is printed,
   ),
 )

@@ -14,7 +14,8 @@ use Rattle.bac_journal.specs.declared.copies.Copy as copy
 use Rattle.bac_network.specs.Faults.{fault_number}
 use Rattle.bac_network.specs.Histories.{WorldView, as_world, reuses_of}
 use Rattle.bac_network.specs.declared.event.Event.{Event}
-use Rattle.bac_network.specs.Steps.{BeginsTooSoon, NamesNoCopy, NamesNodeLink, NamesNoNode, PassesClock, RefusesChange, TakesMemory, Tells}
+use Rattle.bac_network.specs.Runs.{TellsWhyNot}
+use Rattle.bac_network.specs.Steps.{RefusesChange, Tells}
 use Rattle.bac_network.specs.Views.{event_view, fact_view, instant_after, log_view}
 use Rattle.bac_network.specs.declared.fact.Fact as fact
 use Rattle.bac_journal.specs.Clocks.{drift_of, paced}
@@ -191,19 +192,13 @@ refusal_told s line e f why old new now number said head refusal text a b bad ch
 
 pub fault_told : (s : EventStyle) (line : ℕ) (e : Event) (f : WorldFault) (old new : WorldView) (number : ℕ) (a b : Option (List ℕ))
     → change_fault_in f ≡ None
-    → (IsErrOf (the_err f) fault.NoSuchNode ↔ NamesNoNode (as_world old) (event_view old.time e))
-    → (IsErrOf (the_err f) fault.NoSuchDatagram ↔ NamesNoCopy (as_world old) (event_view old.time e))
-    → (IsErrOf (the_err f) fault.NodeLink ↔ NamesNodeLink (as_world old) (event_view old.time e))
-    → (IsErrOf (the_err f) fault.ClockEnd ↔ PassesClock (as_world old) (event_view old.time e))
-    → (IsErrOf (the_err f) fault.TooSoon ↔ BeginsTooSoon (as_world old) (event_view old.time e))
-    → ((why : ChangeFault) → (IsErrOf (the_err f) (fault.BadChange why) ↔ RefusesChange (as_world old) (event_view old.time e) why))
-    → (IsErrOf (the_err f) fault.NoMemory → TakesMemory old.overtake (as_world old) (event_view old.time e))
+    → TellsWhyNot (the_err f) old e
     → new ≡ old → number ≡ fault_number f → AppendsText a b (IsEndText s line number)
     → AppendsText a b (Steps (told_in s) line false (Happens (happening_view e)) old new)
-fault_told s line e f old new number a b ends node copy link clock soon change memory same is end = (
+fault_told s line e f old new number a b ends tells same is end = (
   end.0,
   (
-    fails (told_in s) line e f old new end.0 ends node copy link clock soon change memory same (subst (λ (n : ℕ). IsEndText s line n end.0) is end.1.0),
+    fails (told_in s) line e f old new end.0 ends tells same (subst (λ (n : ℕ). IsEndText s line n end.0) is end.1.0),
     end.1.1,
   ),
 )

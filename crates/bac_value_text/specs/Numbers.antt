@@ -1,8 +1,9 @@
 -- Numbers, octets and objects as words.
-use Rattle.std.specs.Prelude.{ℕ, ℤ, pos, neg_ℤ, ◌+◌, ◌-◌, ◌*◌, ◌^◌, nat_le, nat_lt, Bool, false, ◌==◌, ◌&&◌, List, [], ◌∷◌, length, take, drop, if◌then◌else◌}
+use Rattle.std.specs.Prelude.{ℕ, ℤ, pos, neg_ℤ, ◌+◌, ◌-◌, ◌*◌, ◌^◌, nat_le, nat_lt, Bool, false, ◌==◌, ◌&&◌, ◌||◌, List, [], ◌∷◌, length, take, drop, codes, if◌then◌else◌}
 use Rattle.std.specs.Prelude.{Option, Some, None, Result, Ok, Err}
 use Rattle.std.specs.List.{list_all, position}
 use Rattle.std.specs.Char.{is_ascii_digit}
+use Rattle.std.specs.Str.{bytes_eq}
 use Rattle.hex.specs.Hex.{decode_of, decode_sized}
 use Rattle.hex.specs.declared.error.FromHexError.{FromHexError}
 use Rattle.bac_value_text.specs.declared.separator.Separator.{Separator}
@@ -50,6 +51,10 @@ positive_of digits = do
 
 abbrev pub signed_of : List ℕ → Option ℤ
 signed_of word = if is_minus word then negative_of (drop 1 word) else positive_of word
+
+-- the word of an infinite float
+abbrev pub is_infinity : List ℕ → Bool
+is_infinity word = bytes_eq word (codes "inf") || bytes_eq word (codes "-inf")
 
 -- ---- octets
 

@@ -1,7 +1,7 @@
 -- The value that a text reads as.
 use Rattle.std.specs.Prelude.{◌≡◌, ⊤, ℕ, ◌+◌, ◌-◌, ◌*◌, ◌/◌, ◌%◌, ◌^◌, suc, zero, nat_le, nat_lt, Bool, true, false, ◌==◌, ◌&&◌, ◌||◌, List, [], ◌∷◌, length, drop, slice_index, codes, if◌then◌else◌}
-use Rattle.std.specs.Prelude.{Option, Some, None, Result, Ok, Err, is_nan, to_bits}
-use Rattle.std.specs.Float.{Float, binary32, binary64}
+use Rattle.std.specs.Prelude.{Option, Some, None, Result, Ok, Err, is_nan, to_bits, not}
+use Rattle.std.specs.Float.{Float, binary32, binary64, float_is_finite}
 use Rattle.std.specs.Int.{w32, w64, to_be_bytes}
 use Rattle.std.specs.List.{list_all}
 use Rattle.std.specs.Option.{option_map, option_or}
@@ -14,7 +14,7 @@ use Rattle.bac_value_text.specs.Properties.{PROPERTIES}
 use Rattle.bac_value.specs.Limits.{bits_fit}
 use Rattle.bac_value.specs.Value.{Datum, ObjectId, null, boolean, unsigned, signed, real, double, octets, characters, bits, enumerated}
 use Rattle.bac_value.specs.Value.{date, time, object}
-use Rattle.bac_value_text.specs.Numbers.{◌>>=◌, number_of, at_most, number_up_to, signed_of, octets_of, array_of, parts_at}
+use Rattle.bac_value_text.specs.Numbers.{◌>>=◌, is_infinity, number_of, at_most, number_up_to, signed_of, octets_of, array_of, parts_at}
 use Rattle.bac_value_text.specs.declared.value_fault.ValueFault.{ValueFault}
 use Rattle.bac_value_text.specs.declared.value_fault.ValueFault.TheVariants.{NoValue, NoMemory}
 
@@ -23,18 +23,21 @@ use Rattle.bac_value_text.specs.declared.value_fault.ValueFault.TheVariants.{NoV
 abbrev pub boolean_in : List ℕ → Option Bool
 boolean_in body = if bytes_eq body (codes "true") then Some true else (if bytes_eq body (codes "false") then Some false else None)
 
--- a number that is not NaN
-abbrev pub real_of : Float → Option (List ℕ)
-real_of x = if is_nan x then None else Some (to_be_bytes w32 (to_bits binary32 x))
+-- a text that reads as NaN, or as an infinity though it is not the word of one, as the digits of a number that is too large
+abbrev pub is_no_number : (body : List ℕ) → Float → Bool
+is_no_number body x = is_nan x || not (float_is_finite x || is_infinity body)
 
-abbrev pub double_of : Float → Option (List ℕ)
-double_of x = if is_nan x then None else Some (to_be_bytes w64 (to_bits binary64 x))
+abbrev pub real_of : (body : List ℕ) → Float → Option (List ℕ)
+real_of body x = if is_no_number body x then None else Some (to_be_bytes w32 (to_bits binary32 x))
+
+abbrev pub double_of : (body : List ℕ) → Float → Option (List ℕ)
+double_of body x = if is_no_number body x then None else Some (to_be_bytes w64 (to_bits binary64 x))
 
 abbrev pub real_in : List ℕ → Option (List ℕ)
-real_in body = parse_float binary32 body >>= real_of
+real_in body = parse_float binary32 body >>= real_of body
 
 abbrev pub double_in : List ℕ → Option (List ℕ)
-double_in body = parse_float binary64 body >>= double_of
+double_in body = parse_float binary64 body >>= double_of body
 
 -- a field of a date or a time, which counts from a number on; 255 means not specified
 abbrev pub field_from : (base number : ℕ) → Option ℕ

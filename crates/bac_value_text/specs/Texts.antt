@@ -1,7 +1,7 @@
 -- The printed texts of values.
-use Rattle.std.specs.Prelude.{◌≡◌, ℕ, ◌+◌, ◌-◌, ◌/◌, ◌%◌, nat_lt, nat_le, ◌==◌, ◌&&◌, ◌||◌, Bool, true, false, List, [], ◌∷◌, ◌++◌, length, take, slice_index, codes, decimal, if◌then◌else◌, Option, Some, None, from_bits}
+use Rattle.std.specs.Prelude.{◌≡◌, ℕ, ◌+◌, ◌-◌, ◌/◌, ◌%◌, nat_lt, nat_le, ◌==◌, ◌&&◌, ◌||◌, Bool, true, false, IsTrue, IsFalse, List, [], ◌∷◌, ◌++◌, length, take, slice_index, codes, decimal, if◌then◌else◌, Option, Some, None, from_bits}
 use Rattle.std.specs.Fmt.{signed_decimal}
-use Rattle.std.specs.Float.{binary32, binary64}
+use Rattle.std.specs.Float.{Float, Format, binary32, binary64, float_is_finite}
 use Rattle.std.specs.Int.{w32, w64, from_be_bytes}
 use Rattle.std.specs.List.{flat_map}
 use Rattle.std.specs.Str.{is_utf8}
@@ -9,6 +9,7 @@ use Rattle.percent_encoding.specs.Percent.{percent_encode_byte}
 use Rattle.fast_float.specs.Parse.{parse_float}
 use Rattle.hex.specs.Hex.{encode_upper}
 use Rattle.bac_value_text.specs.Names.{name_in}
+use Rattle.bac_value_text.specs.Numbers.{is_infinity}
 use Rattle.bac_value_text.specs.ObjectTypes.{OBJECT_TYPES}
 use Rattle.bac_value_text.specs.Properties.{PROPERTIES}
 use Rattle.bac_value.specs.Value.{Datum, ObjectId, null, boolean, unsigned, signed, real, double, octets, characters, bits, enumerated}
@@ -23,13 +24,16 @@ is_real_number a = nat_le (from_be_bytes w32 a % 0x8000_0000) 0x7f80_0000
 abbrev pub is_double_number : List ℕ → Bool
 is_double_number a = nat_le (from_be_bytes w64 a % 0x8000_0000_0000_0000) 0x7ff0_0000_0000_0000
 
--- for a number, any text that reads as that number
+-- any text that reads as a number; for an infinity, its word
+abbrev pub IsNumberText : Format → Float → List ℕ → Type 0
+IsNumberText format x text = (parse_float format text ≡ Some x) × (IsFalse (float_is_finite x) → IsTrue (is_infinity text))
+
 abbrev pub IsRealText : (is_number : Bool) → List ℕ → List ℕ → Type 0
-IsRealText true a text = parse_float binary32 text ≡ Some (from_bits binary32 (from_be_bytes w32 a))
+IsRealText true a text = IsNumberText binary32 (from_bits binary32 (from_be_bytes w32 a)) text
 IsRealText false a text = text ≡ encode_upper a
 
 abbrev pub IsDoubleText : (is_number : Bool) → List ℕ → List ℕ → Type 0
-IsDoubleText true a text = parse_float binary64 text ≡ Some (from_bits binary64 (from_be_bytes w64 a))
+IsDoubleText true a text = IsNumberText binary64 (from_bits binary64 (from_be_bytes w64 a)) text
 IsDoubleText false a text = text ≡ encode_upper a
 
 -- ---- character strings (clause 20.2.9): text in set 0, which is UTF-8, unchanged; all others as their set and their octets

@@ -71,6 +71,7 @@ pub(crate) fn hexadecimal(alloc: Global, octets: &[u8]) -> Result<Vec<u8>, Alloc
 }
 
 /// A Real in the fewest digits that read as the same number; the octets in hexadecimal for NaN.
+#[tactic(auto, using(crate::proofs::Floats::real_printed))]
 pub(crate) fn real_text(alloc: Global, octets: [u8; 4]) -> Result<Vec<u8>, AllocError>
     ensures text { IfOk result (λ t. IsRealText (is_real_number octets) octets t.items) }
     ensures len { length octets ≡ 4 }
@@ -85,6 +86,7 @@ pub(crate) fn real_text(alloc: Global, octets: [u8; 4]) -> Result<Vec<u8>, Alloc
 }
 
 /// A Double in the fewest digits that read as the same number; the octets in hexadecimal for NaN.
+#[tactic(auto, using(crate::proofs::Floats::double_printed))]
 pub(crate) fn double_text(alloc: Global, octets: [u8; 8]) -> Result<Vec<u8>, AllocError>
     ensures text { IfOk result (λ t. IsDoubleText (is_double_number octets) octets t.items) }
     ensures len { length octets ≡ 8 }

@@ -4,7 +4,7 @@ ghost use Rattle.std.specs.Option.{option_map, option_or};
 ghost use Rattle.std.specs.List.{list_all};
 ghost use Rattle.bac_value_text.specs.Names.{number_in};
 ghost use Rattle.bac_value.specs.Views.{object_identifier_view, value_view};
-ghost use Rattle.bac_value_text.specs.Numbers.{number_of};
+ghost use Rattle.bac_value_text.specs.Numbers.{is_infinity, number_of};
 ghost use Rattle.bac_value_text.specs.Reading.{boolean_in, real_in, double_in, field_from, field_in, fields_in, type_of, property_of, object_of};
 ghost use Rattle.bac_value_text.specs.Reading.{octets_fit, characters_fit, characters_in, is_bit, bit_in, octet_in, octets_for, bits_fitting, bits_in, Reads};
 
@@ -26,24 +26,31 @@ pub(crate) fn boolean_in(body: &[u8]) -> Option<bool>
     }
 }
 
-/// The octets of a number in decimal digits.
+/// Whether it is the word of an infinity.
+fn is_infinity(body: &[u8]) -> bool
+    ensures { result ≡ is_infinity body.now }
+{
+    body == b"inf".as_slice() || body == b"-inf".as_slice()
+}
+
+/// The octets of a number in decimal digits, or of an infinity by its word. None if the number is beyond what a Real holds.
 pub(crate) fn real_in(body: &[u8]) -> Option<[u8; 4]>
     ensures { result ≡ real_in body.now }
 {
     let number: f32 = fast_float::parse(body).ok()?;
-    if number.is_nan() {
+    if number.is_nan() || !(number.is_finite() || is_infinity(body)) {
         None
     } else {
         Some(number.to_be_bytes())
     }
 }
 
-/// The octets of a number in decimal digits.
+/// The same of a Double.
 pub(crate) fn double_in(body: &[u8]) -> Option<[u8; 8]>
     ensures { result ≡ double_in body.now }
 {
     let number: f64 = fast_float::parse(body).ok()?;
-    if number.is_nan() {
+    if number.is_nan() || !(number.is_finite() || is_infinity(body)) {
         None
     } else {
         Some(number.to_be_bytes())

@@ -66,23 +66,62 @@ fn is_document(grammar: &Grammar, word: &str) -> bool {
     word.ends_with(".toml") && has_option(grammar, "objects")
 }
 
-/// What is meant by a word that a command does not take, if that is known.
-fn meant_by(alloc: Global, grammar: &Grammar, word: &str) -> Result<Option<String>, AllocError> {
+/// Whether a word is the option of that name, alone or with a text behind `=`.
+fn is_option_word(word: &str, name: &str) -> bool {
+    match word.strip_prefix("--") {
+        Some(option) => without_text(option) == name,
+        None => false,
+    }
+}
+
+/// Whether the option of that name is among words.
+fn is_given(words: &[String], name: &str) -> bool {
+    words.iter().any(|word| is_option_word(word.as_str(), name))
+}
+
+/// What is meant by an address without its option; `--to` takes the place of `--port`. None where `--to` is given already.
+fn address_meant(
+    alloc: Global,
+    words: &[String],
+    word: &str,
+) -> Result<Option<String>, AllocError> {
+    if is_given(words, "to") {
+        return Ok(None);
+    }
+    if !is_given(words, "port") {
+        return Ok(Some(format!(in alloc; "--to {word}")?));
+    }
+    let port = if word.contains(':') { "" } else { ":P" };
+    Ok(Some(format!(in alloc; "--to {word}{port} in place of --port P")?))
+}
+
+/// What is meant by a word that a command does not take, among all its words, if that is known.
+fn meant_by(
+    alloc: Global,
+    grammar: &Grammar,
+    words: &[String],
+    word: &str,
+) -> Result<Option<String>, AllocError> {
     if let Some(name) = option_meant(grammar, word) {
         return Ok(Some(format!(in alloc; "--{name}")?));
     }
     if is_address(grammar, word) {
-        return Ok(Some(format!(in alloc; "--to {word}")?));
+        return address_meant(alloc, words, word);
     }
-    if is_document(grammar, word) {
+    if is_document(grammar, word) && !is_given(words, "objects") {
         return Ok(Some(format!(in alloc; "--objects {word}")?));
     }
     Ok(None)
 }
 
-/// What is told behind a word that a command does not take, if that is known.
-fn hint_of(alloc: Global, grammar: &Grammar, word: &str) -> Result<Option<String>, AllocError> {
-    match meant_by(alloc, grammar, word)? {
+/// What is told behind a word that a command does not take, among all its words, if that is known.
+fn hint_of(
+    alloc: Global,
+    grammar: &Grammar,
+    words: &[String],
+    word: &str,
+) -> Result<Option<String>, AllocError> {
+    match meant_by(alloc, grammar, words, word)? {
         Some(meant) => Ok(Some(format!(in alloc; "did you mean {meant}?")?)),
         None => Ok(None),
     }
@@ -98,7 +137,7 @@ fn fault_in(
     for word in words {
         let word = word.as_str();
         if is_about(alloc, text, word)? {
-            if let Some(hint) = hint_of(alloc, grammar, word)? {
+            if let Some(hint) = hint_of(alloc, grammar, words, word)? {
                 let fault = format!(in alloc; "unexpected argument '{word}' found; {hint}")?;
                 return Ok(Some(fault));
             }

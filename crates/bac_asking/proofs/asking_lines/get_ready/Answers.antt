@@ -11,6 +11,6 @@ returns-then-not-is_over-clause-ready g c = inl (ap (λ (t : Told). timed c.args
 
 pub returns-clause-ready : goal.returns-clause-ready
 returns-clause-ready g c =
-    ready_anew (OnPort g.M.Sockets.is_bound g.M.Link.Link.failures g.M.Link.Link.calls) c.args.asking.now.host c.now-start.result
+    ready_anew (OnPort g.M.Sockets.is_bound g.M.Link.Link.failures g.M.Link.Link.calls) c.now-start.result
     (timed c.args.client.now.station.bound_node (g.M.Timer.Clock.told c.args.client.now.station.clock)) _ _ c.now-start.ensures.tells
     c.in_ok-replace.ensures.renewed

@@ -11,6 +11,7 @@ returns-clause-node g c =
       first_id = bound.pair.first_id;
       at =
           record {
+            named = c.in-Ok.ensures.named;
             port = bound.pair.port;
             at =
                 record {

@@ -14,6 +14,4 @@ returns-in_err-step-clause-fault c =
     let w = c.args.world.now in
     let event = Ask c.args.client c.args.server (limits_view c.args.limits) (owned_request_view c.args.request) in
     told_why _ (λ f. IsFault f w.overtake (as_world w) event) _ c.from_residual.result c.from_residual.ensures.1
-    (fault_is _ w.overtake (as_world w) event _ refl c.in_err-step.ensures.node c.in_err-step.ensures.datagram c.in_err-step.ensures.link c.in_err-step.ensures.clock
-    c.in_err-step.ensures.soon
-    c.in_err-step.ensures.change c.in_err-step.ensures.memory)
+    (fault_is _ w _ _ refl c.in_err-step.ensures.faults)

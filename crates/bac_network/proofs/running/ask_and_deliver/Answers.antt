@@ -10,6 +10,7 @@ use Rattle.bac_network.specs.StraightFaults.{Fails}
 use Rattle.bac_network.specs.StraightRuns.{AsksIf}
 use Rattle.bac_network.proofs.Logs.{since_all}
 use Rattle.bac_network.proofs.StraightGoing.{asked_since, copies_many, notes_many, stays_so, stopped_goes, stuck_fails, told_as, told_why}
+use Rattle.bac_network.proofs.Strictly.{settings_on}
 use Rattle.bac_network.proofs.running.ask_and_deliver.Goals as goal
 
 pub returns-in_err-ask-clause-goes : goal.returns-in_err-ask-clause-goes
@@ -47,28 +48,19 @@ returns-then-branch-clause-goes c = λ none.
     let number = notes_many c.asks-number.result.now w.notes c.asks-number.ensures in
     let first = copies_many c.copies-first.result.now w.copies c.copies-first.ensures in
     told_as c.deliver_all.result
-    (λ s h. stopped_goes w asked new (c.requires none) none c.args.client c.args.server limits r asks c.ask.ensures.overtake c.ask.ensures.rules _ _ _ number
+    (λ s h. stopped_goes w asked new (c.requires none) none c.args.client c.args.server limits r asks c.ask.ensures.settings.0 c.ask.ensures.settings.2 _ _ _ number
     first s.deliveries s.ask h.0 h.1)
-    (λ f h. stuck_fails w asked new (c.requires none) none c.args.client c.args.server limits r asks c.ask.ensures.overtake c.ask.ensures.rules _ _ _ number
+    (λ f h. stuck_fails w asked new (c.requires none) none c.args.client c.args.server limits r asks c.ask.ensures.settings.0 c.ask.ensures.settings.2 _ _ _ number
     first f h)
     c.deliver_all.ensures
 
-pub returns-then-branch-clause-overtake : goal.returns-then-branch-clause-overtake
-returns-then-branch-clause-overtake c =
+pub returns-then-branch-clause-settings : goal.returns-then-branch-clause-settings
+returns-then-branch-clause-settings c =
+    settings_on c.args.world.now c.ask.new.world c.deliver_all.new.world
     (stays_so (length c.asks-number.result.now) c.facts_before-since.result (length c.copies-first.result.now) c.ask.new.world c.deliver_all.new.world
-    c.deliver_all.result c.deliver_all.ensures).0 ∙ c.ask.ensures.overtake
-
-pub returns-then-branch-clause-opening : goal.returns-then-branch-clause-opening
-returns-then-branch-clause-opening c =
-    (stays_so (length c.asks-number.result.now) c.facts_before-since.result (length c.copies-first.result.now) c.ask.new.world c.deliver_all.new.world
-    c.deliver_all.result c.deliver_all.ensures).1 ∙ c.ask.ensures.opening
-
-pub returns-then-branch-clause-rules : goal.returns-then-branch-clause-rules
-returns-then-branch-clause-rules c =
-    (stays_so (length c.asks-number.result.now) c.facts_before-since.result (length c.copies-first.result.now) c.ask.new.world c.deliver_all.new.world
-    c.deliver_all.result c.deliver_all.ensures).2 ∙ c.ask.ensures.rules
+    c.deliver_all.result c.deliver_all.ensures).0 c.ask.ensures.settings
 
 pub returns-then-branch-clause-passed : goal.returns-then-branch-clause-passed
 returns-then-branch-clause-passed c =
     (stays_so (length c.asks-number.result.now) c.facts_before-since.result (length c.copies-first.result.now) c.ask.new.world c.deliver_all.new.world
-    c.deliver_all.result c.deliver_all.ensures).3 ∙ c.ask.ensures.passed
+    c.deliver_all.result c.deliver_all.ensures).1 ∙ c.ask.ensures.passed

@@ -14,7 +14,7 @@ loop-world-preserved c =
       from = omega (arith, c.loop-world.invariant.from);
       gone = gone_more c.args.ask c.args.since c.args.first c.loop-world.number c.args.world.now c.loop-world.world
           c.deliver.new.world c.loop-world.invariant.from c.loop-world.invariant.gone going.0 c.in_ok-deliver.ensures.went
-          c.deliver.ensures.overtake c.deliver.ensures.opening c.deliver.ensures.rules c.deliver.ensures.passed;
+          c.deliver.ensures.settings c.deliver.ensures.passed;
     }
 
 pub returns-in_err-deliver : goal.returns-in_err-deliver

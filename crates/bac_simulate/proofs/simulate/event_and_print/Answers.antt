@@ -12,4 +12,4 @@ pub returns-in_ok-print_refused-in-Some : goal.returns-in_ok-print_refused-in-So
 returns-in_ok-print_refused-in-Some g c =
     let told = c.in-Err.ensures in
     turned_down c.args.line c.args.event.now c.in-Err.fault c.in-Some.why c.args.world.now c.step.new.self c.number.result _ _
-    (sym c.change_fault_in.ensures ∙ c.in-Some.is) told.change told.err c.number.ensures c.in_ok-print_refused-in-Some.ensures
+    (sym c.change_fault_in.ensures ∙ c.in-Some.is) told.faults.change told.err c.number.ensures c.in_ok-print_refused-in-Some.ensures

@@ -17,11 +17,11 @@ pub returns-in_ok-print_both-in-Some : goal.returns-in_ok-print_both-in-Some
 returns-in_ok-print_both-in-Some g c =
     let told = c.in-Err.ensures in
     refusal_told c.args.style c.args.line c.args.event.now c.in-Err.fault c.in-Some.why c.args.world.now c.step.new.self c.ms_now.result c.number.result _ _ _ _ _ _
-    (sym c.change_fault_in.ensures ∙ c.in-Some.is) told.change told.err c.ms_now.ensures c.number.ensures c.change_fault_words.ensures c.in_ok-head.ensures
+    (sym c.change_fault_in.ensures ∙ c.in-Some.is) told.faults.change told.err c.ms_now.ensures c.number.ensures c.change_fault_words.ensures c.in_ok-head.ensures
     c.in_ok-refusal-in-Some.ensures refl (written _ _ _ _ _ c.in_ok-print_both-in-Some.ensures c.as_slice-in-Some.ensures.value)
 
 pub returns-in_ok-print_end-in-None : goal.returns-in_ok-print_end-in-None
 returns-in_ok-print_end-in-None g c =
     let told = c.in-Err.ensures in
     fault_told c.args.style c.args.line c.args.event.now c.in-Err.fault c.args.world.now c.step.new.self _ _ _ (sym c.change_fault_in.ensures ∙ c.in-None.is)
-    told.node told.datagram told.link told.clock told.soon told.change told.memory told.err c.number-in-None.ensures c.in_ok-print_end-in-None.ensures
+    told.faults told.err c.number-in-None.ensures c.in_ok-print_end-in-None.ensures

@@ -63,7 +63,7 @@ returns-in-Some g c =
       change_marks why (happening_view e) old,
       (
         refuses in_marks c.args.line e c.in-Err.fault why old new (change_marks why (happening_view e) old) (sym c.change_fault_in.ensures ∙ c.in-Some.is)
-            told.change told.err refl,
+            told.faults.change told.err refl,
         added,
       ),
     )
@@ -75,8 +75,8 @@ returns g c =
       [],
       (
         subst (λ (b : Bool). Steps in_marks c.args.line b (Happens (happening_view e)) c.args.world.now c.step.new.self []) (sym c.stops.ensures)
-            (fails in_marks c.args.line e c.in-Err.fault c.args.world.now c.step.new.self [] (sym c.change_fault_in.ensures ∙ c.in-None.is) told.node
-            told.datagram told.link told.clock told.soon told.change told.memory told.err refl),
+            (fails in_marks c.args.line e c.in-Err.fault c.args.world.now c.step.new.self [] (sym c.change_fault_in.ensures ∙ c.in-None.is)
+            told.faults told.err refl),
         sym (append-nil (map mark_view c.args.marks.now.items)),
       ),
     )

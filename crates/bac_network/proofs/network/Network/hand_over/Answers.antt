@@ -9,49 +9,20 @@ use Rattle.bac_network.specs.declared.network.Network.{Network}
 use Rattle.bac_network.proofs.Delivered.{copy_enters, arrives, node_read, receiver_there}
 use Rattle.bac_network.proofs.network.Network.hand_over.Goals as goal
 
-pub enter-requires-clause-can : goal.enter-requires-clause-can
-enter-requires-clause-can c =
+pub enter-requires : goal.enter-requires
+enter-requires c =
     let W = c.args.window in
     let n = c.args.self.now in
     let m = c.requires.ready.2 in
     let there = receiver_there (reuses_by c.args.reuses.now) W c.requires.ready.0 n c.requires.ready.1 c.args.number m _ _ _ _ c.in_ok-to.ensures.heard in
     let at = node_read c.hear_copy.new.nodes _ (with_items_is n.nodes c.hear_copy.new.nodes (omega arith)) _ c.index.result.now there c.index.ensures in
-    (copy_enters (reuses_by c.args.reuses.now) W c.requires.ready.0 n c.requires.ready.1 c.args.number m c.deref_mut.result.now c.deref_mut.ensures.value _ _ _ c.in_ok-to.ensures.heard
-    c.index.result.now at).can
-
-pub enter-requires-clause-sender : goal.enter-requires-clause-sender
-enter-requires-clause-sender c =
-    let W = c.args.window in
-    let n = c.args.self.now in
-    let m = c.requires.ready.2 in
-    let there = receiver_there (reuses_by c.args.reuses.now) W c.requires.ready.0 n c.requires.ready.1 c.args.number m _ _ _ _ c.in_ok-to.ensures.heard in
-    let at = node_read c.hear_copy.new.nodes _ (with_items_is n.nodes c.hear_copy.new.nodes (omega arith)) _ c.index.result.now there c.index.ensures in
-    (copy_enters (reuses_by c.args.reuses.now) W c.requires.ready.0 n c.requires.ready.1 c.args.number m c.deref_mut.result.now c.deref_mut.ensures.value _ _ _ c.in_ok-to.ensures.heard
-    c.index.result.now at).sender
-
-pub enter-requires-clause-room : goal.enter-requires-clause-room
-enter-requires-clause-room c =
-    let W = c.args.window in
-    let n = c.args.self.now in
-    let m = c.requires.ready.2 in
-    let there = receiver_there (reuses_by c.args.reuses.now) W c.requires.ready.0 n c.requires.ready.1 c.args.number m _ _ _ _ c.in_ok-to.ensures.heard in
-    let at = node_read c.hear_copy.new.nodes _ (with_items_is n.nodes c.hear_copy.new.nodes (omega arith)) _ c.index.result.now there c.index.ensures in
-    let few = (copy_enters (reuses_by c.args.reuses.now) W c.requires.ready.0 n c.requires.ready.1 c.args.number m c.deref_mut.result.now c.deref_mut.ensures.value _ _ _
-    c.in_ok-to.ensures.heard c.index.result.now at).sends in
+    let k = copy_enters (reuses_by c.args.reuses.now) W c.requires.ready.0 n c.requires.ready.1 c.args.number m c.deref_mut.result.now
+    c.deref_mut.ensures.value _ _ _ c.in_ok-to.ensures.heard c.index.result.now at in
+    let sends = k.sends in
+    let facts = k.facts in
     let room = c.requires.room.journal in
-    omega (arith, few, room)
-
-pub enter-requires-clause-log_room : goal.enter-requires-clause-log_room
-enter-requires-clause-log_room c =
-    let W = c.args.window in
-    let n = c.args.self.now in
-    let m = c.requires.ready.2 in
-    let there = receiver_there (reuses_by c.args.reuses.now) W c.requires.ready.0 n c.requires.ready.1 c.args.number m _ _ _ _ c.in_ok-to.ensures.heard in
-    let at = node_read c.hear_copy.new.nodes _ (with_items_is n.nodes c.hear_copy.new.nodes (omega arith)) _ c.index.result.now there c.index.ensures in
-    let few = (copy_enters (reuses_by c.args.reuses.now) W c.requires.ready.0 n c.requires.ready.1 c.args.number m c.deref_mut.result.now c.deref_mut.ensures.value _ _ _
-    c.in_ok-to.ensures.heard c.index.result.now at).facts in
-    let room = c.requires.room.log in
-    omega (arith, few, room)
+    let log_room = c.requires.room.log in
+    record { can = k.can; sender = k.sender; room = omega (arith, sends, room); log_room = omega (arith, facts, log_room) }
 
 pub returns-clause-went : goal.returns-clause-went
 returns-clause-went c =

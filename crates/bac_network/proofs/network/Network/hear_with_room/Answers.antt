@@ -13,49 +13,21 @@ use Rattle.bac_network.proofs.Delivered.{gone_read, stranger_enters, stranger_he
 use Rattle.bac_network.proofs.Happening.{on_err}
 use Rattle.bac_network.proofs.network.Network.hear_with_room.Goals as goal
 
-pub enter-requires-clause-can : goal.enter-requires-clause-can
-enter-requires-clause-can c =
+pub enter-requires : goal.enter-requires
+enter-requires c =
     let n = c.args.self.now in
     let new : Network = record n { nodes = with_items n.nodes c.hear.new.nodes } in
     let items = with_items_is n.nodes c.hear.new.nodes (omega arith) in
     let at = gone_read new c.args.node _ c.deref_mut.result.now c.hear.new.nodes items c.in_ok-outcome.ensures.went c.index.result.now c.index.ensures in
-    (stranger_enters (reuses_by c.args.reuses.now) n new c.args.node c.args.from c.args.octets.now (outcome_view c.in_ok-outcome.outcome) c.requires.stranger c.deref_mut.result.now
-    c.deref_mut.ensures.value c.told-now.result c.told-now.ensures c.reuses_at-reuse.result c.reuses_at-reuse.ensures c.hear.new.nodes items c.in_ok-outcome.ensures.went c.index.result.now at c.args.window
-    c.requires.ready.0 c.requires.ready.1).can
-
-pub enter-requires-clause-sender : goal.enter-requires-clause-sender
-enter-requires-clause-sender c =
-    let n = c.args.self.now in
-    let new : Network = record n { nodes = with_items n.nodes c.hear.new.nodes } in
-    let items = with_items_is n.nodes c.hear.new.nodes (omega arith) in
-    let at = gone_read new c.args.node _ c.deref_mut.result.now c.hear.new.nodes items c.in_ok-outcome.ensures.went c.index.result.now c.index.ensures in
-    (stranger_enters (reuses_by c.args.reuses.now) n new c.args.node c.args.from c.args.octets.now (outcome_view c.in_ok-outcome.outcome) c.requires.stranger c.deref_mut.result.now
-    c.deref_mut.ensures.value c.told-now.result c.told-now.ensures c.reuses_at-reuse.result c.reuses_at-reuse.ensures c.hear.new.nodes items c.in_ok-outcome.ensures.went c.index.result.now at c.args.window
-    c.requires.ready.0 c.requires.ready.1).sender
-
-pub enter-requires-clause-room : goal.enter-requires-clause-room
-enter-requires-clause-room c =
-    let n = c.args.self.now in
-    let new : Network = record n { nodes = with_items n.nodes c.hear.new.nodes } in
-    let items = with_items_is n.nodes c.hear.new.nodes (omega arith) in
-    let at = gone_read new c.args.node _ c.deref_mut.result.now c.hear.new.nodes items c.in_ok-outcome.ensures.went c.index.result.now c.index.ensures in
-    let few = (stranger_enters (reuses_by c.args.reuses.now) n new c.args.node c.args.from c.args.octets.now (outcome_view c.in_ok-outcome.outcome) c.requires.stranger
-    c.deref_mut.result.now c.deref_mut.ensures.value c.told-now.result c.told-now.ensures c.reuses_at-reuse.result c.reuses_at-reuse.ensures c.hear.new.nodes items c.in_ok-outcome.ensures.went c.index.result.now at
-    c.args.window c.requires.ready.0 c.requires.ready.1).sends in
+    let k = stranger_enters (reuses_by c.args.reuses.now) n new c.args.node c.args.from c.args.octets.now (outcome_view c.in_ok-outcome.outcome)
+    c.requires.stranger c.deref_mut.result.now c.deref_mut.ensures.value c.told-now.result c.told-now.ensures c.reuses_at-reuse.result
+    c.reuses_at-reuse.ensures c.hear.new.nodes items c.in_ok-outcome.ensures.went c.index.result.now at c.args.window c.requires.ready.0
+    c.requires.ready.1 in
+    let sends = k.sends in
+    let facts = k.facts in
     let room = c.requires.room.journal in
-    omega (arith, few, room)
-
-pub enter-requires-clause-log_room : goal.enter-requires-clause-log_room
-enter-requires-clause-log_room c =
-    let n = c.args.self.now in
-    let new : Network = record n { nodes = with_items n.nodes c.hear.new.nodes } in
-    let items = with_items_is n.nodes c.hear.new.nodes (omega arith) in
-    let at = gone_read new c.args.node _ c.deref_mut.result.now c.hear.new.nodes items c.in_ok-outcome.ensures.went c.index.result.now c.index.ensures in
-    let few = (stranger_enters (reuses_by c.args.reuses.now) n new c.args.node c.args.from c.args.octets.now (outcome_view c.in_ok-outcome.outcome) c.requires.stranger
-    c.deref_mut.result.now c.deref_mut.ensures.value c.told-now.result c.told-now.ensures c.reuses_at-reuse.result c.reuses_at-reuse.ensures c.hear.new.nodes items c.in_ok-outcome.ensures.went c.index.result.now at
-    c.args.window c.requires.ready.0 c.requires.ready.1).facts in
-    let room = c.requires.room.log in
-    omega (arith, few, room)
+    let log_room = c.requires.room.log in
+    record { can = k.can; sender = k.sender; room = omega (arith, sends, room); log_room = omega (arith, facts, log_room) }
 
 pub returns-in_err-outcome-clause-err : goal.returns-in_err-outcome-clause-err
 returns-in_err-outcome-clause-err c =

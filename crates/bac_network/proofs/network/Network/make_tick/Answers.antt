@@ -9,34 +9,17 @@ use Rattle.bac_network.specs.declared.network.Network.{Network}
 use Rattle.bac_network.proofs.Delivered.{gone_read, tick_enters, ticks}
 use Rattle.bac_network.proofs.network.Network.make_tick.Goals as goal
 
-pub enter-requires-clause-can : goal.enter-requires-clause-can
-enter-requires-clause-can c =
+pub enter-requires : goal.enter-requires
+enter-requires c =
     let n = c.args.self.now in
     let new : Network = record n { nodes = with_items n.nodes c.commit.new.nodes } in
     let items = with_items_is n.nodes c.commit.new.nodes (omega arith) in
     let at = gone_read new c.args.node _ c.deref_mut.result.now c.commit.new.nodes items c.commit.ensures c.index.result.now c.index.ensures in
-    (tick_enters c.requires.ready.0 c.requires.ready.1 n new c.requires.ready.2 c.args.node (outcome_view c.args.outcome) c.requires.due c.deref_mut.result.now
-    c.deref_mut.ensures.value c.told.result c.told.ensures c.commit.new.nodes items c.commit.ensures c.index.result.now at).can
-
-pub enter-requires-clause-sender : goal.enter-requires-clause-sender
-enter-requires-clause-sender c =
-    let n = c.args.self.now in
-    let new : Network = record n { nodes = with_items n.nodes c.commit.new.nodes } in
-    let items = with_items_is n.nodes c.commit.new.nodes (omega arith) in
-    let at = gone_read new c.args.node _ c.deref_mut.result.now c.commit.new.nodes items c.commit.ensures c.index.result.now c.index.ensures in
-    (tick_enters c.requires.ready.0 c.requires.ready.1 n new c.requires.ready.2 c.args.node (outcome_view c.args.outcome) c.requires.due c.deref_mut.result.now
-    c.deref_mut.ensures.value c.told.result c.told.ensures c.commit.new.nodes items c.commit.ensures c.index.result.now at).sender
-
-pub enter-requires-clause-log_room : goal.enter-requires-clause-log_room
-enter-requires-clause-log_room c =
-    let n = c.args.self.now in
-    let new : Network = record n { nodes = with_items n.nodes c.commit.new.nodes } in
-    let items = with_items_is n.nodes c.commit.new.nodes (omega arith) in
-    let at = gone_read new c.args.node _ c.deref_mut.result.now c.commit.new.nodes items c.commit.ensures c.index.result.now c.index.ensures in
-    let few = (tick_enters c.requires.ready.0 c.requires.ready.1 n new c.requires.ready.2 c.args.node (outcome_view c.args.outcome) c.requires.due
-    c.deref_mut.result.now c.deref_mut.ensures.value c.told.result c.told.ensures c.commit.new.nodes items c.commit.ensures c.index.result.now at).facts in
-    let room = c.requires.room.log in
-    omega (arith, few, room)
+    let k = tick_enters c.requires.ready.0 c.requires.ready.1 n new c.requires.ready.2 c.args.node (outcome_view c.args.outcome) c.requires.due
+    c.deref_mut.result.now c.deref_mut.ensures.value c.told.result c.told.ensures c.commit.new.nodes items c.commit.ensures c.index.result.now at in
+    let facts = k.facts in
+    let log_room = c.requires.room.log in
+    record { can = k.can; sender = k.sender; room = c.requires.room.journal; log_room = omega (arith, facts, log_room) }
 
 pub returns-clause-ticked : goal.returns-clause-ticked
 returns-clause-ticked c =

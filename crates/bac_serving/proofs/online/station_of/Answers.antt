@@ -4,7 +4,7 @@ use Rattle.bac_driver.specs.BoundNodes.{BoundNode}
 use Rattle.bac_driver.specs.Runs.{timed}
 use Rattle.bac_environment.specs.Sockets.{OnClock, OnPort}
 use Rattle.bac_serving.proofs.Served.{station_so}
-use Rattle.bac_serving.proofs.looking.station_of.Goals as goal
+use Rattle.bac_serving.proofs.online.station_of.Goals as goal
 
 pub returns-clause-server : goal.returns-clause-server
 returns-clause-server g c =
