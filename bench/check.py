@@ -1,5 +1,5 @@
 #!/usr/bin/env python3
-"""Measures `bac check` on a capture, beside tshark on the same datagrams: check.py PROGRAM [LINES]; docs/dev/BENCHMARKS.md says more."""
+"""Measures `bac check` on a capture, beside tshark on the same datagrams: check.py PROGRAM [LINES]; docs/BENCHMARKS.md says more."""
 
 import os
 import subprocess

@@ -1,5 +1,5 @@
 #!/usr/bin/env python3
-"""Measures `bac check` of capture files beside lines of the same datagrams: files.py PROGRAM [DATAGRAMS]; docs/dev/BENCHMARKS.md says more."""
+"""Measures `bac check` of capture files beside lines of the same datagrams: files.py PROGRAM [DATAGRAMS]; docs/BENCHMARKS.md says more."""
 
 import os
 import statistics

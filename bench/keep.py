@@ -1,5 +1,5 @@
 #!/usr/bin/env python3
-"""Measures `bac serve --keep`: keep.py PROGRAM [FOLDER]; docs/dev/BENCHMARKS.md says more.
+"""Measures `bac serve --keep`: keep.py PROGRAM [FOLDER]; docs/BENCHMARKS.md says more.
 
 FOLDER is on the disk that is measured, otherwise the folder that this runs in. Syncs of the bare disk, writes one at a time and bursts of 32 writes take turns, so that
 all three meet the same load."""

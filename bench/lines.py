@@ -1,5 +1,5 @@
 #!/usr/bin/env python3
-"""Measures `bac check` of lines beside a program by hand and beside `wc -l`: lines.py PROGRAM; docs/dev/BENCHMARKS.md says more."""
+"""Measures `bac check` of lines beside a program by hand and beside `wc -l`: lines.py PROGRAM; docs/BENCHMARKS.md says more."""
 
 import statistics
 import subprocess

@@ -1,5 +1,5 @@
 #!/usr/bin/env python3
-"""Measures the memory of idle nodes and of simulated networks: memory.py PROGRAM; docs/dev/BENCHMARKS.md says more."""
+"""Measures the memory of idle nodes and of simulated networks: memory.py PROGRAM; docs/BENCHMARKS.md says more."""
 
 import socket
 import subprocess

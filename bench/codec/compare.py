@@ -1,5 +1,5 @@
 #!/usr/bin/env python3
-"""Times reading and writing of APDUs, beside by_hand.rs: compare.py, run in a crate made of this folder; docs/dev/BENCHMARKS.md says how."""
+"""Times reading and writing of APDUs, beside by_hand.rs: compare.py, run in a crate made of this folder; docs/BENCHMARKS.md says how."""
 
 import os
 import statistics

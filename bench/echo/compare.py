@@ -1,5 +1,5 @@
 #!/usr/bin/env python3
-"""Times `bac serve` beside a bare UDP echo: compare.py BAC, run in a crate made of this folder; docs/dev/BENCHMARKS.md says how."""
+"""Times `bac serve` beside a bare UDP echo: compare.py BAC, run in a crate made of this folder; docs/BENCHMARKS.md says how."""
 
 import os
 import statistics

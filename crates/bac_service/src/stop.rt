@@ -36,7 +36,7 @@ impl Stop {
         Stop { why, left }
     }
 
-    /// The reason for rejecting the request (own rule of this profile, see docs/dev/PROTOCOL.md, "Departures").
+    /// The reason for rejecting the request (own rule of this profile, see docs/PROTOCOL.md, "Departures").
     pub(crate) fn reject(self) -> Reject
         ensures same { result ≡ reason_of self.why }
         ensures known { result ≢ Reject.UnrecognizedService }

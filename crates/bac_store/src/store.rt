@@ -132,7 +132,7 @@ impl Store {
 
     /// The plan for a request, with all the memory that its reply and its effect need. The store is unchanged.
     ///
-    /// The reply is an Error in the cases of docs/dev/PROTOCOL.md, "The object store". If it is an Error, and for a read, the plan changes nothing.
+    /// The reply is an Error in the cases of docs/PROTOCOL.md, "The object store". If it is an Error, and for a read, the plan changes nothing.
     /// `NoMemory` is tested last; it is returned only if the reply is not an Error and the reply or the effect contains octets.
     pub fn prepare(&self, alloc: Global, request: &Request<'_>) -> Result<Planned, NoMemory>
         ensures plan { IfOk result (λ p. IsPlanFor self.now (request_view request.now) p) }
